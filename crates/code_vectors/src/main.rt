@@ -1,0 +1,111 @@
+// Writes the whole code, to be compared with the published one: for each character at each disparity its symbol and the disparity
+// after, and for each symbol, and for two numbers that are none, what it decodes to at each disparity, what it means and where it is legal.
+mod line;
+
+use line::Line;
+use symbol::decode::Decoded;
+use symbol::disparity::Disparity;
+use symbol::encode::Encoded;
+use symbol::meaning::Legal;
+use symbol::meaning::Meaning;
+use symbol::special::Special;
+
+const SPECIALS: [Special; 12] = [
+    Special::K28_0,
+    Special::K28_1,
+    Special::K28_2,
+    Special::K28_3,
+    Special::K28_4,
+    Special::K28_5,
+    Special::K28_6,
+    Special::K28_7,
+    Special::K23_7,
+    Special::K27_7,
+    Special::K29_7,
+    Special::K30_7,
+];
+
+// The rest of a character's line: the disparity before, the symbol and the disparity after.
+fn encoded(start: Line, d: Disparity, e: Encoded) -> Line {
+    let after = e.after;
+    let before = start.space().sign(d).space();
+    before.hex(e.symbol, 3).space().sign(after)
+}
+
+fn byte_line(d: Disparity, b: u8) {
+    let e = symbol::encode::encode_byte(d, b);
+    encoded(Line::new().hex(b as u16, 2), d, e).write();
+}
+
+fn special_line(d: Disparity, k: Special) {
+    let e = symbol::encode::encode_special(d, k);
+    encoded(Line::new().name(k), d, e).write();
+}
+
+fn decoded(start: Line, d: Disparity, s: u16) -> Line {
+    let r = symbol::decode::decode(d, s);
+    let l = start.space();
+    match r {
+        Decoded::Byte(b, after) => l.hex(b as u16, 2).sign(after),
+        Decoded::Special(k, after) => l.name(k).sign(after),
+        Decoded::Above1023 => l.push(b'7'),
+        Decoded::Illegal => l.push(b'2').push(b'0'),
+    }
+}
+
+fn legal(start: Line, at: Legal) -> Line {
+    let mut l = start.space();
+    if at.negative {
+        l = l.push(b'-');
+    }
+    if at.positive {
+        l = l.push(b'+');
+    }
+    l
+}
+
+fn symbol_line(s: u16) {
+    let start = Line::new().hex(s, 3);
+    let l = decoded(
+        decoded(start, Disparity::Negative, s),
+        Disparity::Positive,
+        s,
+    ).space();
+    let m = symbol::meaning::meaning_of(s);
+    let whole = match m {
+        Meaning::Byte(b, at) => legal(l.hex(b as u16, 2), at),
+        Meaning::Special(k, at) => legal(l.name(k), at),
+        Meaning::NoSymbol => l.push(b'n').push(b'o').push(b'n').push(b'e'),
+        Meaning::Above1023 => l.push(b'7'),
+    };
+    whole.write();
+}
+
+fn bytes() {
+    for b in 0..=255u8 {
+        byte_line(Disparity::Negative, b);
+        byte_line(Disparity::Positive, b);
+    }
+}
+
+fn specials() {
+    for i in 0..12usize {
+        let k = SPECIALS[i];
+        special_line(Disparity::Negative, k);
+        special_line(Disparity::Positive, k);
+    }
+}
+
+fn symbols() {
+    for s in 0..1024u16 {
+        symbol_line(s);
+    }
+}
+
+fn main() {
+    bytes();
+    specials();
+    symbols();
+    symbol_line(1024);
+    symbol_line(65535);
+}

@@ -1,0 +1,50 @@
+-- A number with one bit inverted.
+-- Assumes nothing.
+use mathlib.Core.Path.{_≡_, refl, sym, ap, _∙_}
+use Prim.Native.Nat.{ℕ, zero, suc, _+_, _-_, _*_, _/_, _%_, _^_, _<_}
+use native.Mathlib.Nat.{not-suc-le-zero, le-of-suc-le-suc, pow-suc}
+use native.Mathlib.Omega.{arith}
+use lib.Count.{onesIn}
+use Rattle.ground.specs.Bit.{inverted}
+
+-- Inverting the lowest bit keeps the rest, and inverting another keeps the lowest.
+lowest-rest : (n : ℕ) → inverted 0 n / 2 ≡ n / 2
+unfolding inverted
+lowest-rest n = omega arith
+
+lowest-bit : (n : ℕ) → inverted 0 n % 2 ≡ 1 - n % 2
+unfolding inverted
+lowest-bit n = omega arith
+
+higher-rest : (k n : ℕ) → inverted (suc k) n / 2 ≡ inverted k (n / 2)
+unfolding inverted
+higher-rest k n = omega arith
+
+higher-bit : (k n : ℕ) → inverted (suc k) n % 2 ≡ n % 2
+unfolding inverted
+higher-bit k n = omega arith
+
+-- An inverted bit makes an odd count of ones even, and an even one odd.
+pub inverted-ones : (b k n : ℕ) → k < b → onesIn b (inverted k n) % 2 ≡ (1 + onesIn b n) % 2
+unfolding onesIn
+inverted-ones zero k n h = absurd (not-suc-le-zero h)
+inverted-ones (suc b) zero n h = rw (lowest-rest, lowest-bit) (omega arith)
+inverted-ones (suc b) (suc k) n h =
+    let e = inverted-ones b k (n / 2) (le-of-suc-le-suc h) in rw (higher-rest, higher-bit) (omega arith)
+
+-- A bit inverted twice is as it was.
+pub inverted-twice : (k n : ℕ) → inverted k (inverted k n) ≡ n
+unfolding inverted
+inverted-twice zero n = omega arith
+inverted-twice (suc k) n =
+    let q : (inverted k (n / 2) * 2 + n % 2) / 2 ≡ inverted k (n / 2) = omega arith in
+    omega (arith, ap (inverted k) q, inverted-twice k (n / 2))
+
+-- A number of b bits still has b bits.
+pub inverted-below : (b k n : ℕ) → k < b → n < 2 ^ b → inverted k n < 2 ^ b
+unfolding inverted
+inverted-below zero k n h l = absurd (not-suc-le-zero h)
+inverted-below (suc b) zero n h l = rw pow-suc (omega (arith, rw pow-suc at l))
+inverted-below (suc b) (suc k) n h l =
+    let e = inverted-below b k (n / 2) (le-of-suc-le-suc h) (omega (arith, rw pow-suc at l)) in
+    rw pow-suc (omega arith)

@@ -1,0 +1,7 @@
+pub mod Answers
+pub mod Bits
+pub mod Cases
+pub mod Searches
+pub mod Tests
+pub mod Writing
+pub mod Xors

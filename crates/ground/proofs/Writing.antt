@@ -1,0 +1,76 @@
+-- Laws of a list that is written piece by piece.
+-- Assumes nothing.
+use mathlib.Core.Path.{_≡_, refl, sym, ap, _∙_}
+use mathlib.Core.List.{List, [], _∷_, _++_, append-assoc}
+use Prim.Native.Nat.{ℕ, zero, suc, _+_, _*_, _≤_, _<_}
+use native.Mathlib.Nat.{mul-zero, mul-suc, mul-le-mul-left, eq-or-lt-of-le, le-of-suc-le-suc, not-suc-le-zero, mul-one}
+use native.Mathlib.Numerals.{add-one}
+use native.Mathlib.Omega.{arith}
+use mathlib.Core.Logic.{⊎-elim}
+use lib.ListN.{length, getD, set, length-append, List·getD-append}
+use lib.Seq.{sets, getD-append-add, ext-getD}
+use lib.Dec.{eqb}
+use borrow.Author.Tests.{eqb-true}
+use mathlib.Core.Bool.{true}
+use Rattle.ground.specs.Test.{everyAt}
+use Rattle.ground.specs.Written.{upto, table}
+use Rattle.ground.proofs.Tests.{at-entry}
+
+module _ {A : Type 0} where
+  -- a run of stores and the run that follows it are one run
+  pub sets-append : (l x y : List A) (i o : ℕ) → o ≡ i + length x → sets (sets l i x) o y ≡ sets l i (x ++ y)
+  sets-append l [] y i o e = let q : o ≡ i = omega arith in rw q
+  sets-append l (a ∷ x) y i o e = sets-append (set l i a) x y (suc i) o (omega arith)
+
+  pub upto-more : (n : ℕ) (f : ℕ → List A) → upto (n + 1) f ≡ upto n f ++ f n
+  unfolding upto
+  upto-more n f = rw add-one
+
+  module _ (k : ℕ) (f : ℕ → List A) (sized : (m : ℕ) → length (f m) ≡ k) where
+    pub length-upto : (n : ℕ) → length (upto n f) ≡ k * n
+    unfolding upto
+    length-upto zero = omega arith
+    length-upto (suc n) = rw (length-append, sized n, length-upto n, mul-suc) (omega arith)
+
+    -- the run of the first n pieces and the store of the next are the run of n + 1
+    pub sets-upto : (l : List A) (i o n : ℕ) → o ≡ i + k * n → sets (sets l i (upto n f)) o (f n) ≡ sets l i (upto (n + 1) f)
+    sets-upto l i o n e = rw upto-more (sets-append l (upto n f) (f n) i o (rw (length-upto n) e))
+
+    -- element j of piece i
+    pub getD-upto : (n i j : ℕ) (d : A) → i < n → j < k → getD (upto n f) (k * i + j) d ≡ getD (f i) j d
+    unfolding upto
+    getD-upto zero i j d h l = absurd (not-suc-le-zero h)
+    getD-upto (suc n) i j d h l =
+        ⊎-elim
+        (λ q.
+        let e : k * i + j ≡ length (upto n f) + j = omega (arith, length-upto n, ap (λ (x : ℕ). k * x) q) in
+        ap (λ (x : ℕ). getD (upto n f ++ f n) x d) e
+        ∙ getD-append-add (upto n f) (f n) j d
+        ∙ ap (λ (m : ℕ). getD (f m) j d) (sym q))
+        (λ q.
+        let m : k * suc i ≤ k * n = mul-le-mul-left k q in
+        let b : k * i + j < length (upto n f) = rw (length-upto n) (omega (arith, rw mul-suc at m)) in
+        List·getD-append (upto n f) (f n) d (k * i + j) b ∙ getD-upto n i j d q l)
+        (eq-or-lt-of-le (le-of-suc-le-suc h))
+
+-- a table has n entries, entry i is f i, and a list of n entries that are those is the table
+module _ {A : Type 0} (n : ℕ) (f : ℕ → A) where
+  pub length-table : length (table n f) ≡ n
+  unfolding table
+  length-table = length-upto 1 (λ k. f k ∷ []) (λ m. refl) n ∙ omega arith
+
+  pub getD-table : (i : ℕ) (d : A) → i < n → getD (table n f) i d ≡ f i
+  unfolding table
+  getD-table i d h =
+      let e : i ≡ 1 * i + 0 = omega arith in
+      ap (λ (x : ℕ). getD (table n f) x d) e ∙ getD-upto 1 (λ k. f k ∷ []) (λ m. refl) n i 0 d h (omega arith)
+
+  pub is-table : (d : A) (l : List A) → length l ≡ n → ((i : ℕ) → i < n → getD l i d ≡ f i) → l ≡ table n f
+  is-table d l e g =
+      ext-getD d l (table n f) (e ∙ sym length-table)
+      (λ i h. let b : i < n = omega arith in g i b ∙ sym (getD-table i d b))
+
+-- a table's rule is one test that antt computes over all of it
+pub tested-table : (n : ℕ) (f : ℕ → ℕ) (t : List ℕ) → length t ≡ n → everyAt (λ i x. eqb x (f i)) 0 t ≡ true → t ≡ table n f
+tested-table n f t long ok =
+    is-table n f 0 t long (λ i h. eqb-true (getD t i 0) (f i) (at-entry (λ k x. eqb x (f k)) t ok i (rw long h)))

@@ -1,0 +1,93 @@
+-- Laws of exclusive or.
+-- Assumes nothing.
+use mathlib.Core.Path.{_≡_, refl, sym, ap, _∙_}
+use Prim.Native.Nat.{ℕ, zero, suc, _+_, _*_, _/_, _%_, _^_, _<_}
+use native.Mathlib.Nat.{mod-lt}
+use native.Mathlib.Omega.{arith}
+use lib.Arith.{bin-ind, digits-div, digits-mod}
+use lib.Bits.{bitXor, differ, xor-step, xor-zero-l, xor-zero-r, xor-comm, xor-self, xor-lt, xor-shr, xor-mod}
+use Rattle.ground.specs.Xor.{_⊕_}
+
+pub ⊕-is : (a b : ℕ) → bitXor a b ≡ a ⊕ b
+unfolding _⊕_
+⊕-is a b = refl
+
+pub ⊕-zero : (a : ℕ) → a ⊕ 0 ≡ a
+unfolding _⊕_
+⊕-zero a = xor-zero-r a
+
+pub zero-⊕ : (a : ℕ) → 0 ⊕ a ≡ a
+unfolding _⊕_
+zero-⊕ a = xor-zero-l a
+
+pub ⊕-comm : (a b : ℕ) → a ⊕ b ≡ b ⊕ a
+unfolding _⊕_
+⊕-comm a b = xor-comm a b
+
+pub ⊕-self : (a : ℕ) → a ⊕ a ≡ 0
+unfolding _⊕_
+⊕-self a = xor-self a
+
+pub ⊕-below : (k a b : ℕ) → a < 2 ^ k → b < 2 ^ k → a ⊕ b < 2 ^ k
+unfolding _⊕_
+⊕-below k a b = xor-lt k a b
+
+pub ⊕-div : (a b k : ℕ) → (a ⊕ b) / 2 ^ k ≡ a / 2 ^ k ⊕ b / 2 ^ k
+unfolding _⊕_
+⊕-div a b k = xor-shr a b k
+
+pub ⊕-mod : (a b k : ℕ) → (a ⊕ b) % 2 ^ k ≡ a % 2 ^ k ⊕ b % 2 ^ k
+unfolding _⊕_
+⊕-mod a b k = xor-mod a b k
+
+-- ---- the order of three does not matter: digit by digit
+
+digit-assoc : (x y z : ℕ) → x < 2 → y < 2 → z < 2 → differ (differ x y) z ≡ differ x (differ y z)
+digit-assoc zero y z p q r = refl
+digit-assoc (suc zero) zero z p q r = refl
+digit-assoc (suc zero) (suc zero) zero p q r = refl
+digit-assoc (suc zero) (suc zero) (suc zero) p q r = refl
+digit-assoc (suc zero) (suc zero) (suc (suc z)) p q r = absurd (omega arith)
+digit-assoc (suc zero) (suc (suc y)) z p q r = absurd (omega arith)
+digit-assoc (suc (suc x)) y z p q r = absurd (omega arith)
+
+digit-below : (x y : ℕ) → x < 2 → y < 2 → differ x y < 2
+digit-below zero y p q = q
+digit-below (suc x) zero p q = p
+digit-below (suc x) (suc y) p q = digit-below x y (omega arith) (omega arith)
+
+split : (a b : ℕ) → a ⊕ b ≡ (a / 2 ⊕ b / 2) * 2 + differ (a % 2) (b % 2)
+unfolding _⊕_
+split a b = xor-step a b
+
+digit : (a b : ℕ) → differ (a % 2) (b % 2) < 2
+digit a b = digit-below (a % 2) (b % 2) (omega arith) (omega arith)
+
+half : (a b : ℕ) → (a ⊕ b) / 2 ≡ a / 2 ⊕ b / 2
+half a b = omega (arith, split a b, digit a b)
+
+last : (a b : ℕ) → (a ⊕ b) % 2 ≡ differ (a % 2) (b % 2)
+last a b = omega (arith, split a b, digit a b)
+
+pub ⊕-assoc : (a b c : ℕ) → (a ⊕ b) ⊕ c ≡ a ⊕ (b ⊕ c)
+⊕-assoc =
+    bin-ind (λ (a : ℕ). (b c : ℕ) → (a ⊕ b) ⊕ c ≡ a ⊕ (b ⊕ c)) (λ b c. rw (zero-⊕ b, zero-⊕ (b ⊕ c)))
+    (λ a ih b c.
+    cc (
+      split (a ⊕ b) c,
+      half a b,
+      last a b,
+      ih (b / 2) (c / 2),
+      digit-assoc (a % 2) (b % 2) (c % 2) (omega arith) (omega arith) (omega arith),
+      split a (b ⊕ c),
+      half b c,
+      last b c,
+    ))
+
+-- a number is told from its exclusive or with another
+pub ⊕-cancel : (a b c : ℕ) → a ⊕ b ≡ a ⊕ c → b ≡ c
+⊕-cancel a b c e =
+    sym (back b) ∙ ap (λ (x : ℕ). a ⊕ x) e ∙ back c
+  where
+    back : (x : ℕ) → a ⊕ (a ⊕ x) ≡ x
+    back x = sym (⊕-assoc a a x) ∙ rw (⊕-self, zero-⊕)

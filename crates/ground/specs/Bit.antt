@@ -1,0 +1,8 @@
+-- One bit of a number, counted from the lowest, which is bit 0.
+-- Assumes nothing.
+use Prim.Native.Nat.{ℕ, zero, suc, _+_, _-_, _*_, _/_, _%_}
+
+-- the number with bit k inverted
+unfoldable pub inverted : ℕ → ℕ → ℕ
+inverted zero n = n / 2 * 2 + (1 - n % 2)
+inverted (suc k) n = inverted k (n / 2) * 2 + n % 2

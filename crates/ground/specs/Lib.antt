@@ -1,0 +1,6 @@
+pub mod Answer
+pub mod Bit
+pub mod Search
+pub mod Test
+pub mod Written
+pub mod Xor

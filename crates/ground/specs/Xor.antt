@@ -1,0 +1,8 @@
+-- Exclusive or of two numbers, bit by bit: the language's own, under a sign that stays shut, so that only its laws are used.
+-- Assumes nothing.
+use Prim.Native.Nat.{ℕ}
+use lib.Bits.{bitXor}
+
+infixl 60 _⊕_
+unfoldable pub _⊕_ : ℕ → ℕ → ℕ
+a ⊕ b = bitXor a b

@@ -1,0 +1,13 @@
+ghost use mathlib.Core.Path.{_≡_};
+ghost use lib.ListN.{length, replicate};
+
+// Every word of the slice becomes v.
+pub fn fill(words: &mut [u16], v: u16)
+    ensures { λ _. ⌜ now (words .exit) ≡ replicate (length (now (words .entry))) v ⌝ }
+{
+    let mut i = 0;
+    while i < words.len() {
+        words[i] = v;
+        i += 1;
+    }
+}

@@ -1,0 +1,61 @@
+-- The symbol of each character, the disparity after it, and the character of each symbol.
+-- A symbol is a number of ten bits, the bit sent first lowest (document 01, "A span").
+-- Assumes nothing.
+use Prim.Native.Nat.{ℕ, zero, suc, _+_, _*_, _/_, _%_, _^_}
+use mathlib.Core.Path.{_≡_}
+use mathlib.Core.Bool.{Bool, false, _&&_, _||_, cond}
+use mathlib.Core.List.{List, [], _∷_}
+use mathlib.Core.Option.{Option}
+use lib.Count.{onesIn}
+use lib.Dec.{eqb}
+use lib.ListN.{getD}
+use Rattle.ground.specs.Search.{firstBelow}
+use Rattle.symbol.specs.declared.disparity.Disparity.{Disparity}
+use Rattle.symbol.specs.declared.disparity.Disparity.the-variants.{Negative, Positive}
+use Rattle.symbol.specs.Blocks.{sixBits, sixBitsK28, fourBits, alternate, alternateAt, fourBitsSpecial}
+use Rattle.symbol.specs.Character.{characters, isSpecial, xOf, yOf}
+use Rattle.symbol.specs.Disparity.{afterBlock}
+
+abbrev pub oneOf : ℕ → List ℕ → Bool
+oneOf x [] = false
+oneOf x (y ∷ ys) = eqb x y || oneOf x ys
+
+-- abcdei of character c, where the disparity before it is d
+unfoldable pub sixOf : Disparity → ℕ → ℕ
+unfolding sixBits sixBitsK28 xOf
+sixOf d c = cond (isSpecial c && eqb (xOf c) 28) (sixBitsK28 d) (getD (sixBits d) (xOf c) 0)
+
+-- fghj of character c, where the disparity after its six bits is d
+unfoldable pub fourOf : Disparity → ℕ → ℕ
+unfolding fourBits alternate alternateAt fourBitsSpecial xOf yOf
+fourOf d c =
+    cond (isSpecial c) (getD (fourBitsSpecial d) (yOf c) 0)
+    (cond (eqb (yOf c) 7 && oneOf (xOf c) (alternateAt d)) (alternate d) (getD (fourBits d) (yOf c) 0))
+
+-- the disparity between the two blocks
+unfoldable pub betweenOf : Disparity → ℕ → Disparity
+unfolding sixOf onesIn
+betweenOf d c = afterBlock 6 d (sixOf d c)
+
+-- the disparity after the character
+unfoldable pub afterOf : Disparity → ℕ → Disparity
+unfolding betweenOf fourOf onesIn
+afterOf d c = afterBlock 4 (betweenOf d c) (fourOf (betweenOf d c) c)
+
+-- n bits the other way round
+unfoldable pub turned : ℕ → ℕ → ℕ
+turned zero b = 0
+turned (suc n) b = b % 2 * 2 ^ n + turned n (b / 2)
+
+-- the symbol of character c, where the disparity before it is d: abcdeifghj, with a lowest
+unfoldable pub symbolOf : Disparity → ℕ → ℕ
+unfolding turned sixOf fourOf betweenOf
+symbolOf d c = turned 10 (sixOf d c * 2 ^ 4 + fourOf (betweenOf d c) c)
+
+-- a character with two different forms
+abbrev pub TwoForms : ℕ → Type 0
+TwoForms c = symbolOf Negative c ≡ symbolOf Positive c → ⊥
+
+-- the character whose symbol is s, where the disparity before it is d, if there is one
+unfoldable pub charOf : Disparity → ℕ → Option ℕ
+charOf d s = firstBelow characters (λ c. eqb (symbolOf d c) s)

@@ -1,0 +1,26 @@
+-- The running disparity (ANSI INCITS 230, the 8B/10B code; the same in IEEE 802.3, 36.2.4.4).
+-- Assumes nothing.
+use Prim.Native.Nat.{ℕ, _*_}
+use mathlib.Core.Bool.{Bool, cond}
+use lib.Dec.{ltb}
+use lib.Count.{onesIn}
+use Rattle.symbol.specs.declared.disparity.Disparity.{Disparity}
+use Rattle.symbol.specs.declared.disparity.Disparity.the-variants.{Negative, Positive}
+
+-- before a fresh signal (document 01, "A span")
+abbrev pub fresh : Disparity
+fresh = Negative
+
+abbrev pub opposed : Disparity → Disparity
+opposed Negative = Positive
+opposed Positive = Negative
+
+-- the opposite of d where it turns, else d
+abbrev pub turnedIf : Bool → Disparity → Disparity
+turnedIf turns d = cond turns (opposed d) d
+
+-- after a block of so many bits: positive where it has more ones than zeros, negative where it has more zeros, else as it was
+abbrev pub afterBlock : ℕ → Disparity → ℕ → Disparity
+afterBlock bits d block =
+    cond (ltb bits (2 * onesIn bits block)) Positive
+    (cond (ltb (2 * onesIn bits block) bits) Negative d)

@@ -1,0 +1,9 @@
+pub mod Blocks
+pub mod Character
+pub mod Code
+pub mod Decode
+pub mod Decoder
+pub mod Disparity
+pub mod Encode
+pub mod Encoder
+pub mod Meaning

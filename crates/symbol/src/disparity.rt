@@ -1,0 +1,28 @@
+ghost use mathlib.Core.Path.{_≡_};
+ghost use Rattle.symbol.specs.Disparity.{fresh, turnedIf};
+
+// The running disparity has two values, and no call can be given a third.
+pub enum Disparity {
+    Negative,
+    Positive,
+}
+
+// The disparity before a fresh signal.
+pub fn before_fresh_signal() -> Disparity
+    ensures { λ r. ⌜ r ≡ fresh ⌝ }
+{
+    Disparity::Negative
+}
+
+// The opposite of d where it turns, else d.
+pub(crate) fn turned_if(turns: bool, d: Disparity) -> Disparity
+    ensures { λ r. ⌜ r ≡ turnedIf turns d ⌝ }
+{
+    if turns {
+        return match d {
+            Disparity::Negative => Disparity::Positive,
+            Disparity::Positive => Disparity::Negative,
+        };
+    }
+    d
+}
