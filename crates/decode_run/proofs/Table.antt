@@ -1,21 +1,17 @@
 -- With the decoding table of the code, the bytes are those of the definition.
 -- Assumes nothing.
-use mathlib.Core.Path.{_≡_, refl, sym, ap, ap₂, _∙_}
+use mathlib.Core.Path.{_≡_, refl}
 use mathlib.Core.Bool.{Bool, true, false, cond}
 use mathlib.Core.List.{List, [], _∷_}
 use mathlib.Core.Option.{Option, none, some}
-use Prim.Native.Nat.{ℕ, zero, suc, _%_, _≤_, _<_}
-use native.Mathlib.Omega.{arith}
+use Prim.Native.Nat.{ℕ, zero, suc, _%_}
 use lib.Dec.{ltb}
-use borrow.Author.Tests.{ltb-true, ltb-false, lt-ltb, le-ltb}
-use Rattle.ground.specs.Search.{isSome}
-use Rattle.ground.proofs.Cases.{on-test}
 use Rattle.symbol.specs.declared.disparity.Disparity.{Disparity}
 use Rattle.symbol.specs.Code.{charOf, afterOf}
-use Rattle.symbol.specs.Decoder.{entryIn, entryOf, legalBy, legalBit, maskOf, afterBy, decodingTable}
+use Rattle.symbol.specs.Decoder.{entryOf, maskOf, decodingTable}
 use Rattle.symbol.proofs.Masks.{legal-mask, after-mask}
 use Rattle.symbol.proofs.Reading.{entry-in, legal-is, number-is}
-use Rattle.decode_run.specs.Run.{before, bytesBy, bytesOf}
+use Rattle.decode_run.specs.Run.{bytesBy, bytesOf}
 
 nothing : (t : Bool) → _≡_ {A = List ℕ} (cond t [] []) []
 nothing true = refl

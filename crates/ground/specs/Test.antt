@@ -1,8 +1,8 @@
 -- A test of every entry of a table, or of every number of a range, that antt computes.
 -- Assumes nothing.
-use mathlib.Core.Bool.{Bool, true, false, _&&_}
+use mathlib.Core.Bool.{Bool, true, _&&_}
 use mathlib.Core.List.{List, [], _∷_}
-use Prim.Native.Nat.{ℕ, zero, suc}
+use Prim.Native.Nat.{ℕ, suc}
 use lib.ListN.{replicate}
 
 -- the test holds at each entry and its place, where the first entry's place is i

@@ -1,11 +1,10 @@
 -- The entries of the decoding table.
 -- Assumes nothing.
-use mathlib.Core.Path.{_≡_, refl, sym, ap, _∙_}
+use mathlib.Core.Path.{_≡_, refl, sym, _∙_}
 use mathlib.Core.Bool.{Bool, true, false, _&&_, cond, true≢false}
 use mathlib.Core.List.{List}
 use mathlib.Core.Option.{Option, none, some}
-use Prim.Native.Nat.{ℕ, _+_, _*_, _/_, _%_, _<_}
-use native.Mathlib.Omega.{arith}
+use Prim.Native.Nat.{ℕ, _%_, _<_}
 use lib.Dec.{eqb, ltb}
 use lib.ListN.{length, getD}
 use borrow.Author.Tests.{eqb-true, ltb-true}
@@ -19,7 +18,6 @@ use Rattle.symbol.specs.declared.disparity.Disparity.the-variants.{Negat
 use Rattle.symbol.specs.Character.{characters}
 use Rattle.symbol.specs.Code.{symbolOf, charOf}
 use Rattle.symbol.specs.Decoder.{entryFrom, entryOf, decodingTable, legalBit}
-use Rattle.symbol.specs.Encoder.{turns, bit}
 use Rattle.symbol.specs.Meaning.{firstOf}
 use Rattle.symbol.proofs.Inverse.{decode-encode, illegal-is}
 

@@ -38,12 +38,11 @@ turned-over d b c k p q h e =
     ∙ inverted-ones 10 k (symbolOf d c) h ∙ ap (λ (n : ℕ). (1 + n) % 2) (ones-of d c q))
 
 -- what the flip law says of a symbol s at disparity d, where a true symbol leaves disparity e
-pub Caught : Disparity → Disparity → ℕ → Type 0
+abbrev pub Caught : Disparity → Disparity → ℕ → Type 0
 Caught d e s = (charOf d s ≡ none) ⊎ ((b : ℕ) × (charOf d s ≡ some b) × (afterOf d b ≡ opposed e))
 
 -- The flip law: a character's symbol with one bit inverted is illegal, or legal and leaves the opposite disparity.
 pub flip : (d : Disparity) (c k : ℕ) → c < characters → k < 10 → Caught d (afterOf d c) (inverted k (symbolOf d c))
-unfolding Caught
 flip d c k h l = go (charOf d (inverted k (symbolOf d c))) refl
   where
     go : (o : Option ℕ) → charOf d (inverted k (symbolOf d c)) ≡ o

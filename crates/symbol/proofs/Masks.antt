@@ -5,14 +5,14 @@ use mathlib.Core.Bool.{Bool, true, false, not}
 use mathlib.Core.Option.{some}
 use Prim.Native.Nat.{ℕ, zero, suc, _*_, _/_, _%_, _<_}
 use native.Mathlib.Omega.{arith}
-use lib.Bits.{bitAnd, bitXor, and-high}
+use lib.Bits.{bitXor, and-high}
 use lib.Dec.{eqb}
 use borrow.Author.Tests.{eq-eqb, ne-eqb}
 use Rattle.symbol.specs.declared.disparity.Disparity.{Disparity}
 use Rattle.symbol.specs.declared.disparity.Disparity.the-variants.{Negative, Positive}
 use Rattle.symbol.specs.Code.{charOf, afterOf}
 use Rattle.symbol.specs.Disparity.{turnedIf}
-use Rattle.symbol.specs.Decoder.{entryOf, legalBit, entryAfter, maskOf, ofMask, legalBy, afterBy}
+use Rattle.symbol.specs.Decoder.{entryOf, legalBit, maskOf, ofMask, legalBy, afterBy}
 use Rattle.symbol.specs.Encoder.{turns, bit}
 use Rattle.symbol.proofs.Inverse.{decoded-below}
 use Rattle.symbol.proofs.Ones.{turns-both}

@@ -1,23 +1,22 @@
 -- What the entry of a symbol says is so: at each disparity it gives the symbol's character, or none, and the disparity after it.
 -- Assumes nothing.
-use mathlib.Core.Path.{_≡_, refl, sym, ap, ap₂, _∙_}
+use mathlib.Core.Path.{_≡_, refl, sym, ap, _∙_}
 use mathlib.Core.Bool.{Bool, true, false, cond, true≢false}
-use mathlib.Core.Option.{Option, none, some, Option·map, Option·getD, Option·none-ne-some, Option·some-injective}
-use Prim.Native.Nat.{ℕ, _+_, _*_, _/_, _%_, _≤_, _<_}
+use mathlib.Core.Option.{Option, none, some, Option·none-ne-some, Option·some-injective}
+use Prim.Native.Nat.{ℕ, _*_, _/_, _%_, _≤_, _<_}
 use native.Mathlib.Omega.{arith}
 use lib.Dec.{eqb, ltb}
 use borrow.Author.Tests.{lt-ltb, ltb-true, ltb-false, ne-eqb}
-use Rattle.ground.specs.Answer.{Answer, refused, given, unless, checked}
 use Rattle.ground.specs.Search.{isSome}
 use Rattle.ground.proofs.Cases.{on-test}
 use Rattle.symbol.specs.declared.disparity.Disparity.{Disparity}
 use Rattle.symbol.specs.declared.disparity.Disparity.the-variants.{Negative, Positive}
-use Rattle.symbol.specs.Character.{characters, characterOf}
+use Rattle.symbol.specs.Character.{characters}
 use Rattle.symbol.specs.Code.{symbolOf, charOf, afterOf}
-use Rattle.symbol.specs.Decode.{After, decodeOf}
+use Rattle.symbol.specs.Decode.{decodeOf}
 use Rattle.symbol.specs.Decoder.{decodedBy, decodingTable, entryAfter, entryFrom, entryIn, entryOf, legalBit, meaningBy}
 use Rattle.symbol.specs.Encoder.{turns, bit}
-use Rattle.symbol.specs.Meaning.{Means, firstOf, meantBy, meaningOf}
+use Rattle.symbol.specs.Meaning.{meaningOf}
 use Rattle.symbol.specs.Disparity.{turnedIf}
 use Rattle.symbol.proofs.Characters.{bit-is, bit-below}
 use Rattle.symbol.proofs.Entries.{look, entryGiving, entry-at}

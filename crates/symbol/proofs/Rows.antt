@@ -2,7 +2,7 @@
 -- Assumes nothing.
 use mathlib.Core.Path.{_≡_, sym, ap, ap₂, _∙_}
 use mathlib.Core.Bool.{Bool}
-use Prim.Native.Nat.{ℕ, _+_, _*_, _/_, _%_, _-_, _≤_, _<_}
+use Prim.Native.Nat.{ℕ, _+_, _/_, _%_, _-_, _≤_, _<_}
 use native.Mathlib.Omega.{arith}
 use lib.Dec.{eqb}
 use lib.ListN.{getD}
@@ -10,7 +10,7 @@ use Rattle.ground.proofs.Writing.{getD-table}
 use Rattle.symbol.specs.declared.disparity.Disparity.{Disparity}
 use Rattle.symbol.specs.declared.disparity.Disparity.the-variants.{Negative, Positive}
 use Rattle.symbol.specs.Character.{characters}
-use Rattle.symbol.specs.Code.{symbolOf, afterOf}
+use Rattle.symbol.specs.Code.{symbolOf}
 use Rattle.symbol.specs.Disparity.{turnedIf}
 use Rattle.symbol.specs.Encode.{encoded}
 use Rattle.symbol.specs.Encoder.{encodedBy, turns, bit, rowOf, rowSymbol, encoderTable, specialTable}

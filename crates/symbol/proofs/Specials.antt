@@ -1,7 +1,7 @@
 -- The twelve special characters: their numbers are 256 to 267, and each is told again from its number.
 -- Assumes nothing.
 use mathlib.Core.Path.{_≡_, refl}
-use Prim.Native.Nat.{ℕ, _-_, _≤_, _<_}
+use Prim.Native.Nat.{_-_, _≤_, _<_}
 use lib.Dec.{lit≤, lit<}
 use Rattle.ground.specs.Answer.{OneToOne}
 use Rattle.ground.proofs.Answers.{told-again}

@@ -37,6 +37,5 @@ pub fn decode(d: Disparity, s: u16) -> Decoded
     if 1023 < s {
         return Decoded::Above1023;
     }
-    let t = crate::decoder::decoding_table();
-    decode_by(d, t[s as usize])
+    decode_by(d, crate::decoder::entry_of(s))
 }

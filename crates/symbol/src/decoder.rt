@@ -1,7 +1,7 @@
 // The decoding table over all 1,024 symbols, and what its entries say.
 use crate::disparity::Disparity;
 ghost use mathlib.Core.Path.{_≡_};
-ghost use Rattle.symbol.specs.Decoder.{decodingTable, entryIn, legalBit, entryAfter, maskOf, ofMask, legalBy, afterBy};
+ghost use Rattle.symbol.specs.Decoder.{decodingTable, entryOf, entryIn, legalBit, entryAfter, maskOf, ofMask, legalBy, afterBy};
 
 // An entry for each symbol: the character's number in bits 0 to 8 (a byte is its own number, the special characters are 256 to 267),
 // bit 9 where it is legal at negative disparity, bit 10 at positive, bits 11 and 12 where it turns the disparity; 0 for no symbol.
@@ -1047,6 +1047,14 @@ pub fn entry(t: &[u16; 1024], s: u16) -> u16
         return t[s as usize];
     }
     0
+}
+
+// The entry of one symbol. It builds the table: a loop lends it instead.
+pub(crate) fn entry_of(s: u16) -> u16
+    ensures { λ r. ⌜ r ≡ entryOf s ⌝ }
+{
+    let t = decoding_table();
+    entry(&t, s)
 }
 
 // Whether an entry's symbol is legal at a disparity.

@@ -45,6 +45,5 @@ pub fn meaning_of(s: u16) -> Meaning
     if 1023 < s {
         return Meaning::Above1023;
     }
-    let t = crate::decoder::decoding_table();
-    meaning_by(t[s as usize])
+    meaning_by(crate::decoder::entry_of(s))
 }

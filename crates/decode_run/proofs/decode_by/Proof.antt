@@ -1,7 +1,7 @@
 -- `decode_run::decode_by` meets its contract. After i bytes they and what is left are the whole; each way out leaves nothing.
 -- Assumes nothing.
 use mathlib.Core.Path.{_≡_, sym, _∙_}
-use Prim.Native.Nat.{ℕ, _-_, _≤_, _<_, min}
+use Prim.Native.Nat.{_-_, _≤_, _<_, min}
 use native.Mathlib.Omega.{arith}
 use lib.ListN.{length, getD}
 use Prim.Native.Nat.{_%_}

@@ -7,7 +7,7 @@ use native.Mathlib.Omega.{arith}
 use lib.ListN.{length, drop, replicate, set, length-set}
 use lib.Seq.{drop-length}
 use borrow.Author.Needs.{needs}
-use borrow.Author.Fill.{fill-none, fill-more}
+use borrow.Author.Fill.{fill-more}
 use Rattle.ground.proofs.fill.fill.Statement.{statement}
 use Rattle.ground.proofs.fill.fill.Tie as tie
 

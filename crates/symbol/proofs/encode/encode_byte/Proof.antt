@@ -1,6 +1,6 @@
 -- `symbol::encode::encode_byte` meets its contract: the row is the byte's, and says its symbol.
 -- Assumes nothing.
-use mathlib.Core.Path.{_≡_, _∙_, ap}
+use mathlib.Core.Path.{_∙_, ap}
 use mathlib.Core.List.{List}
 use Prim.Native.Nat.{ℕ, _<_}
 use native.Mathlib.Omega.{arith}

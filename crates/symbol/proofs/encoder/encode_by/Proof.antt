@@ -1,6 +1,5 @@
 -- `symbol::encoder::encode_by` meets its contract: the match says which disparity it is.
 -- Assumes nothing.
-use mathlib.Core.Path.{_≡_}
 use borrow.Author.Needs.{needs}
 use Rattle.symbol.proofs.encoder.encode_by.Statement.{statement}
 use Rattle.symbol.proofs.encoder.encode_by.Tie as tie

@@ -1,7 +1,7 @@
 -- `symbol::meaning::meaning_by` meets its contract: at each return the tests that led there say which case of the definition holds.
 -- Assumes nothing.
 use Prim.Native.Nat.{_%_}
-use borrow.Author.Tests.{lt-ltb, le-ltb, eq-eqb, ne-eqb}
+use borrow.Author.Tests.{lt-ltb, le-ltb, ne-eqb}
 use borrow.Author.Needs.{needs}
 use Rattle.symbol.proofs.meaning.meaning_by.Statement.{statement}
 use Rattle.symbol.proofs.meaning.meaning_by.Tie as tie
