@@ -10,21 +10,6 @@ use symbol::meaning::Legal;
 use symbol::meaning::Meaning;
 use symbol::special::Special;
 
-const SPECIALS: [Special; 12] = [
-    Special::K28_0,
-    Special::K28_1,
-    Special::K28_2,
-    Special::K28_3,
-    Special::K28_4,
-    Special::K28_5,
-    Special::K28_6,
-    Special::K28_7,
-    Special::K23_7,
-    Special::K27_7,
-    Special::K29_7,
-    Special::K30_7,
-];
-
 // The rest of a character's line: the disparity before, the symbol and the disparity after.
 fn encoded(start: Line, d: Disparity, e: Encoded) -> Line {
     let after = e.after;
@@ -40,6 +25,11 @@ fn byte_line(d: Disparity, b: u8) {
 fn special_line(d: Disparity, k: Special) {
     let e = symbol::encode::encode_special(d, k);
     encoded(Line::new().name(k), d, e).write();
+}
+
+fn special_lines(k: Special) {
+    special_line(Disparity::Negative, k);
+    special_line(Disparity::Positive, k);
 }
 
 fn decoded(start: Line, d: Disparity, s: u16) -> Line {
@@ -89,11 +79,18 @@ fn bytes() {
 }
 
 fn specials() {
-    for i in 0..12usize {
-        let k = SPECIALS[i];
-        special_line(Disparity::Negative, k);
-        special_line(Disparity::Positive, k);
-    }
+    special_lines(Special::K28_0);
+    special_lines(Special::K28_1);
+    special_lines(Special::K28_2);
+    special_lines(Special::K28_3);
+    special_lines(Special::K28_4);
+    special_lines(Special::K28_5);
+    special_lines(Special::K28_6);
+    special_lines(Special::K28_7);
+    special_lines(Special::K23_7);
+    special_lines(Special::K27_7);
+    special_lines(Special::K29_7);
+    special_lines(Special::K30_7);
 }
 
 fn symbols() {

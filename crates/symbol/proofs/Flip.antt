@@ -1,7 +1,7 @@
 -- One inverted bit.
 -- Assumes nothing.
 use mathlib.Core.Path.{_≡_, refl, sym, ap, _∙_}
-use mathlib.Core.Bool.{Bool, true, false}
+use mathlib.Core.Bool.{Bool, true, false, not, true≢false}
 use mathlib.Core.Logic.{_⊎_, inl, inr}
 use mathlib.Core.Option.{Option, none, some}
 use Prim.Native.Nat.{ℕ, _+_, _%_, _<_}
@@ -14,28 +14,32 @@ use Rattle.symbol.specs.declared.disparity.Disparity.the-variants.{Negat
 use Rattle.symbol.specs.Character.{characters}
 use Rattle.symbol.specs.Code.{symbolOf, charOf, afterOf}
 use Rattle.symbol.specs.Disparity.{opposed, turnedIf}
-use Rattle.symbol.specs.Encoder.{turns}
+use Rattle.symbol.specs.Encoder.{turns, bit}
 use Rattle.symbol.proofs.Inverse.{encode-decode, decoded-below}
-use Rattle.symbol.proofs.Ones.{onesBetween, ones-of, turns-both}
+use Rattle.symbol.proofs.Ones.{onesBetween, ones-by, turns-both}
 
--- counts of ones of different parity end at opposite disparities
-odd-even : (d e f : Disparity) → onesBetween d f % 2 ≡ (1 + onesBetween d e) % 2 → f ≡ opposed e
-odd-even Negative Negative Negative q = absurd (omega arith)
-odd-even Negative Negative Positive q = refl
-odd-even Negative Positive Negative q = refl
-odd-even Negative Positive Positive q = absurd (omega arith)
-odd-even Positive Negative Negative q = absurd (omega arith)
-odd-even Positive Negative Positive q = refl
-odd-even Positive Positive Negative q = refl
-odd-even Positive Positive Positive q = absurd (omega arith)
+-- a symbol has an odd count of ones where its character keeps the disparity, and an even one where it turns it, at both disparities
+parity : (d : Disparity) (c : ℕ) → c < characters → onesIn 10 (symbolOf d c) % 2 ≡ bit (not (turns c))
+parity d c h = ap (λ (n : ℕ). n % 2) (ones-by d c h) ∙ odd d (turns c)
+  where
+    odd : (d : Disparity) (t : Bool) → onesBetween d (turnedIf t d) % 2 ≡ bit (not t)
+    odd Negative true = refl
+    odd Negative false = refl
+    odd Positive true = refl
+    odd Positive false = refl
 
--- a character b whose symbol is that of c with a bit inverted leaves the opposite disparity
-turned-over : (d : Disparity) (b c k : ℕ) → b < characters → c < characters → k < 10
-    → symbolOf d b ≡ inverted k (symbolOf d c) → afterOf d b ≡ opposed (afterOf d c)
-turned-over d b c k p q h e =
-    odd-even d (afterOf d c) (afterOf d b)
-    (ap (λ (n : ℕ). n % 2) (sym (ones-of d b p) ∙ ap (onesIn 10) e)
-    ∙ inverted-ones 10 k (symbolOf d c) h ∙ ap (λ (n : ℕ). (1 + n) % 2) (ones-of d c q))
+-- so of two symbols that differ in one bit exactly one turns it, at whatever disparities they stand
+one-of-two-turns : (d e : Disparity) (b c k : ℕ) → b < characters → c < characters → k < 10
+    → symbolOf e b ≡ inverted k (symbolOf d c) → turns b ≡ not (turns c)
+one-of-two-turns d e b c k p q h same =
+    other (turns b) (turns c) (onesIn 10 (symbolOf d c)) (parity d c q)
+    (sym (parity e b p) ∙ ap (λ (s : ℕ). onesIn 10 s % 2) same ∙ inverted-ones 10 k (symbolOf d c) h)
+  where
+    other : (s t : Bool) (n : ℕ) → n % 2 ≡ bit (not t) → bit (not s) ≡ (1 + n) % 2 → s ≡ not t
+    other true true n x y = absurd (omega arith)
+    other true false n x y = refl
+    other false true n x y = refl
+    other false false n x y = absurd (omega arith)
 
 -- what the flip law says of a symbol s at disparity d, where a true symbol leaves disparity e
 abbrev pub Caught : Disparity → Disparity → ℕ → Type 0
@@ -45,27 +49,26 @@ Caught d e s = (charOf d s ≡ none) ⊎ ((b : ℕ) × (charOf d s ≡ some b) �
 pub flip : (d : Disparity) (c k : ℕ) → c < characters → k < 10 → Caught d (afterOf d c) (inverted k (symbolOf d c))
 flip d c k h l = go (charOf d (inverted k (symbolOf d c))) refl
   where
-    go : (o : Option ℕ) → charOf d (inverted k (symbolOf d c)) ≡ o
-        → (charOf d (inverted k (symbolOf d c)) ≡ none) ⊎ ((b : ℕ) × (charOf d (inverted k (symbolOf d c)) ≡ some b) × (afterOf d b ≡ opposed (afterOf d c)))
+    opposite : (t : Bool) (d : Disparity) → turnedIf (not t) d ≡ opposed (turnedIf t d)
+    opposite true Negative = refl
+    opposite true Positive = refl
+    opposite false d = refl
+
+    go : (o : Option ℕ) → charOf d (inverted k (symbolOf d c)) ≡ o → Caught d (afterOf d c) (inverted k (symbolOf d c))
     go none e = inl e
-    go (some b) e = inr (b, e, turned-over d b c k (decoded-below d _ b e) h l (encode-decode d _ b e))
+    go (some b) e =
+        let p : b < characters = decoded-below d (inverted k (symbolOf d c)) b e in
+        let t = one-of-two-turns d d b c k p h l (encode-decode d (inverted k (symbolOf d c)) b e) in
+        inr (
+          b,
+          e,
+          turns-both d b p ∙ ap (λ (x : Bool). turnedIf x d) t ∙ opposite (turns c) d ∙ ap opposed (sym (turns-both d c h)),
+        )
 
 -- Neither form of a character becomes a form of that character by one inverted bit: K28.5 and K29.7 above all.
 pub flip-no-form : (d e : Disparity) (c k : ℕ) → c < characters → k < 10 → inverted k (symbolOf d c) ≡ symbolOf e c → ⊥
-flip-no-form d e c k h l q =
-    parity d e (turns c)
-    (ap (λ (n : ℕ). (1 + n) % 2) (sym (ones-by d)) ∙ sym (inverted-ones 10 k (symbolOf d c) l) ∙ ap (λ (s : ℕ). onesIn 10 s % 2) q
-    ∙ ap (λ (n : ℕ). n % 2) (ones-by e))
+flip-no-form d e c k h l q = never (turns c) (one-of-two-turns d e c c k h h l (sym q))
   where
-    ones-by : (d : Disparity) → onesIn 10 (symbolOf d c) ≡ onesBetween d (turnedIf (turns c) d)
-    ones-by d = ones-of d c h ∙ ap (onesBetween d) (turns-both d c h)
-
-    parity : (d e : Disparity) (t : Bool) → (1 + onesBetween d (turnedIf t d)) % 2 ≡ onesBetween e (turnedIf t e) % 2 → ⊥
-    parity Negative Negative true q = omega arith
-    parity Negative Negative false q = omega arith
-    parity Negative Positive true q = omega arith
-    parity Negative Positive false q = omega arith
-    parity Positive Negative true q = omega arith
-    parity Positive Negative false q = omega arith
-    parity Positive Positive true q = omega arith
-    parity Positive Positive false q = omega arith
+    never : (t : Bool) → t ≡ not t → ⊥
+    never true x = true≢false x
+    never false x = true≢false (sym x)

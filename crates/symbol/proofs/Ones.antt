@@ -50,13 +50,14 @@ unfolding afterOf turns
 turns-both d c h =
     same-is (afterOf d c) (turnedIf (turns c) d) (at-character (λ e k. same (afterOf e k) (turnedIf (turns k) e)) refl refl d c h)
 
+-- So the ones of a symbol are told by the disparity before it and by whether its character turns it.
+pub ones-by : (d : Disparity) (c : ℕ) → c < characters → onesIn 10 (symbolOf d c) ≡ onesBetween d (turnedIf (turns c) d)
+ones-by d c h = ones-of d c h ∙ ap (onesBetween d) (turns-both d c h)
+
 -- A character whose two forms are the same leaves the disparity as it was.
 pub one-form-stays : (d : Disparity) (c : ℕ) → c < characters → symbolOf Negative c ≡ symbolOf Positive c → afterOf d c ≡ d
 one-form-stays d c h e =
-    turns-both d c h
-    ∙ stays (turns c)
-    (sym (ones-of Negative c h ∙ ap (onesBetween Negative) (turns-both Negative c h)) ∙ ap (onesIn 10) e
-    ∙ (ones-of Positive c h ∙ ap (onesBetween Positive) (turns-both Positive c h))) d
+    turns-both d c h ∙ stays (turns c) (sym (ones-by Negative c h) ∙ ap (onesIn 10) e ∙ ones-by Positive c h) d
   where
     stays : (t : Bool) → onesBetween Negative (turnedIf t Negative) ≡ onesBetween Positive (turnedIf t Positive) → (d : Disparity) → turnedIf t d ≡ d
     stays true q d = absurd (omega arith)

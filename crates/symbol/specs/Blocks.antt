@@ -1,5 +1,6 @@
 -- The blocks of the code as its tables print them, the bit sent first on the left: abcdei of the 5b/6b table, fghj of the 3b/4b table.
 -- Each table has a column for negative and one for positive disparity before the block.
+-- The code is that of ANSI INCITS 230, which 004, 7.1.1 and 7.1.2 name.
 -- Assumes nothing.
 use Prim.Native.Nat.{ℕ}
 use mathlib.Core.List.{List, [], _∷_}

@@ -1,5 +1,5 @@
 -- The symbol of each character, the disparity after it, and the character of each symbol.
--- A symbol is a number of ten bits, the bit sent first lowest (document 01, "A span").
+-- A symbol is a number of ten bits, the bit sent first lowest (document 01, "A span"; 004, 7.1.1 and 7.1.2: sent from the LSB on).
 -- Assumes nothing.
 use Prim.Native.Nat.{ℕ, zero, suc, _+_, _*_, _/_, _%_, _^_}
 use mathlib.Core.Path.{_≡_}

@@ -7,7 +7,7 @@ use lib.Count.{onesIn}
 use Rattle.symbol.specs.declared.disparity.Disparity.{Disparity}
 use Rattle.symbol.specs.declared.disparity.Disparity.the-variants.{Negative, Positive}
 
--- before a fresh signal (document 01, "A span")
+-- before a fresh signal (document 01, "A span"; 004, 7.1.1 and 7.1.2: encoding starts at the first K28.5, at negative RD)
 abbrev pub fresh : Disparity
 fresh = Negative
 
