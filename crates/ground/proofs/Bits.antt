@@ -1,10 +1,12 @@
 -- A number with one bit inverted.
 -- Assumes nothing.
-use mathlib.Core.Path.{_≡_, ap}
+use mathlib.Core.Path.{_≡_, refl, ap}
 use Prim.Native.Nat.{ℕ, zero, suc, _+_, _-_, _*_, _/_, _%_, _^_, _<_}
 use native.Mathlib.Nat.{not-suc-le-zero, le-of-suc-le-suc, pow-suc}
 use native.Mathlib.Omega.{arith}
+use native.Mathlib.Numerals.{add-one}
 use lib.Count.{onesIn}
+use lib.Pow.{mod-pow-add}
 use Rattle.ground.specs.Bit.{inverted}
 
 -- Inverting the lowest bit keeps the rest, and inverting another keeps the lowest.
@@ -48,3 +50,13 @@ inverted-below (suc b) zero n h l = rw pow-suc (omega (arith, rw pow-suc at l))
 inverted-below (suc b) (suc k) n h l =
     let e = inverted-below b k (n / 2) (le-of-suc-le-suc h) (omega (arith, rw pow-suc at l)) in
     rw pow-suc (omega arith)
+
+-- Of a number, b bits count.
+pub ones-low : (b n : ℕ) → onesIn b (n % 2 ^ b) ≡ onesIn b n
+unfolding onesIn
+ones-low zero n = refl
+ones-low (suc b) n =
+    let e : n % 2 ^ suc b ≡ n / 2 % 2 ^ b * 2 + n % 2 = rw (← (add-one b)) (mod-pow-add n b 1) in
+    let q : n % 2 ^ suc b / 2 ≡ n / 2 % 2 ^ b = omega arith in
+    let r : n % 2 ^ suc b % 2 ≡ n % 2 = omega arith in
+    rw (q, r, ones-low b (n / 2))

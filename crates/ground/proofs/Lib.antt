@@ -1,6 +1,7 @@
 pub mod Answers
 pub mod Bits
 pub mod Cases
+pub mod Ranges
 pub mod Searches
 pub mod Tests
 pub mod Writing

@@ -1,10 +1,13 @@
 -- Laws of exclusive or.
 -- Assumes nothing.
 use mathlib.Core.Path.{_≡_, refl, sym, ap, _∙_}
-use Prim.Native.Nat.{ℕ, zero, suc, _+_, _*_, _/_, _%_, _^_, _<_}
+use Prim.Native.Nat.{ℕ, zero, suc, _+_, _*_, _/_, _%_, _^_, _≤_, _<_}
+use native.Mathlib.Nat.{add-zero}
 use native.Mathlib.Omega.{arith}
 use lib.Arith.{bin-ind}
-use lib.Bits.{bitXor, differ, xor-step, xor-zero-l, xor-zero-r, xor-comm, xor-self, xor-lt, xor-shr, xor-mod}
+use lib.Bits.{bitXor, differ, xor-step, xor-zero-l, xor-zero-r, xor-comm, xor-self, xor-lt, xor-shr, xor-mod, xor-block, xor-shifted}
+use lib.Count.{onesIn}
+use lib.Pow.{pow-pos}
 use Rattle.ground.specs.Xor.{_⊕_}
 
 pub ⊕-is : (a b : ℕ) → bitXor a b ≡ a ⊕ b
@@ -38,6 +41,15 @@ unfolding _⊕_
 pub ⊕-mod : (a b k : ℕ) → (a ⊕ b) % 2 ^ k ≡ a % 2 ^ k ⊕ b % 2 ^ k
 unfolding _⊕_
 ⊕-mod a b k = xor-mod a b k
+
+pub ⊕-times : (a b k : ℕ) → (a ⊕ b) * 2 ^ k ≡ a * 2 ^ k ⊕ b * 2 ^ k
+unfolding _⊕_
+⊕-times a b k = rw (add-zero, add-zero, xor-zero-l 0, add-zero) at (sym (xor-block k a b 0 0 (pow-pos k) (pow-pos k)))
+
+-- a number below another's lowest bit is added to it
+pub ⊕-shifted : (a k b : ℕ) → b < 2 ^ k → a * 2 ^ k ⊕ b ≡ a * 2 ^ k + b
+unfolding _⊕_
+⊕-shifted a k b h = xor-shifted a k b h
 
 -- ---- the order of three does not matter: digit by digit
 
@@ -90,3 +102,23 @@ pub ⊕-cancel : (a b c : ℕ) → a ⊕ b ≡ a ⊕ c → b ≡ c
   where
     back : (x : ℕ) → a ⊕ (a ⊕ x) ≡ x
     back x = sym (⊕-assoc a a x) ∙ rw (⊕-self, zero-⊕)
+
+-- two terms that stand between two others change places
+pub ⊕-middle : (a b c d : ℕ) → (a ⊕ b) ⊕ (c ⊕ d) ≡ (a ⊕ c) ⊕ (b ⊕ d)
+⊕-middle a b c d =
+    ⊕-assoc a b (c ⊕ d)
+    ∙ ap (λ (x : ℕ). a ⊕ x) (sym (⊕-assoc b c d) ∙ ap (λ (x : ℕ). x ⊕ d) (⊕-comm b c) ∙ ⊕-assoc c b d)
+    ∙ sym (⊕-assoc a c (b ⊕ d))
+
+-- an exclusive or has no more ones than its two parts
+digit-sum : (x y : ℕ) → differ x y ≤ x + y
+digit-sum zero y = omega arith
+digit-sum (suc x) zero = omega arith
+digit-sum (suc x) (suc y) = let h = digit-sum x y in omega arith
+
+pub ones-⊕ : (b x y : ℕ) → onesIn b (x ⊕ y) ≤ onesIn b x + onesIn b y
+unfolding onesIn
+ones-⊕ zero x y = omega arith
+ones-⊕ (suc b) x y =
+    let ih = ones-⊕ b (x / 2) (y / 2) in
+    rw (half x y, last x y) (omega (arith, digit-sum (x % 2) (y % 2)))

@@ -1,0 +1,83 @@
+-- The paper's values tell the answers apart.
+-- Assumes nothing.
+use mathlib.Core.Path.{_≡_, refl}
+use mathlib.Core.Bool.{cond}
+use Prim.Native.Nat.{ℕ}
+use lib.Dec.{eqb}
+use Rattle.ground.specs.Answer.{Answer, refused, given, OneToOne}
+use Rattle.ground.proofs.Answers.{told-again}
+use Rattle.line.specs.declared.stream.StreamLine.{StreamLine}
+use Rattle.word.specs.declared.bytes.ThreeBytes.{ThreeBytes}
+use Rattle.word.specs.declared.bytes.Packed.{Packed}
+use Rattle.word.specs.declared.bytes.Packed.the-variants as Packed
+use Rattle.word.specs.declared.crcc.Crcc.{Crcc}
+use Rattle.word.specs.declared.crcc.Crcc.the-variants as Crcc
+use Rattle.word.specs.declared.line_number.LineWords.{LineWords}
+use Rattle.word.specs.declared.line_number.Numbered.{Numbered}
+use Rattle.word.specs.declared.line_number.Numbered.the-variants as Numbered
+use Rattle.word.specs.declared.line_number.Named.{Named}
+use Rattle.word.specs.declared.line_number.Named.the-variants as Named
+use Rattle.word.specs.declared.repair.Repaired.{Repaired}
+use Rattle.word.specs.declared.repair.Repair.{Repair}
+use Rattle.word.specs.declared.repair.Repair.the-variants as Repair
+use Rattle.word.specs.Bytes.{paperPacked}
+use Rattle.word.specs.Crcc.{paperCrcc}
+use Rattle.word.specs.LineNumber.{paperNumbered, paperNamed}
+use Rattle.word.specs.Repair.{paperRepair}
+
+abbrev repairAgain : Answer Repaired → Repair
+repairAgain (refused n place) = cond (eqb n 7) Repair.Above4095 Repair.BeyondRepair
+repairAgain (given r) = Repair.Word r
+
+pub repair-one-to-one : OneToOne paperRepair
+repair-one-to-one = told-again repairAgain again
+  where
+    again : (r : Repair) → repairAgain (paperRepair r) ≡ r
+    again (Repair.Word r) = refl
+    again Repair.Above4095 = refl
+    again Repair.BeyondRepair = refl
+
+abbrev numberedAgain : Answer LineWords → Numbered
+numberedAgain (refused n place) = Numbered.NoLine
+numberedAgain (given w) = Numbered.Words w
+
+pub numbered-one-to-one : OneToOne paperNumbered
+numbered-one-to-one = told-again numberedAgain again
+  where
+    again : (r : Numbered) → numberedAgain (paperNumbered r) ≡ r
+    again (Numbered.Words w) = refl
+    again Numbered.NoLine = refl
+
+abbrev namedAgain : Answer StreamLine → Named
+namedAgain (refused n place) = cond (eqb n 7) Named.Above4095 Named.Nameless
+namedAgain (given l) = Named.Line l
+
+pub named-one-to-one : OneToOne paperNamed
+named-one-to-one = told-again namedAgain again
+  where
+    again : (r : Named) → namedAgain (paperNamed r) ≡ r
+    again (Named.Line l) = refl
+    again Named.Above4095 = refl
+    again Named.Nameless = refl
+
+abbrev crccAgain : Answer ℕ → Crcc
+crccAgain (refused n place) = Crcc.Above4095
+crccAgain (given c) = Crcc.Register c
+
+pub crcc-one-to-one : OneToOne paperCrcc
+crcc-one-to-one = told-again crccAgain again
+  where
+    again : (r : Crcc) → crccAgain (paperCrcc r) ≡ r
+    again (Crcc.Register c) = refl
+    again Crcc.Above4095 = refl
+
+abbrev packedAgain : Answer ThreeBytes → Packed
+packedAgain (refused n place) = Packed.Above4095
+packedAgain (given t) = Packed.Bytes t
+
+pub packed-one-to-one : OneToOne paperPacked
+packed-one-to-one = told-again packedAgain again
+  where
+    again : (r : Packed) → packedAgain (paperPacked r) ≡ r
+    again (Packed.Bytes t) = refl
+    again Packed.Above4095 = refl

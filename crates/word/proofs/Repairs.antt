@@ -1,0 +1,173 @@
+-- Repair of a timing word: what the search for the nearest legal word finds, and how far the legal words are apart.
+-- Assumes nothing.
+use mathlib.Core.Path.{_≡_, refl, ap, _∙_}
+use mathlib.Core.Bool.{Bool, true, false, cond}
+use mathlib.Core.Logic.{⊎-elim}
+use mathlib.Core.Option.{some}
+use Prim.Native.Nat.{ℕ, _+_, _-_, _/_, _%_, _^_, _≤_, _<_, min}
+use native.Mathlib.Nat.{eq-or-lt-of-le}
+use native.Mathlib.Omega.{arith}
+use lib.Bits.{bitAnd, bitXor}
+use lib.Count.{onesIn}
+use lib.Dec.{eqb, ltb}
+use borrow.Author.Tests.{eqb-true, eq-eqb, ne-eqb, ltb-true, lt-ltb, le-ltb, le-leb, lt-leb, leb-true}
+use Rattle.ground.specs.Answer.{refused, given}
+use Rattle.ground.specs.Bit.{inverted}
+use Rattle.ground.specs.Search.{firstBelow}
+use Rattle.ground.specs.Test.{everyBelow}
+use Rattle.ground.specs.Xor.{_⊕_}
+use Rattle.ground.proofs.Bits.{inverted-below, ones-low}
+use Rattle.ground.proofs.Cases.{on-test}
+use Rattle.ground.proofs.Searches.{Nowhere, is-hit, is-miss}
+use Rattle.ground.proofs.Tests.{at-number}
+use Rattle.ground.proofs.Xors.{⊕-self, ⊕-middle, zero-⊕, ones-⊕}
+use Rattle.word.specs.Repair.{distance, legalWord, near, nearest, repairOf}
+use Rattle.word.specs.Timing.{timing}
+
+-- ---- a number without its lowest one
+
+abbrev pub nearness : ℕ → ℕ
+nearness x = cond (eqb x 0) 0 (cond (eqb (bitAnd x (x - 1)) 0) 1 2)
+
+-- antt computes it for all 4,096 words
+pub nearness-is : (x : ℕ) → x < 4096 → nearness x ≡ min 2 (onesIn 12 x)
+unfolding onesIn
+nearness-is x h = eqb-true (nearness x) (min 2 (onesIn 12 x)) (at-number 4096 (λ x. eqb (nearness x) (min 2 (onesIn 12 x))) refl x h)
+
+pub difference-is : (a b : ℕ) → nearness (bitXor a b % 4096) ≡ min 2 (distance a b)
+unfolding distance _⊕_
+difference-is a b = nearness-is (bitXor a b % 4096) (omega arith) ∙ ap (min 2) (ones-low 12 (bitXor a b))
+
+-- ---- what the search finds
+
+module _ (w : ℕ) (h : w < 4096) where
+  pub found : (vh : ℕ) → vh < 4 → Nowhere (near w) 0 vh → distance w (legalWord vh) ≤ 1
+      → repairOf w ≡ given (record { word = legalWord vh; distance = distance w (legalWord vh) })
+  unfolding nearest
+  found vh l lower d =
+      let hit : firstBelow 4 (near w) ≡ some vh =
+      is-hit (near w) 4 vh
+      (record { from = omega arith; below = l; holds = le-leb (distance w (legalWord vh)) 1 d; least = lower .never }) in
+      simp (lt-ltb w 4096 h, hit)
+
+  pub lost : Nowhere (near w) 0 4 → repairOf w ≡ refused 8 0
+  unfolding nearest
+  lost n = simp (lt-ltb w 4096 h, is-miss (near w) 4 n)
+
+-- one legal word more that is not near
+pub one-more : (w vh : ℕ) → Nowhere (near w) 0 vh → 1 < distance w (legalWord vh) → Nowhere (near w) 0 (vh + 1)
+one-more w vh n d =
+    record {
+      never =
+          λ j h l.
+          ⊎-elim (λ e. rw e (lt-leb (distance w (legalWord vh)) 1 d)) (λ b. n .never j h b) (eq-or-lt-of-le (let b : j ≤ vh = omega arith in b));
+    }
+
+-- ---- how far the legal words are apart
+
+-- any two are four bits apart
+pub apart : (i j : ℕ) → i < 4 → j < 4 → distance (legalWord i) (legalWord j) ≡ cond (eqb i j) 0 4
+unfolding distance timing _⊕_
+apart i j h l =
+    let test : ℕ → ℕ → Bool = λ i j. eqb (distance (legalWord i) (legalWord j)) (cond (eqb i j) 0 4) in
+    eqb-true (distance (legalWord i) (legalWord j)) (cond (eqb i j) 0 4)
+    (at-number 4 (test i) (at-number 4 (λ i. everyBelow 4 (test i)) refl i h) j l)
+
+-- a distance is no longer than two that lead there
+between : (a b w : ℕ) → distance a b ≤ distance w a + distance w b
+unfolding distance
+between a b w =
+    let e : (w ⊕ a) ⊕ (w ⊕ b) ≡ a ⊕ b = ⊕-middle w a w b ∙ ap (λ (x : ℕ). x ⊕ (a ⊕ b)) (⊕-self w) ∙ zero-⊕ (a ⊕ b) in
+    rw e at (ones-⊕ 12 (w ⊕ a) (w ⊕ b))
+
+-- so no word is near two
+pub one-near : (w i j : ℕ) → i < 4 → j < 4 → near w i ≡ true → near w j ≡ true → i ≡ j
+one-near w i j h l p q =
+    on-test (eqb i j) (λ t. eqb-true i j t)
+    (λ t.
+    let d : distance (legalWord i) (legalWord j) ≡ 4 = apart i j h l ∙ simp t in
+    absurd (omega (arith, d, between (legalWord i) (legalWord j) w, leb-true (distance w (legalWord i)) 1 p, leb-true (distance w (legalWord j)) 1 q)))
+
+-- ---- wrong bits (004, 6.2)
+
+module _ (vh : ℕ) (h : vh < 4) where
+  abbrev legal : ℕ
+  legal = legalWord vh
+
+  legal-below : legal < 2 ^ 12
+  unfolding timing
+  legal-below = ltb-true legal 4096 (at-number 4 (λ vh. ltb (legalWord vh) 4096) refl vh h)
+
+  -- the distance says how many bits are wrong
+  one-off : (k : ℕ) → k < 12 → distance (inverted k legal) legal ≡ 1
+  unfolding distance timing _⊕_ inverted
+  one-off k l =
+      let test : ℕ → ℕ → Bool = λ vh k. eqb (distance (inverted k (legalWord vh)) (legalWord vh)) 1 in
+      eqb-true (distance (inverted k legal) legal) 1 (at-number 12 (test vh) (at-number 4 (λ vh. everyBelow 12 (test vh)) refl vh h) k l)
+
+  two-off : (j k : ℕ) → j < 12 → k < 12 → distance (inverted j (inverted k legal)) legal ≡ cond (eqb j k) 0 2
+  unfolding distance timing _⊕_ inverted
+  two-off j k p q =
+      let test : ℕ → ℕ → ℕ → Bool =
+      λ vh j k. eqb (distance (inverted j (inverted k (legalWord vh))) (legalWord vh)) (cond (eqb j k) 0 2) in
+      eqb-true (distance (inverted j (inverted k legal)) legal) (cond (eqb j k) 0 2)
+      (at-number 12 (test vh j)
+      (at-number 12 (λ j. everyBelow 12 (test vh j)) (at-number 4 (λ vh. everyBelow 12 (λ j. everyBelow 12 (test vh j))) refl vh h) j p)
+      k q)
+
+  near-legal : (w : ℕ) → w < 4096 → distance w legal ≤ 1 → repairOf w ≡ given (record { word = legal; distance = distance w legal })
+  near-legal w l d =
+      found w l vh h
+      (record {
+        never =
+            λ j p q.
+            on-test (near w j)
+            (λ t. absurd (omega (arith, one-near w j vh (omega arith) h t (le-leb (distance w legal) 1 d))))
+            (λ t. t);
+      })
+      d
+
+  -- none wrong: the word itself; one wrong: the word that it was
+  pub none-wrong : repairOf legal ≡ given (record { word = legal; distance = 0 })
+  none-wrong =
+      let e : distance legal legal ≡ 0 = apart vh vh h h ∙ simp (eq-eqb vh vh refl) in
+      rw e at (near-legal legal legal-below (omega (arith, e)))
+
+  pub one-wrong : (k : ℕ) → k < 12 → repairOf (inverted k legal) ≡ given (record { word = legal; distance = 1 })
+  one-wrong k l =
+      let e = one-off k l in
+      rw e at (near-legal (inverted k legal) (inverted-below 12 k legal l legal-below) (omega (arith, e)))
+
+  -- two wrong: no legal word is near
+  pub two-wrong : (j k : ℕ) → j < k → k < 12 → repairOf (inverted j (inverted k legal)) ≡ refused 8 0
+  two-wrong j k p q =
+      let l : j < 12 = omega arith in
+      let n : j ≡ k → ⊥ = λ e. omega arith in
+      let w = inverted j (inverted k legal) in
+      let e : distance w legal ≡ 2 = two-off j k l q ∙ simp (ne-eqb j k n) in
+      lost w (inverted-below 12 j (inverted k legal) l (inverted-below 12 k legal q legal-below))
+      (record { never = λ i u v. lt-leb (distance w (legalWord i)) 1 (far i v w e) })
+    where
+      far : (i : ℕ) → i < 4 → (w : ℕ) → distance w legal ≡ 2 → 1 < distance w (legalWord i)
+      far i v w e =
+          on-test (eqb vh i) (λ t. omega (arith, ap (λ (x : ℕ). distance w (legalWord x)) (eqb-true vh i t), e))
+          (λ t.
+          let d : distance legal (legalWord i) ≡ 4 = apart vh i h v ∙ simp t in
+          omega (arith, d, between legal (legalWord i) w, e))
+
+-- the word of any V and H, as it is sent
+pub sent-whole : (v h : Bool) → repairOf (timing v h) ≡ given (record { word = timing v h; distance = 0 })
+sent-whole false false = none-wrong 0 (omega arith)
+sent-whole false true = none-wrong 1 (omega arith)
+sent-whole true false = none-wrong 2 (omega arith)
+sent-whole true true = none-wrong 3 (omega arith)
+
+-- ---- which words are refused, in the paper's own numerals
+
+pub repair-meets-7 : (w : ℕ) → 4095 < w → repairOf w ≡ refused 7 0
+repair-meets-7 w h = simp (le-ltb w 4096 h)
+
+pub repair-meets-8 : (w : ℕ) → w ≤ 4095
+    → ((v h : Bool) → 1 < distance w (timing v h)) → repairOf w ≡ refused 8 0
+repair-meets-8 w h far =
+    lost w (omega arith) (record { never = λ vh p q. lt-leb (distance w (legalWord vh)) 1 (far (eqb (vh / 2) 1) (eqb (vh % 2) 1)) })

@@ -1,0 +1,18 @@
+-- Samples and the words that carry them (004, 6.1; document 01, "Words of a stream" and refusal 25).
+-- Assumes nothing.
+use Prim.Native.Nat.{ℕ, _*_, _%_}
+use mathlib.Core.Bool.{Bool, true, false, cond, _&&_}
+use lib.Dec.{eqb}
+use Rattle.ground.specs.Range.{within}
+
+-- the samples that may be sent at a depth of so many bits
+abbrev pub allowed : ℕ → ℕ → Bool
+allowed depth x = cond (eqb depth 10) (within 4 1019 x) (cond (eqb depth 12) (within 16 4079 x) false)
+
+-- at ten bits a sample is shifted left by two, the low bits zero
+abbrev pub sampleWord : ℕ → ℕ → ℕ
+sampleWord depth x = cond (eqb depth 10) (x * 4) x % 4096
+
+-- the words that may be received: 16 to 4079, and at ten bits the low two bits zero
+abbrev pub allowedWord : ℕ → ℕ → Bool
+allowedWord depth w = within 16 4079 w && cond (eqb depth 10) (eqb (w % 4) 0) true
