@@ -1,14 +1,14 @@
 -- Laws of a list that is written piece by piece.
 -- Assumes nothing.
 use mathlib.Core.Path.{_≡_, refl, sym, ap, _∙_}
-use mathlib.Core.List.{List, [], _∷_, _++_}
+use mathlib.Core.List.{List, [], _∷_, _++_, append-assoc, append-nil}
 use Prim.Native.Nat.{ℕ, zero, suc, _+_, _*_, _≤_, _<_}
-use native.Mathlib.Nat.{mul-suc, mul-le-mul-left, eq-or-lt-of-le, le-of-suc-le-suc, not-suc-le-zero}
+use native.Mathlib.Nat.{add-zero, add-suc, mul-suc, mul-le-mul-left, eq-or-lt-of-le, le-of-suc-le-suc, not-suc-le-zero}
 use native.Mathlib.Numerals.{add-one}
 use native.Mathlib.Omega.{arith}
 use mathlib.Core.Logic.{⊎-elim}
 use lib.ListN.{length, getD, set, length-append, List·getD-append}
-use lib.Seq.{sets, getD-append-add, ext-getD}
+use lib.Seq.{sets, set-comm, getD-append-add, ext-getD}
 use lib.Dec.{eqb}
 use borrow.Author.Tests.{eqb-true}
 use mathlib.Core.Bool.{true}
@@ -22,9 +22,23 @@ module _ {A : Type 0} where
   sets-append l [] y i o e = let q : o ≡ i = omega arith in rw q
   sets-append l (a ∷ x) y i o e = sets-append (set l i a) x y (suc i) o (omega arith)
 
+  -- a store, and then the run that ends before it, are one run
+  pub sets-last : (xs l : List A) (i j : ℕ) (a : A) → j ≡ i + length xs → sets (set l j a) i xs ≡ sets l i (xs ++ (a ∷ []))
+  sets-last [] l i j a e = let q : j ≡ i = omega arith in rw q
+  sets-last (x ∷ xs) l i j a e =
+      ap (λ (t : List A). sets t (suc i) xs) (set-comm l j i a x (λ q. omega arith)) ∙ sets-last xs (set l i x) (suc i) j a (omega arith)
+
   pub upto-more : (n : ℕ) (f : ℕ → List A) → upto (n + 1) f ≡ upto n f ++ f n
   unfolding upto
   upto-more n f = rw add-one
+
+  -- the first m pieces, and then n more, are the first m + n
+  pub upto-split : (m n : ℕ) (f : ℕ → List A) → upto m f ++ upto n (λ k. f (m + k)) ≡ upto (m + n) f
+  unfolding upto
+  upto-split m zero f = rw (add-zero, append-nil)
+  upto-split m (suc n) f =
+      sym (append-assoc (upto m f) (upto n (λ k. f (m + k))) (f (m + n)))
+      ∙ ap (λ (l : List A). l ++ f (m + n)) (upto-split m n f) ∙ rw add-suc
 
   module _ (k : ℕ) (f : ℕ → List A) (sized : (m : ℕ) → length (f m) ≡ k) where
     pub length-upto : (n : ℕ) → length (upto n f) ≡ k * n

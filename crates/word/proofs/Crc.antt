@@ -8,7 +8,8 @@ use native.Mathlib.Numerals.{add-one, one-add}
 use native.Mathlib.Omega.{arith}
 use lib.Pow.{pow-add, pow-pos, shl-shr, shr-shr, mod-pow-add, low}
 use lib.Dec.{ltb}
-use lib.ListN.{length, getD}
+use lib.ListN.{length, getD, drop, drop-of-length-le}
+use lib.Seq.{drop-cons}
 use borrow.Author.Tests.{lt-ltb, le-ltb, ltb-true, ltb-false}
 use Rattle.ground.specs.Answer.{refused, given}
 use Rattle.ground.specs.Xor.{_⊕_}
@@ -137,6 +138,16 @@ pub crc-append : (c : ℕ) (xs ys : List ℕ) → crc (crc c xs) ys ≡ crc c (x
 unfolding crc
 crc-append c [] ys = refl
 crc-append c (x ∷ xs) ys = crc-append (crcWord c x) xs ys
+
+-- a loop's turn, and its end
+module _ (c : ℕ) (ws : List ℕ) (i : ℕ) where
+  pub crc-turn : i < length ws → crc c (drop i ws) ≡ crc (crcWord c (getD ws i 0)) (drop (i + 1) ws)
+  unfolding crc
+  crc-turn h = ap (crc c) (drop-cons ws i 0 h) ∙ ap (λ (k : ℕ). crc (crcWord c (getD ws i 0)) (drop k ws)) (sym (add-one i))
+
+  pub crc-done : length ws ≤ i → crc c (drop i ws) ≡ c
+  unfolding crc
+  crc-done h = ap (crc c) (drop-of-length-le ws h)
 
 -- the register has eighteen bits
 bit-below : (c b : ℕ) → c < 2 ^ 18 → b < 2 → bitStep c b < 2 ^ 18
