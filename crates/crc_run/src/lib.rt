@@ -1,14 +1,8 @@
 // The CRC registers of one run of words, and of two side by side: the loops that are measured (rust/crc_bench.rs).
 ghost use mathlib.Core.Path.{_≡_};
-ghost use Prim.Native.Nat.{_+_, _*_, _^_, min};
+ghost use Prim.Native.Nat.{_+_, _*_, _^_};
 ghost use lib.ListN.{drop};
 ghost use Rattle.word.specs.Crcc.{crc};
-
-fn shorter(a: usize, b: usize) -> usize
-    ensures { λ r. ⌜ r ≡ min a b ⌝ }
-{
-    if a < b { a } else { b }
-}
 
 // The register after the words from an index on, of which twelve bits each count.
 pub fn crc_from(c: u32, words: &[u16], from: usize) -> u32
@@ -36,7 +30,7 @@ pub extern "C" fn brazulint_crc(words: &[u16]) -> u32
 pub extern "C" fn brazulint_crc_two(a: &[u16], b: &[u16]) -> u64
     ensures { λ r. ⌜ r ≡ crc 0 (now (b .entry)) * 2 ^ 32 + crc 0 (now (a .entry)) ⌝ }
 {
-    let n = shorter(a.len(), b.len());
+    let n = ground::least::least(a.len(), b.len());
     let mut first = 0;
     let mut second = 0;
     let mut i = 0;

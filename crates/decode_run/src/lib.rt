@@ -2,14 +2,7 @@
 use symbol::disparity::Disparity;
 ghost use mathlib.Core.Path.{_≡_};
 ghost use lib.ListN.{length};
-ghost use Prim.Native.Nat.{min};
 ghost use Rattle.decode_run.specs.Run.{bytesBy, bytesOf, over, start};
-
-fn shorter(a: usize, b: usize) -> usize
-    ensures { λ r. ⌜ r ≡ min a b ⌝ }
-{
-    if a < b { a } else { b }
-}
 
 // Decodes bytes until a symbol is no byte at the running disparity, which is kept as a bit of the entries, or either slice ends.
 // Answers how many.
@@ -17,7 +10,7 @@ pub fn decode_by(t: &[u16; 1024], m: u16, symbols: &[u16], bytes: &mut [u8]) -> 
     ensures count { λ r. ⌜ r ≡ length (bytesBy (now (t .entry)) m (now (symbols .entry)) (length (now (bytes .entry)))) ⌝ }
     ensures written { λ _. ⌜ now (bytes .exit) ≡ over (bytesBy (now (t .entry)) m (now (symbols .entry)) (length (now (bytes .entry)))) (now (bytes .entry)) ⌝ }
 {
-    let n = shorter(symbols.len(), bytes.len());
+    let n = ground::least::least(symbols.len(), bytes.len());
     let mut before = m;
     let mut i = 0;
     while i < n {

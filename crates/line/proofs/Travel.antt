@@ -28,10 +28,14 @@ module _ (l : ℕ) (p : 1 ≤ l) (q : l ≤ 1080) where
       rw travels (simp (rw travels at travels-active, e))
 
 -- an active line carries a line of a basic image, and that one travels on it
-pub carries : (n : ℕ) → isActive n ≡ true → isBasicLine (basicLineOf n) ≡ true
-carries n t = simp t (is-within 1 1080 (n - 41) (omega (arith, from-low 42 1121 n t)) (omega (arith, to-high 42 1121 n t)))
+module _ (n : ℕ) (t : isActive n ≡ true) where
+  basic : isBasicLine (n - 41) ≡ true
+  basic = is-within 1 1080 (n - 41) (omega (arith, from-low 42 1121 n t)) (omega (arith, to-high 42 1121 n t))
 
-pub back-and-there : (n : ℕ) → isActive n ≡ true → streamLineOf (basicLineOf n) ≡ n
-back-and-there n t =
-    let e : n - 41 + 41 ≡ n = omega (arith, from-low 42 1121 n t) in
-    simp t (simp (is-within 1 1080 (n - 41) (omega (arith, from-low 42 1121 n t)) (omega (arith, to-high 42 1121 n t)), e))
+  pub carries : isBasicLine (basicLineOf n) ≡ true
+  carries = simp t basic
+
+  pub back-and-there : streamLineOf (basicLineOf n) ≡ n
+  back-and-there =
+      let e : n - 41 + 41 ≡ n = omega (arith, from-low 42 1121 n t) in
+      simp t (simp (basic, e))

@@ -2,9 +2,11 @@
 -- Assumes nothing.
 use mathlib.Core.Path.{refl, sym}
 use mathlib.Core.List.{List}
-use Prim.Native.Nat.{ℕ, _+_, _≤_}
+use Prim.Native.Nat.{ℕ, _+_, _≤_, _<_}
 use native.Mathlib.Omega.{arith}
 use lib.Dec.{ltb}
+use borrow.Author.Tests.{ltb-true, ltb-false}
+use Rattle.io.specs.Digits.{Fewest}
 use lib.ListN.{length, length-append}
 use Rattle.ground.specs.Answer.{Answer, refused, given}
 use Rattle.ground.specs.Written.{upto}
@@ -23,6 +25,21 @@ places-most n =
     (λ u.
     on-test (ltb n 1000) (λ v. simp (t, u, v) (omega arith))
     (λ v. on-test (ltb n 10000) (λ w. simp (t, u, v, w) (omega arith)) (λ w. simp (t, u, v, w) (omega arith)))))
+
+-- no leading zero: they are the fewest digits that hold a number of sixteen bits
+pub places-fewest : (n : ℕ) → n < 65536 → Fewest 10 1 n (placesOf n)
+places-fewest n h =
+    on-test (ltb n 10) (λ t. simp t (omega arith, omega (arith, ltb-true n 10 t), λ l. absurd (omega arith)))
+    (λ t.
+    let a : 10 ≤ n = ltb-false n 10 t in
+    on-test (ltb n 100) (λ u. simp (t, u) (omega arith, omega (arith, ltb-true n 100 u), λ l. a))
+    (λ u.
+    let b : 100 ≤ n = ltb-false n 100 u in
+    on-test (ltb n 1000) (λ v. simp (t, u, v) (omega arith, omega (arith, ltb-true n 1000 v), λ l. b))
+    (λ v.
+    let c : 1000 ≤ n = ltb-false n 1000 v in
+    on-test (ltb n 10000) (λ w. simp (t, u, v, w) (omega arith, omega (arith, ltb-true n 10000 w), λ l. c))
+    (λ w. simp (t, u, v, w) (omega arith, omega arith, λ l. ltb-false n 10000 w)))))
 
 outcome-most : (a : Answer Repaired) → length (outcome a) ≤ 8
 outcome-most (given r) = omega arith

@@ -1,7 +1,7 @@
 // The text of a listing, in ASCII, put into a lent buffer.
 use word::repair::Repair;
 ghost use mathlib.Core.Path.{_≡_};
-ghost use Prim.Native.Nat.{_+_, _*_, _≤_, _<_, min};
+ghost use Prim.Native.Nat.{_+_, _*_, _≤_, _<_};
 ghost use lib.ListN.{length};
 ghost use lib.Seq.{sets};
 ghost use Rattle.io.specs.Counts.{Counts};
@@ -97,21 +97,15 @@ fn put_line(index: u16, w: u16, out: &mut [u8], at: usize) -> usize
     put_outcome(w, out, d)
 }
 
-fn least(a: usize, b: usize) -> usize
-    ensures { λ r. ⌜ r ≡ min a b ⌝ }
-{
-    if a < b { a } else { b }
-}
-
 // How many words there are from a word on, up to 2,048.
 fn line_count(len: usize, from: usize) -> usize
     ensures { λ r. ⌜ r ≡ lineCount len from ⌝ }
 {
-    let words = least(32768, len / 2);
+    let words = ground::least::least(32768, len / 2);
     if words < from {
         return 0;
     }
-    least(2048, words - from)
+    ground::least::least(2048, words - from)
 }
 
 fn word_of(low: u8, high: u8) -> u16
@@ -121,7 +115,7 @@ fn word_of(low: u8, high: u8) -> u16
 }
 
 // The lines of up to 2,048 words from a word on, at the start of the buffer. Answers where they end.
-pub fn put_lines(input: &[u8], from: usize, out: &mut [u8]) -> usize
+pub(crate) fn put_lines(input: &[u8], from: usize, out: &mut [u8]) -> usize
     requires { ⌜ 38912 ≤ length (now out) ⌝ }
     ensures counts { λ r. ⌜ Counts r (now (out .exit)) ⌝ }
     ensures end { λ r. ⌜ r ≡ length (listing (now (input .entry)) from) ⌝ }

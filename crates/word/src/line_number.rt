@@ -44,11 +44,11 @@ pub fn line_words(l: StreamLine) -> Numbered
 }
 
 // Whether a stream has the line, and both words are what is sent for it.
-fn are_words_of(l: StreamLine, ln0: u16, ln1: u16) -> bool
-    ensures { λ r. ⌜ r ≡ names ln0 ln1 (l .0) ⌝ }
+fn are_words_of(given: StreamLine, ln0: u16, ln1: u16) -> bool
+    ensures { λ r. ⌜ r ≡ names ln0 ln1 (given .0) ⌝ }
 {
-    if line::stream::is_line(l) {
-        let sent = words_of(l);
+    if line::stream::is_line(given) {
+        let sent = words_of(given);
         if sent.ln0 == ln0 {
             return sent.ln1 == ln1;
         }
@@ -56,10 +56,10 @@ fn are_words_of(l: StreamLine, ln0: u16, ln1: u16) -> bool
     false
 }
 
-// The line that two words name: the only one for which exactly these words are sent. A reader that takes number bits where it finds
-// them, without asking whether both words are one line's, is ruled out: out of LN0 of line 128 (800) and LN1 of line 127 (800) it makes
-// line 0. Here 800 800 names no line, and so does any word with a wrong guard bit, a reserved bit set, or bits of another line's word
-// that together exceed 1125.
+// The line that two words name: the only one for which exactly these words are sent. This rules out the reading by which a recital was
+// lost, that takes the number's bits where it finds them and puts them together: out of LN0 of line 128 (800) and LN1 of line 127 (800)
+// it makes line 0. Here 800 800 names no line, and neither do words with a wrong guard bit, with a reserved bit set, or with a number
+// above 1125. Both words are one stream's; that all streams say the same is the span reader's to ask.
 pub fn read_line_words(ln0: u16, ln1: u16) -> Named
     ensures { λ r. ⌜ paperNamed r ≡ namedOf ln0 ln1 ⌝ }
 {

@@ -20,11 +20,11 @@ Inv-loop a b n first₀ second₀ i₀ first second i =
 abbrev μ-loop : tie.MeasureT-loop
 μ-loop a b n first₀ second₀ i₀ first second i = n - i
 
-shorter-requires : tie.Need-shorter-requires Inv-loop μ-loop
-shorter-requires c κs = search needs
+least-requires : tie.Need-least-requires Inv-loop μ-loop
+least-requires c κs = search needs
 
 loop-holds : tie.Need-loop-holds Inv-loop μ-loop
-loop-holds c = (c .shorter .ensures, omega arith, refl, refl)
+loop-holds c = (c .least .ensures, omega arith, refl, refl)
 
 mul-crc-word : tie.Need-mul-crc-word Inv-loop μ-loop
 mul-crc-word c = search needs
@@ -86,7 +86,7 @@ returns c =
     let v = c .before .before .before .loop in
     let a = c .before .before .before .before .before .before .before .args .a .now in
     let b = c .before .before .before .before .before .before .before .args .b .now in
-    let n = c .before .before .before .before .shorter .result in
+    let n = c .before .before .before .before .least .result in
     let e : v .i ≡ n = omega (arith, v .inv .1) in
     ap₂ (λ (x y : ℕ). x * 4294967296 + y) (c .before .crc-from .ensures ∙ (rw e at (v .inv .3))) (c .crc-from2 .ensures ∙ (rw e at (v .inv .2)))
 
@@ -96,7 +96,7 @@ brazulint-crc-two-spec =
     (tie.spec
     Inv-loop
     μ-loop
-    shorter-requires
+    least-requires
     loop-holds
     mul-crc-word
     shared-slice-read-crc-word

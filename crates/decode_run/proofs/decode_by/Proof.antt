@@ -22,13 +22,13 @@ Inv-loop t m symbols bytes₀ n before₀ i₀ bytes before i =
 abbrev μ-loop : tie.MeasureT-loop
 μ-loop t m symbols bytes₀ n before₀ i₀ bytes before i = n - i
 
-shorter-requires : tie.Need-shorter-requires Inv-loop μ-loop
-shorter-requires c κs = search needs
+least-requires : tie.Need-least-requires Inv-loop μ-loop
+least-requires c κs = search needs
 
 loop-holds : tie.Need-loop-holds Inv-loop μ-loop
 loop-holds c =
     let a = c .before .before .before .args in
-    (c .shorter .ensures, omega arith, begin (a .t .now) (a .m) (a .symbols .now) (a .bytes .now))
+    (c .least .ensures, omega arith, begin (a .t .now) (a .m) (a .symbols .now) (a .bytes .now))
 
 mul-entry : tie.Need-mul-entry Inv-loop μ-loop
 mul-entry c = search needs
@@ -120,7 +120,7 @@ decode-by-spec =
     (tie.spec
     Inv-loop
     μ-loop
-    shorter-requires
+    least-requires
     loop-holds
     mul-entry
     shared-slice-read-entry

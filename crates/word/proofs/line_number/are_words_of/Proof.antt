@@ -19,23 +19,23 @@ words-of-requires c κs = search needs
 returns : tie.Need-returns
 returns c =
     let a = c .before .before .before .before .before .before .args in
-    let t : isLine (a .l .0) ≡ true = sym (c .before .before .before .before .before .is-line .ensures) ∙ c .before .before .before .before .if1 .taken in
+    let t : isLine (a .given .0) ≡ true = sym (c .before .before .before .before .before .is-line .ensures) ∙ c .before .before .before .before .if1 .taken in
     let w = c .before .before .before .words-of .ensures in
-    let p : ln0 (a .l .0) ≡ a .ln0 = sym (ap (λ (r : LineWords). r .ln0) w) ∙ c .before .if2 .taken in
-    let q : c .before .before .before .words-of .result .ln1 ≡ ln1 (a .l .0) = ap (λ (r : LineWords). r .ln1) w in
-    simp (t, eq-eqb (ln0 (a .l .0)) (a .ln0) p, q)
+    let p : ln0 (a .given .0) ≡ a .ln0 = sym (ap (λ (r : LineWords). r .ln0) w) ∙ c .before .if2 .taken in
+    let q : c .before .before .before .words-of .result .ln1 ≡ ln1 (a .given .0) = ap (λ (r : LineWords). r .ln1) w in
+    simp (t, eq-eqb (ln0 (a .given .0)) (a .ln0) p, q)
 
 returns-2 : tie.Need-returns-2
 returns-2 c =
     let a = c .before .before .before .before .before .args in
-    let t : isLine (a .l .0) ≡ true = sym (c .before .before .before .before .is-line .ensures) ∙ c .before .before .before .if1 .taken in
+    let t : isLine (a .given .0) ≡ true = sym (c .before .before .before .before .is-line .ensures) ∙ c .before .before .before .if1 .taken in
     let w = c .before .before .words-of .ensures in
-    let p : ln0 (a .l .0) ≡ a .ln0 → ⊥ = λ e. c .if2 .left (ap (λ (r : LineWords). r .ln0) w ∙ e) in
-    simp (t, ne-eqb (ln0 (a .l .0)) (a .ln0) p)
+    let p : ln0 (a .given .0) ≡ a .ln0 → ⊥ = λ e. c .if2 .left (ap (λ (r : LineWords). r .ln0) w ∙ e) in
+    simp (t, ne-eqb (ln0 (a .given .0)) (a .ln0) p)
 
 returns-3 : tie.Need-returns-3
 returns-3 c =
-    let t : isLine (c .before .before .args .l .0) ≡ false = sym (c .before .is-line .ensures) ∙ c .if1 .left in
+    let t : isLine (c .before .before .args .given .0) ≡ false = sym (c .before .is-line .ensures) ∙ c .if1 .left in
     simp t
 
 pub are-words-of-spec : {M : Type 1} → statement M
