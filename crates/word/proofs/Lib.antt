@@ -7,3 +7,4 @@ pub mod Papers
 pub mod Repairs
 pub mod Samples
 pub mod Timings
+pub mod Words

@@ -2,11 +2,12 @@
 -- Assumes nothing.
 use mathlib.Core.Path.{_≡_, refl, sym, ap, ap₂, _∙_}
 use mathlib.Core.Bool.{true, false, _&&_, true≢false}
+use mathlib.Core.Logic.{_⊎_}
 use mathlib.Core.Option.{some, none}
 use Prim.Native.Nat.{ℕ, _+_, _*_, _/_, _%_, _^_, _≤_, _<_}
 use native.Mathlib.Omega.{arith}
 use lib.Dec.{eqb}
-use borrow.Author.Tests.{eqb-true, eq-eqb, lt-ltb, le-ltb}
+use borrow.Author.Tests.{eqb-true, eq-eqb}
 use Rattle.ground.specs.Answer.{refused, given}
 use Rattle.ground.specs.Range.{within}
 use Rattle.ground.proofs.Cases.{on-test}
@@ -16,6 +17,7 @@ use Rattle.ground.proofs.Tests.{both-left, both-right}
 use Rattle.line.specs.Stream.{isLine}
 use Rattle.word.specs.LineNumber.{ln0, ln1, lineWords, numberedOf, names, lineOf, namedOf}
 use Rattle.word.specs.Word.{guarded}
+use Rattle.word.proofs.Words.{both-words, not-both-words}
 use Rattle.word.proofs.Guards.{guard-kept, guard-below}
 
 -- ---- the words of a number
@@ -98,7 +100,7 @@ module _ (n : ℕ) (p : 1 ≤ n) (q : n ≤ 1125) where
   read-sent =
       let e : numberIn (ln0 n) (ln1 n) ≡ n = number-again n (omega arith) in
       let s : lineOf (ln0 n) (ln1 n) ≡ some n = names-line (ln0 n) (ln1 n) (rw e sent-named) ∙ ap some e in
-      simp (lt-ltb (ln0 n) 4096 (ln0-below n), lt-ltb (ln1 n) 4096 (ln1-below n), s)
+      simp (both-words (ln0 n) (ln1 n) (omega (arith, ln0-below n)) (omega (arith, ln1-below n)), s)
 
 pub no-line-0 : numberedOf 0 ≡ refused 2 0
 unfolding within
@@ -110,8 +112,6 @@ no-line n h = let p : 1 ≤ n = omega arith in simp (is-above 1 1125 n p h)
 -- words that are not, both of them, what is sent for one of the lines 1 to 1125 name none
 pub meets-22 : (a b : ℕ) → a ≤ 4095 → b ≤ 4095 → ((n : ℕ) → 1 ≤ n → n ≤ 1125 → ln0 n ≡ a → ln1 n ≡ b → ⊥) → namedOf a b ≡ refused 22 0
 meets-22 a b h l f =
-    let p : a < 4096 = omega arith in
-    let q : b < 4096 = omega arith in
     let m = numberIn a b in
     let none-named : names a b m ≡ false =
     on-test (names a b m)
@@ -119,13 +119,10 @@ meets-22 a b h l f =
     absurd
     (f m (from-low 1 1125 m (named-is-line a b m t)) (to-high 1 1125 m (named-is-line a b m t)) (named-ln0 a b m t) (named-ln1 a b m t)))
     (λ t. t) in
-    simp (lt-ltb a 4096 p, lt-ltb b 4096 q, names-none a b none-named)
+    simp (both-words a b h l, names-none a b none-named)
 
-pub meets-7 : (a b : ℕ) → 4095 < a → namedOf a b ≡ refused 7 0
-meets-7 a b h = simp (le-ltb a 4096 h)
-
-pub meets-7-second : (a b : ℕ) → a ≤ 4095 → 4095 < b → namedOf a b ≡ refused 7 0
-meets-7-second a b h l = let p : a < 4096 = omega arith in simp (lt-ltb a 4096 p, le-ltb b 4096 l)
+pub meets-7 : (a b : ℕ) → (4095 < a) ⊎ (4095 < b) → namedOf a b ≡ refused 7 0
+meets-7 a b h = simp (not-both-words a b h)
 
 -- the lost recital: LN0 of line 128 and LN1 of line 127 are no line's words
 pub recital : namedOf (ln0 128) (ln1 127) ≡ refused 22 0

@@ -2,17 +2,19 @@
 -- Assumes nothing.
 use mathlib.Core.Path.{_≡_, refl, _∙_}
 use mathlib.Core.Bool.{Bool, true, _&&_}
+use mathlib.Core.Logic.{_⊎_}
 use mathlib.Core.Option.{some}
 use Prim.Native.Nat.{ℕ, _+_, _*_, _/_, _%_, _≤_, _<_}
 use native.Mathlib.Omega.{arith}
 use lib.Dec.{eqb}
-use borrow.Author.Tests.{eqb-true, eq-eqb, lt-ltb, le-ltb}
+use borrow.Author.Tests.{eqb-true, eq-eqb}
 use Rattle.ground.specs.Answer.{refused, given}
 use Rattle.ground.specs.Search.{firstBelow}
 use Rattle.ground.proofs.Searches.{is-only}
 use Rattle.ground.proofs.Tests.{both-left, both-right}
 use Rattle.word.specs.declared.bytes.ThreeBytes.{ThreeBytes}
 use Rattle.word.specs.Bytes.{bytesOf, sameBytes, wordsOf, packedOf}
+use Rattle.word.proofs.Words.{both-words, not-both-words}
 
 -- a byte and four bits above it
 high-bits : (x k : ℕ) → x < 256 → k < 16 → (x + k * 256) / 256 % 16 ≡ k
@@ -103,12 +105,9 @@ module _ (a b : ℕ) (p : a < 4096) (q : b < 4096) where
       let y : (b % 16 * 16 + a / 256 % 16) / 16 + b / 16 % 256 * 16 ≡ b = omega (arith, low, join-bits b q) in
       words-are (bytesOf a b) (are-bytes a b) ∙ rw (x, y)
 
-  -- two words are packed, and nothing else is
-  pub packs : packedOf a b ≡ given (bytesOf a b)
-  packs = simp (lt-ltb a 4096 p, lt-ltb b 4096 q)
+-- two words are packed, and nothing else is
+pub packs : (a b : ℕ) → a ≤ 4095 → b ≤ 4095 → packedOf a b ≡ given (bytesOf a b)
+packs a b p q = simp (both-words a b p q)
 
-pub pack-meets-7 : (a b : ℕ) → 4095 < a → packedOf a b ≡ refused 7 0
-pack-meets-7 a b h = simp (le-ltb a 4096 h)
-
-pub pack-meets-7-second : (a b : ℕ) → a ≤ 4095 → 4095 < b → packedOf a b ≡ refused 7 0
-pack-meets-7-second a b h l = let p : a < 4096 = omega arith in simp (lt-ltb a 4096 p, le-ltb b 4096 l)
+pub pack-meets-7 : (a b : ℕ) → (4095 < a) ⊎ (4095 < b) → packedOf a b ≡ refused 7 0
+pack-meets-7 a b h = simp (not-both-words a b h)

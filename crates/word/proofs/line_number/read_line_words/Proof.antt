@@ -2,13 +2,14 @@
 -- Assumes nothing.
 use mathlib.Core.Path.{_≡_, sym, ap, _∙_}
 use mathlib.Core.Bool.{true, false}
-use Prim.Native.Nat.{ℕ, _≤_, _<_}
+use mathlib.Core.Logic.{inl, inr}
+use Prim.Native.Nat.{ℕ, _≤_}
 use native.Mathlib.Omega.{arith}
-use borrow.Author.Tests.{lt-ltb}
 use Rattle.ground.specs.Answer.{Answer, given}
 use Rattle.line.specs.declared.stream.StreamLine.{StreamLine}
 use Rattle.word.specs.LineNumber.{names}
-use Rattle.word.proofs.LineNumbers.{numberIn, names-line, names-none, meets-7, meets-7-second}
+use Rattle.word.proofs.LineNumbers.{numberIn, names-line, names-none, meets-7}
+use Rattle.word.proofs.Words.{both-words}
 use borrow.Author.Needs.{needs}
 use Rattle.word.proofs.line_number.read_line_words.Statement.{statement}
 use Rattle.word.proofs.line_number.read_line_words.Tie as tie
@@ -17,14 +18,13 @@ returns : tie.Need-returns
 returns c =
     let a = c .before .args in
     let h : 4096 ≤ a .ln0 = omega arith in
-    sym (meets-7 (a .ln0) (a .ln1) h)
+    sym (meets-7 (a .ln0) (a .ln1) (inl h))
 
 returns-2 : tie.Need-returns-2
 returns-2 c =
     let a = c .before .before .args in
-    let p : a .ln0 ≤ 4095 = omega arith in
     let h : 4096 ≤ a .ln1 = omega arith in
-    sym (meets-7-second (a .ln0) (a .ln1) p h)
+    sym (meets-7 (a .ln0) (a .ln1) (inr h))
 
 mul-stream-line : tie.Need-mul-stream-line
 mul-stream-line c = search needs
@@ -47,9 +47,9 @@ returns-3 c =
     let n = c .before .before .stream-line .ensures in
     let t : names (a .ln0) (a .ln1) (numberIn (a .ln0) (a .ln1)) ≡ true =
     ap (names (a .ln0) (a .ln1)) (sym n) ∙ sym (c .before .are-words-of .ensures) ∙ c .if3 .taken in
-    let p : a .ln0 < 4096 = omega arith in
-    let q : a .ln1 < 4096 = omega arith in
-    simp (lt-ltb (a .ln0) 4096 p, lt-ltb (a .ln1) 4096 q, names-line (a .ln0) (a .ln1) t) (ap named n)
+    let p : a .ln0 ≤ 4095 = omega arith in
+    let q : a .ln1 ≤ 4095 = omega arith in
+    simp (both-words (a .ln0) (a .ln1) p q, names-line (a .ln0) (a .ln1) t) (ap named n)
 
 returns-4 : tie.Need-returns-4
 returns-4 c =
@@ -57,9 +57,9 @@ returns-4 c =
     let n = c .before .before .stream-line .ensures in
     let t : names (a .ln0) (a .ln1) (numberIn (a .ln0) (a .ln1)) ≡ false =
     ap (names (a .ln0) (a .ln1)) (sym n) ∙ sym (c .before .are-words-of .ensures) ∙ c .if3 .left in
-    let p : a .ln0 < 4096 = omega arith in
-    let q : a .ln1 < 4096 = omega arith in
-    simp (lt-ltb (a .ln0) 4096 p, lt-ltb (a .ln1) 4096 q, names-none (a .ln0) (a .ln1) t)
+    let p : a .ln0 ≤ 4095 = omega arith in
+    let q : a .ln1 ≤ 4095 = omega arith in
+    simp (both-words (a .ln0) (a .ln1) p q, names-none (a .ln0) (a .ln1) t)
 
 pub read-line-words-spec : {M : Type 1} → statement M
 read-line-words-spec =
