@@ -1,13 +1,14 @@
 -- Laws of exclusive or.
 -- Assumes nothing.
 use mathlib.Core.Path.{_≡_, refl, sym, ap, _∙_}
-use Prim.Native.Nat.{ℕ, zero, suc, _+_, _*_, _/_, _%_, _^_, _≤_, _<_}
-use native.Mathlib.Nat.{add-zero}
+use Prim.Native.Nat.{ℕ, zero, suc, _+_, _-_, _*_, _/_, _%_, _^_, _≤_, _<_}
+use native.Mathlib.Nat.{add-zero, pow-suc}
 use native.Mathlib.Omega.{arith}
 use lib.Arith.{bin-ind}
 use lib.Bits.{bitXor, differ, xor-step, xor-zero-l, xor-zero-r, xor-comm, xor-self, xor-lt, xor-shr, xor-mod, xor-block, xor-shifted}
 use lib.Count.{onesIn}
 use lib.Pow.{pow-pos}
+use Rattle.ground.specs.Bit.{inverted}
 use Rattle.ground.specs.Xor.{_⊕_}
 
 pub ⊕-is : (a b : ℕ) → bitXor a b ≡ a ⊕ b
@@ -122,3 +123,30 @@ ones-⊕ zero x y = omega arith
 ones-⊕ (suc b) x y =
     let ih = ones-⊕ b (x / 2) (y / 2) in
     rw (half x y, last x y) (omega (arith, digit-sum (x % 2) (y % 2)))
+
+-- an inverted bit is an exclusive or with that bit
+digit-one : (x : ℕ) → x < 2 → differ x 1 ≡ 1 - x
+digit-one zero h = refl
+digit-one (suc zero) h = refl
+digit-one (suc (suc x)) h = absurd (omega arith)
+
+digit-zero : (x : ℕ) → differ x 0 ≡ x
+digit-zero zero = refl
+digit-zero (suc x) = refl
+
+pub inverted-⊕ : (k n : ℕ) → inverted k n ≡ n ⊕ 2 ^ k
+unfolding inverted
+inverted-⊕ zero n = sym (split n 1 ∙ rw (⊕-zero, digit-one (n % 2) (omega arith)))
+inverted-⊕ (suc k) n =
+    let h : 2 ^ suc k / 2 ≡ 2 ^ k = rw pow-suc (omega arith) in
+    let l : 2 ^ suc k % 2 ≡ 0 = rw pow-suc (omega arith) in
+    sym (split n (2 ^ suc k) ∙ rw (h, l, digit-zero, ← (inverted-⊕ k (n / 2))))
+
+-- what a number with one bit inverted, and with two, differs in
+pub one-inverted : (k n : ℕ) → inverted k n ⊕ n ≡ 2 ^ k
+one-inverted k n = ap (λ (x : ℕ). x ⊕ n) (inverted-⊕ k n ∙ ⊕-comm n (2 ^ k)) ∙ ⊕-assoc (2 ^ k) n n ∙ rw (⊕-self, ⊕-zero)
+
+pub two-inverted : (j k n : ℕ) → inverted j (inverted k n) ⊕ n ≡ 2 ^ j ⊕ 2 ^ k
+two-inverted j k n =
+    ap (λ (x : ℕ). x ⊕ n) (inverted-⊕ j (inverted k n) ∙ ⊕-comm (inverted k n) (2 ^ j))
+    ∙ ⊕-assoc (2 ^ j) (inverted k n) n ∙ ap (λ (x : ℕ). 2 ^ j ⊕ x) (one-inverted k n)

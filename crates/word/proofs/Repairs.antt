@@ -20,7 +20,7 @@ use Rattle.ground.proofs.Bits.{inverted-below, ones-low}
 use Rattle.ground.proofs.Cases.{on-test}
 use Rattle.ground.proofs.Searches.{Nowhere, is-hit, is-miss}
 use Rattle.ground.proofs.Tests.{at-number}
-use Rattle.ground.proofs.Xors.{⊕-self, ⊕-middle, zero-⊕, ones-⊕}
+use Rattle.ground.proofs.Xors.{⊕-self, ⊕-middle, zero-⊕, ones-⊕, one-inverted, two-inverted}
 use Rattle.word.specs.Repair.{distance, legalWord, near, nearest, repairOf}
 use Rattle.word.specs.Timing.{timing}
 
@@ -90,6 +90,21 @@ one-near w i j h l p q =
 
 -- ---- wrong bits (004, 6.2)
 
+-- the distance says how many bits are wrong
+one-off : (k w : ℕ) → k < 12 → distance (inverted k w) w ≡ 1
+unfolding distance
+one-off k w l =
+    ap (onesIn 12) (one-inverted k w)
+    ∙ eqb-true (onesIn 12 (2 ^ k)) 1 (at-number 12 (λ k. eqb (onesIn 12 (2 ^ k)) 1) refl k l)
+
+two-off : (j k w : ℕ) → j < 12 → k < 12 → distance (inverted j (inverted k w)) w ≡ cond (eqb j k) 0 2
+unfolding distance _⊕_
+two-off j k w p q =
+    let test : ℕ → ℕ → Bool = λ j k. eqb (onesIn 12 (2 ^ j ⊕ 2 ^ k)) (cond (eqb j k) 0 2) in
+    ap (onesIn 12) (two-inverted j k w)
+    ∙ eqb-true (onesIn 12 (2 ^ j ⊕ 2 ^ k)) (cond (eqb j k) 0 2)
+    (at-number 12 (test j) (at-number 12 (λ j. everyBelow 12 (test j)) refl j p) k q)
+
 module _ (vh : ℕ) (h : vh < 4) where
   abbrev legal : ℕ
   legal = legalWord vh
@@ -97,23 +112,6 @@ module _ (vh : ℕ) (h : vh < 4) where
   legal-below : legal < 2 ^ 12
   unfolding timing
   legal-below = ltb-true legal 4096 (at-number 4 (λ vh. ltb (legalWord vh) 4096) refl vh h)
-
-  -- the distance says how many bits are wrong
-  one-off : (k : ℕ) → k < 12 → distance (inverted k legal) legal ≡ 1
-  unfolding distance timing _⊕_ inverted
-  one-off k l =
-      let test : ℕ → ℕ → Bool = λ vh k. eqb (distance (inverted k (legalWord vh)) (legalWord vh)) 1 in
-      eqb-true (distance (inverted k legal) legal) 1 (at-number 12 (test vh) (at-number 4 (λ vh. everyBelow 12 (test vh)) refl vh h) k l)
-
-  two-off : (j k : ℕ) → j < 12 → k < 12 → distance (inverted j (inverted k legal)) legal ≡ cond (eqb j k) 0 2
-  unfolding distance timing _⊕_ inverted
-  two-off j k p q =
-      let test : ℕ → ℕ → ℕ → Bool =
-      λ vh j k. eqb (distance (inverted j (inverted k (legalWord vh))) (legalWord vh)) (cond (eqb j k) 0 2) in
-      eqb-true (distance (inverted j (inverted k legal)) legal) (cond (eqb j k) 0 2)
-      (at-number 12 (test vh j)
-      (at-number 12 (λ j. everyBelow 12 (test vh j)) (at-number 4 (λ vh. everyBelow 12 (λ j. everyBelow 12 (test vh j))) refl vh h) j p)
-      k q)
 
   near-legal : (w : ℕ) → w < 4096 → distance w legal ≤ 1 → repairOf w ≡ given (record { word = legal; distance = distance w legal })
   near-legal w l d =
@@ -135,7 +133,7 @@ module _ (vh : ℕ) (h : vh < 4) where
 
   pub one-wrong : (k : ℕ) → k < 12 → repairOf (inverted k legal) ≡ given (record { word = legal; distance = 1 })
   one-wrong k l =
-      let e = one-off k l in
+      let e = one-off k legal l in
       rw e at (near-legal (inverted k legal) (inverted-below 12 k legal l legal-below) (omega (arith, e)))
 
   -- two wrong: no legal word is near
@@ -144,7 +142,7 @@ module _ (vh : ℕ) (h : vh < 4) where
       let l : j < 12 = omega arith in
       let n : j ≡ k → ⊥ = λ e. omega arith in
       let w = inverted j (inverted k legal) in
-      let e : distance w legal ≡ 2 = two-off j k l q ∙ simp (ne-eqb j k n) in
+      let e : distance w legal ≡ 2 = two-off j k legal l q ∙ simp (ne-eqb j k n) in
       lost w (inverted-below 12 j (inverted k legal) l (inverted-below 12 k legal q legal-below))
       (record { never = λ i u v. lt-leb (distance w (legalWord i)) 1 (far i v w e) })
     where
