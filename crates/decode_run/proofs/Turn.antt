@@ -8,7 +8,8 @@ use native.Mathlib.Numerals.{add-one}
 use native.Mathlib.Omega.{arith}
 use borrow.Author.Tests.{lt-ltb, le-ltb}
 use lib.ListN.{length, getD, take, drop, set, length-set, take-append-drop, drop-of-length-le}
-use lib.Seq.{length-take-le, drop-cons, drop-drop, drop-set-lt, take-suc-set}
+use lib.Seq.{length-take-le, drop-drop, drop-set-lt, take-suc-set}
+use Rattle.ground.proofs.Reading.{next-left}
 use Rattle.symbol.specs.Decoder.{entryIn, legalBy, afterBy}
 use Rattle.decode_run.specs.Run.{over, bytesBy}
 
@@ -79,7 +80,7 @@ module _ (t : List ℕ) (m : ℕ) (symbols bytes₀ : List ℕ) where
       head =
           let q : length bytes₀ - i ≡ suc (length bytes₀ - (i + 1)) = omega arith in
           ap₂ (λ (ss : List ℕ) (n : ℕ). bytesBy t before ss n)
-          (drop-cons symbols i 0 h ∙ ap (λ (k : ℕ). getD symbols i 0 ∷ drop k symbols) (sym (add-one i))) q
+          (next-left symbols i 0 h) q
 
       pub no-byte : 256 ≤ e % 512 → Done t m symbols bytes₀ bytes i
       no-byte k = finish (head ∙ no-byte-first t before (getD symbols i 0) (drop (i + 1) symbols) (length bytes₀ - (i + 1)) k)

@@ -2,6 +2,7 @@ pub mod Answers
 pub mod Bits
 pub mod Cases
 pub mod Ranges
+pub mod Reading
 pub mod Searches
 pub mod Tests
 pub mod Writing

@@ -1,7 +1,7 @@
 -- What the test of a range is, and what it tells.
 -- Assumes nothing.
-use mathlib.Core.Path.{_≡_}
-use mathlib.Core.Bool.{true, false}
+use mathlib.Core.Path.{_≡_, ap}
+use mathlib.Core.Bool.{Bool, true, false, _&&_}
 use Prim.Native.Nat.{ℕ, _≤_, _<_}
 use lib.Dec.{leb}
 use borrow.Author.Tests.{le-leb, lt-leb, leb-true}
@@ -15,7 +15,7 @@ module _ (low high n : ℕ) where
 
   pub is-below : n < low → within low high n ≡ false
   unfolding within
-  is-below p = simp (lt-leb low n p)
+  is-below p = ap (λ (t : Bool). t && leb n high) (lt-leb low n p)
 
   pub is-above : low ≤ n → high < n → within low high n ≡ false
   unfolding within

@@ -12,7 +12,7 @@ use Rattle.ground.proofs.Answers.{told-again}
 use Rattle.ground.proofs.Cases.{on-test}
 use Rattle.ground.proofs.Ranges.{is-within, is-below, is-above, from-low, to-high}
 use Rattle.line.specs.declared.stream.StreamLine.{StreamLine}
-use Rattle.line.specs.Stream.{isLine, vOf, lineAfter, lineBefore}
+use Rattle.line.specs.Stream.{isLine, isActive, vOf, lineAfter, lineBefore}
 
 -- a line is told by its number
 pub line-one-to-one : OneToOne (λ (l : StreamLine). l .0)
@@ -20,13 +20,13 @@ line-one-to-one = told-again (λ (n : ℕ). record { 0 = n }) (λ l. refl)
 
 -- table 5, as it is printed: V of each line
 pub active : (n : ℕ) → 42 ≤ n → n ≤ 1121 → vOf n ≡ false
-active n p q = simp (is-within 42 1121 n p q)
+active n p q = let t : isActive n ≡ true = is-within 42 1121 n p q in simp t
 
 pub blanking-before : (n : ℕ) → n ≤ 41 → vOf n ≡ true
-blanking-before n p = let h : n < 42 = omega arith in simp (is-below 42 1121 n h)
+blanking-before n p = let t : isActive n ≡ false = is-below 42 1121 n (omega arith) in simp t
 
 pub blanking-behind : (n : ℕ) → 1122 ≤ n → vOf n ≡ true
-blanking-behind n p = let h : 42 ≤ n = omega arith in simp (is-above 42 1121 n h p)
+blanking-behind n p = let t : isActive n ≡ false = is-above 42 1121 n (omega arith) p in simp t
 
 -- the line after 1125 is 1, and the line before 1 is 1125
 pub after-last : lineAfter 1125 ≡ 1

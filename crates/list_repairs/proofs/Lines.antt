@@ -17,29 +17,28 @@ use Rattle.word.specs.Repair.{repairOf}
 use Rattle.list_repairs.specs.Text.{placesOf, outcome, lineText, wordAt, listed}
 use Rattle.list_repairs.proofs.Digits.{length-digits, Put, then, put-as}
 
+-- a number of sixteen bits by how many digits it takes
+by-places : (P : ℕ → Type 0) (n : ℕ) → (n < 10 → P 1) → (10 ≤ n → n < 100 → P 2) → (100 ≤ n → n < 1000 → P 3)
+    → (1000 ≤ n → n < 10000 → P 4) → (10000 ≤ n → P 5) → P (placesOf n)
+by-places P n one two three four five =
+    on-test (ltb n 10) (λ t. simp t (one (ltb-true n 10 t)))
+    (λ t.
+    on-test (ltb n 100) (λ u. simp (t, u) (two (ltb-false n 10 t) (ltb-true n 100 u)))
+    (λ u.
+    on-test (ltb n 1000) (λ v. simp (t, u, v) (three (ltb-false n 100 u) (ltb-true n 1000 v)))
+    (λ v.
+    on-test (ltb n 10000) (λ w. simp (t, u, v, w) (four (ltb-false n 1000 v) (ltb-true n 10000 w)))
+    (λ w. simp (t, u, v, w) (five (ltb-false n 10000 w))))))
+
 pub places-most : (n : ℕ) → placesOf n ≤ 5
 places-most n =
-    on-test (ltb n 10) (λ t. simp t (omega arith))
-    (λ t.
-    on-test (ltb n 100) (λ u. simp (t, u) (omega arith))
-    (λ u.
-    on-test (ltb n 1000) (λ v. simp (t, u, v) (omega arith))
-    (λ v. on-test (ltb n 10000) (λ w. simp (t, u, v, w) (omega arith)) (λ w. simp (t, u, v, w) (omega arith)))))
+    by-places (λ k. k ≤ 5) n (λ a. omega arith) (λ a b. omega arith) (λ a b. omega arith) (λ a b. omega arith) (λ a. omega arith)
 
--- no leading zero: they are the fewest digits that hold a number of sixteen bits
+-- no leading zero: they are the fewest digits that hold the number
 pub places-fewest : (n : ℕ) → n < 65536 → Fewest 10 1 n (placesOf n)
 places-fewest n h =
-    on-test (ltb n 10) (λ t. simp t (omega arith, omega (arith, ltb-true n 10 t), λ l. absurd (omega arith)))
-    (λ t.
-    let a : 10 ≤ n = ltb-false n 10 t in
-    on-test (ltb n 100) (λ u. simp (t, u) (omega arith, omega (arith, ltb-true n 100 u), λ l. a))
-    (λ u.
-    let b : 100 ≤ n = ltb-false n 100 u in
-    on-test (ltb n 1000) (λ v. simp (t, u, v) (omega arith, omega (arith, ltb-true n 1000 v), λ l. b))
-    (λ v.
-    let c : 1000 ≤ n = ltb-false n 1000 v in
-    on-test (ltb n 10000) (λ w. simp (t, u, v, w) (omega arith, omega (arith, ltb-true n 10000 w), λ l. c))
-    (λ w. simp (t, u, v, w) (omega arith, omega arith, λ l. ltb-false n 10000 w)))))
+    by-places (Fewest 10 1 n) n (λ a. (omega arith, a, λ l. absurd (omega arith))) (λ a b. (omega arith, b, λ l. a))
+    (λ a b. (omega arith, b, λ l. a)) (λ a b. (omega arith, b, λ l. a)) (λ a. (omega arith, omega arith, λ l. a))
 
 outcome-most : (a : Answer Repaired) → length (outcome a) ≤ 8
 outcome-most (given r) = omega arith

@@ -1,7 +1,7 @@
 -- The CRC of a run: a word at a time, run after run, and what the register is below.
 -- Assumes nothing.
 use mathlib.Core.Path.{_≡_, refl, sym, ap, ap₂, _∙_}
-use mathlib.Core.List.{List, [], _∷_, _++_}
+use mathlib.Core.List.{List, [], _∷_, _++_, map}
 use Prim.Native.Nat.{ℕ, zero, suc, _+_, _*_, _/_, _%_, _^_, _≤_, _<_}
 use native.Mathlib.Nat.{add-zero, zero-mul, mul-assoc, pow-suc}
 use native.Mathlib.Numerals.{add-one, one-add}
@@ -9,15 +9,25 @@ use native.Mathlib.Omega.{arith}
 use lib.Pow.{pow-add, pow-pos, shl-shr, shr-shr, mod-pow-add, low}
 use lib.Dec.{ltb}
 use lib.ListN.{length, getD, drop, drop-of-length-le}
-use lib.Seq.{drop-cons}
 use borrow.Author.Tests.{lt-ltb, le-ltb, ltb-true, ltb-false}
 use Rattle.ground.specs.Answer.{refused, given}
 use Rattle.ground.specs.Xor.{_⊕_}
 use Rattle.ground.proofs.Cases.{on-test}
+use Rattle.ground.proofs.Reading.{next-left}
 use Rattle.ground.proofs.Xors.{⊕-zero, ⊕-assoc, ⊕-comm, ⊕-middle, ⊕-below, ⊕-div, ⊕-mod, ⊕-times, ⊕-shifted}
 use Rattle.word.specs.Crcc.{taps, bitStep, bitSteps, crcWord, crc, crccFrom, crccWords}
 use Rattle.word.specs.Word.{guarded}
 use Rattle.word.proofs.Guards.{guard-kept}
+
+-- The CRCC words of the words 001, 100, 800 and FFF alone, as polynomial long division gives them (rust/crcc_vectors.rs).
+pub long-division : map (λ (w : ℕ). crccWords (crc 0 (w ∷ []))) (0x001 ∷ 0x100 ∷ 0x800 ∷ 0xFFF ∷ [])
+    ≡ record { crcc0 = 0x918; crcc1 = 0x800 }
+    ∷ record { crcc0 = 0x800; crcc1 = 0x88C }
+    ∷ record { crcc0 = 0x800; crcc1 = 0x460 }
+    ∷ record { crcc0 = 0x708; crcc1 = 0x7BC }
+    ∷ []
+unfolding crc _⊕_ guarded
+long-division = refl
 
 -- what X^5 + X^4 + 1 makes of a number of bits: each comes back at its own place, one higher and five higher
 spread : ℕ → ℕ
@@ -143,7 +153,7 @@ crc-append c (x ∷ xs) ys = crc-append (crcWord c x) xs ys
 module _ (c : ℕ) (ws : List ℕ) (i : ℕ) where
   pub crc-turn : i < length ws → crc c (drop i ws) ≡ crc (crcWord c (getD ws i 0)) (drop (i + 1) ws)
   unfolding crc
-  crc-turn h = ap (crc c) (drop-cons ws i 0 h) ∙ ap (λ (k : ℕ). crc (crcWord c (getD ws i 0)) (drop k ws)) (sym (add-one i))
+  crc-turn h = ap (crc c) (next-left ws i 0 h)
 
   pub crc-done : length ws ≤ i → crc c (drop i ws) ≡ c
   unfolding crc

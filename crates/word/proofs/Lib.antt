@@ -1,9 +1,9 @@
+pub mod Agree
 pub mod Crc
 pub mod Guards
 pub mod LineNumbers
 pub mod OneToOne
 pub mod Packing
-pub mod Papers
 pub mod Repairs
 pub mod Samples
 pub mod Timings

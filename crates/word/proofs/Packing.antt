@@ -58,11 +58,11 @@ module _ (t : ThreeBytes) (h : AreBytes t) where
   whole : bytesOf wordA wordB ≡ t
   unfolding bytesOf
   whole =
-      let a : wordA % 256 ≡ t .first = omega (arith, h .first-below) in
+      let a : bytesOf wordA wordB .first ≡ t .first = omega (arith, h .first-below) in
       let low : wordB % 16 ≡ t .second / 16 = omega (arith, h .second-below) in
       let high : wordA / 256 % 16 ≡ t .second % 16 = high-bits (t .first) (t .second % 16) (h .first-below) (omega arith) in
-      let b : wordB % 16 * 16 + wordA / 256 % 16 ≡ t .second = omega (arith, low, high) in
-      let c : wordB / 16 % 256 ≡ t .third = high-byte (t .second / 16) (t .third) (omega (arith, h .second-below)) (h .third-below) in
+      let b : bytesOf wordA wordB .second ≡ t .second = omega (arith, low, high) in
+      let c : bytesOf wordA wordB .third ≡ t .third = high-byte (t .second / 16) (t .third) (omega (arith, h .second-below)) (h .third-below) in
       rw (a, b, c)
 
   found : test at ≡ true

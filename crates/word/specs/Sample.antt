@@ -9,7 +9,8 @@ use Rattle.ground.specs.Range.{within}
 abbrev pub allowed : ℕ → ℕ → Bool
 allowed depth x = cond (eqb depth 10) (within 4 1019 x) (cond (eqb depth 12) (within 16 4079 x) false)
 
--- at ten bits a sample is shifted left by two, the low bits zero
+-- 004, 6.1: at ten bits a sample is shifted left by two, the low bits zero; at twelve it is the word itself. A word has twelve bits, so
+-- of a number that has more, and may not be sent, the low ones count
 abbrev pub sampleWord : ℕ → ℕ → ℕ
 sampleWord depth x = cond (eqb depth 10) (x * 4) x % 4096
 

@@ -1,5 +1,5 @@
 -- The values of document 01, "Values to hold against it", that are to be proved (P): what the definitions give, beside what the paper
--- says. The law `agree` (proofs/Papers) says that the two columns are the same. Numbers are hexadecimal where the paper's are.
+-- says. The law `agree` (proofs/Agree) says that the two columns are the same. Numbers are hexadecimal where the paper's are.
 -- Assumes nothing.
 use Prim.Native.Nat.{ℕ}
 use mathlib.Core.Bool.{Bool, true, false}

@@ -3,10 +3,10 @@
 use Prim.Native.Nat.{ℕ, suc, _+_, _-_, _≤_, _<_}
 use borrow.Author.Needs.{needs}
 use lib.ListN.{length, getD, set, drop, length-set, drop-of-length-le}
-use lib.Seq.{sets, drop-cons}
-use mathlib.Core.Path.{_≡_, refl, sym, ap, ap₂, _∙_}
+use lib.Seq.{sets}
+use Rattle.ground.proofs.Reading.{next-left}
+use mathlib.Core.Path.{_≡_, refl, sym, ap, _∙_}
 use native.Mathlib.Nat.{add-zero}
-use native.Mathlib.Numerals.{add-one}
 use native.Mathlib.Omega.{arith}
 use Rattle.list_repairs.proofs.text.put_text.Statement.{statement}
 use Rattle.list_repairs.proofs.text.put_text.Tie as tie
@@ -48,8 +48,8 @@ loop-again c =
       omega arith,
       v .inv .1,
       length-set (v .out) (at + v .i) (getD text (v .i) 0) ∙ v .inv .2,
-      ap₂ (λ (p q : ℕ). sets (set (v .out) (at + v .i) (getD text (v .i) 0)) p (drop q text)) e (add-one (v .i))
-          ∙ ap (sets (v .out) (at + v .i)) (sym (drop-cons text (v .i) 0 h))
+      ap (λ (p : ℕ). sets (set (v .out) (at + v .i) (getD text (v .i) 0)) p (drop (v .i + 1) text)) e
+          ∙ ap (sets (v .out) (at + v .i)) (sym (next-left text (v .i) 0 h))
           ∙ v .inv .3,
     )
 

@@ -1,13 +1,11 @@
 -- `word::crcc::crcc_of` meets its contract: what is left, from the register so far, is the whole from 0.
 -- Assumes nothing.
 use mathlib.Core.Path.{_≡_, refl, sym, ap, _∙_}
-use mathlib.Core.List.{List, _∷_}
 use Prim.Native.Nat.{ℕ, _+_, _-_, _≤_, _<_}
-use native.Mathlib.Numerals.{add-one}
 use native.Mathlib.Omega.{arith}
 use lib.ListN.{length, getD, drop, drop-of-length-le}
-use lib.Seq.{drop-cons}
 use borrow.Author.Needs.{needs}
+use Rattle.ground.proofs.Reading.{next-left}
 use Rattle.word.specs.Crcc.{crccFrom}
 use Rattle.word.proofs.Crc.{none-left, bad-word, good-word}
 use Rattle.word.proofs.crcc.crcc_of.Statement.{statement}
@@ -18,12 +16,6 @@ Inv-loop words c₀ i₀ c i = (i ≤ length words) × (crccFrom c (drop i words
 
 abbrev μ-loop : tie.MeasureT-loop
 μ-loop words c₀ i₀ c i = length words - i
-
--- the word at i stands first in what is left
-first : (words : List ℕ) (i c : ℕ) → i < length words
-    → crccFrom c (drop i words) ≡ crccFrom c (getD words i 0 ∷ drop (i + 1) words)
-first words i c h =
-    ap (crccFrom c) (drop-cons words i 0 h ∙ ap (λ (k : ℕ). getD words i 0 ∷ drop k words) (sym (add-one i)))
 
 loop-holds : tie.Need-loop-holds Inv-loop μ-loop
 loop-holds c = (omega arith, refl)
@@ -40,7 +32,7 @@ returns c =
     let v = c .before .before .before .loop in
     let h : v .i < length words = omega arith in
     let w : 4096 ≤ getD words (v .i) 0 = omega arith in
-    sym (sym (v .inv .1) ∙ first words (v .i) (v .c) h ∙ bad-word (v .c) (getD words (v .i) 0) (drop (v .i + 1) words) w)
+    sym (sym (v .inv .1) ∙ ap (crccFrom (v .c)) (next-left words (v .i) 0 h) ∙ bad-word (v .c) (getD words (v .i) 0) (drop (v .i + 1) words) w)
 
 crc-word-requires : tie.Need-crc-word-requires Inv-loop μ-loop
 crc-word-requires c κs = search needs
@@ -59,7 +51,7 @@ loop-again c =
     let w : getD words (v .i) 0 < 4096 = omega arith in (
       omega arith,
       ap (λ (k : ℕ). crccFrom k (drop (v .i + 1) words)) (c .crc-word .ensures)
-          ∙ sym (first words (v .i) (v .c) h ∙ good-word (v .c) (getD words (v .i) 0) (drop (v .i + 1) words) w)
+          ∙ sym (ap (crccFrom (v .c)) (next-left words (v .i) 0 h) ∙ good-word (v .c) (getD words (v .i) 0) (drop (v .i + 1) words) w)
           ∙ v .inv .1,
     )
 

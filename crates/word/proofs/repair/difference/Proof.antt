@@ -3,6 +3,7 @@
 use mathlib.Core.Path.{_≡_, sym, _∙_}
 use Prim.Native.Nat.{_%_}
 use lib.Bits.{bitXor}
+use native.Mathlib.Omega.{arith}
 use borrow.Author.Needs.{needs}
 use borrow.Author.Tests.{eq-eqb, ne-eqb}
 use Rattle.word.proofs.Repairs.{nearness, difference-is}
@@ -12,7 +13,8 @@ use Rattle.word.proofs.repair.difference.Tie as tie
 returns : tie.Need-returns
 returns c =
     let a = c .before .args in
-    let e : nearness (bitXor (a .a) (a .b) % 4096) ≡ 0 = simp (eq-eqb _ _ (c .if1 .taken)) in
+    let z : bitXor (a .a) (a .b) % 4096 ≡ 0 = omega (arith, c .if1 .taken) in
+    let e : nearness (bitXor (a .a) (a .b) % 4096) ≡ 0 = simp (eq-eqb (bitXor (a .a) (a .b) % 4096) 0 z) in
     sym e ∙ difference-is (a .a) (a .b)
 
 sub-if2 : tie.Need-sub-if2
