@@ -1,7 +1,8 @@
--- Two answers that a one-to-one reading sends to one value are the same, and how a reading is shown to be one to one.
+-- Two answers that a one-to-one reading sends to one value are the same, how a reading is shown to be one to one, and what a refusal leaves.
 -- Assumes nothing.
 use mathlib.Core.Path.{_≡_, _∙_, sym, ap}
-use Rattle.ground.specs.Answer.{OneToOne}
+use Prim.Native.Nat.{ℕ}
+use Rattle.ground.specs.Answer.{Answer, refused, given, unlessRefused, OneToOne}
 
 pub same-answer : {A B : Type 0} {f : A → B} {a b : A} {x : B} → OneToOne f → f a ≡ x → f b ≡ x → a ≡ b
 same-answer {a} {b} h p q = h a b (p ∙ sym q)
@@ -9,3 +10,11 @@ same-answer {a} {b} h p q = h a b (p ∙ sym q)
 -- a reading from which the answer can be told again
 pub told-again : {A B : Type 0} {f : A → B} (g : B → A) → ((a : A) → g (f a) ≡ a) → OneToOne f
 told-again g e a b p = sym (e a) ∙ ap g p ∙ e b
+
+-- a lent buffer after a refusal, and after a good call
+module _ {A B : Type 0} {r : Answer A} (entry made : B) where
+  pub when-refused : {number place : ℕ} → r ≡ refused number place → entry ≡ unlessRefused r entry made
+  when-refused e = ap (λ (x : Answer A). unlessRefused x entry made) (sym e)
+
+  pub when-given : {a : A} → r ≡ given a → made ≡ unlessRefused r entry made
+  when-given e = ap (λ (x : Answer A). unlessRefused x entry made) (sym e)

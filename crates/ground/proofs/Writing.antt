@@ -8,7 +8,7 @@ use native.Mathlib.Numerals.{add-one}
 use native.Mathlib.Omega.{arith}
 use mathlib.Core.Logic.{⊎-elim}
 use lib.ListN.{length, getD, set, length-append, List·getD-append}
-use lib.Seq.{sets, set-comm, getD-append-add, ext-getD}
+use lib.Seq.{sets, sets-eq, set-comm, drop-length, getD-append-add, ext-getD}
 use lib.Dec.{eqb}
 use borrow.Author.Tests.{eqb-true}
 use mathlib.Core.Bool.{true}
@@ -27,6 +27,12 @@ module _ {A : Type 0} where
   sets-last [] l i j a e = let q : j ≡ i = omega arith in rw q
   sets-last (x ∷ xs) l i j a e =
       ap (λ (t : List A). sets t (suc i) xs) (set-comm l j i a x (λ q. omega arith)) ∙ sets-last xs (set l i x) (suc i) j a (omega arith)
+
+  -- a run of stores that is as long as the list leaves the run alone
+  pub sets-whole : (l xs : List A) → length xs ≡ length l → sets l 0 xs ≡ xs
+  sets-whole l xs e =
+      let end : 0 + length xs ≡ length l = omega arith in
+      sets-eq xs l 0 (omega arith) ∙ rw (end, drop-length) (append-nil xs)
 
   pub upto-more : (n : ℕ) (f : ℕ → List A) → upto (n + 1) f ≡ upto n f ++ f n
   unfolding upto

@@ -29,6 +29,11 @@ abbrev pub checked : {A : Type 0} → List Row → A → Answer A
 checked [] a = given a
 checked (r ∷ rs) a = orElse (r .fails) (r .number) (checked rs a)
 
+-- a lent buffer after a call whose refusals leave it as it was: what stood there, or what the call makes of it
+abbrev pub unlessRefused : {A B : Type 0} → Answer A → B → B → B
+unlessRefused (refused number place) entry made = entry
+unlessRefused (given a) entry made = made
+
 -- a reading of answers that tells any two of them apart, so that a promise about the reading fixes the answer
 abbrev pub OneToOne : {A B : Type 0} → (A → B) → Type 0
 OneToOne {A} f = (a b : A) → f a ≡ f b → a ≡ b

@@ -1,0 +1,4 @@
+pub mod Choice
+pub mod Division
+pub mod Place
+pub mod Row

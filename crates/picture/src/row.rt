@@ -1,0 +1,8 @@
+// What dividing a row and joining rows answer.
+pub enum Copied {
+    Done,
+    // 3: an input of the wrong length.
+    WrongInput,
+    // 4: an output of the wrong length.
+    WrongOutput,
+}
