@@ -1,6 +1,6 @@
 -- Dividing and joining puts each sample back, and it divides as the places say.
 -- Assumes nothing.
-use mathlib.Core.Path.{_≡_, sym, ap, _∙_}
+use mathlib.Core.Path.{_≡_, sym, ap, subst, _∙_}
 use mathlib.Core.List.{List}
 use Prim.Native.Nat.{ℕ, _+_, _*_, _/_, _%_, _≤_, _<_}
 use native.Mathlib.Omega.{arith}
@@ -23,28 +23,28 @@ module _ (n : ℕ) (row : List ℕ) (e : length row ≡ 2 * n) where
   both : List ℕ
   both = joined n (divided 0 n row) (divided 1 n row)
 
-  back : (i : ℕ) → i < length both → getD both i 0 ≡ getD row i 0
-  unfolding both
+  SameAt : ℕ → Type 0
+  SameAt i = getD both i 0 ≡ getD row i 0
+
+  even : (j : ℕ) → j < n → SameAt (2 * j + 0)
+  unfolding both SameAt
+  even j p = first-joined (divided 0 n row) (divided 1 n row) n j p ∙ sample-divided row 0 n j p
+
+  odd : (j : ℕ) → j < n → SameAt (2 * j + 1)
+  unfolding both SameAt
+  odd j p = second-joined (divided 0 n row) (divided 1 n row) n j p ∙ sample-divided row 1 n j p
+
+  back : (i : ℕ) → i < 2 * n → SameAt i
   back i p =
-      let l : length both ≡ 2 * n = length-joined (divided 0 n row) (divided 1 n row) n in
-      let q : i / 2 < n = omega arith in
       on-test (eqb (i % 2) 0)
-      (λ t.
-      let even : i ≡ 2 * (i / 2) + 0 = omega (arith, eqb-true (i % 2) 0 t) in
-      ap (λ (k : ℕ). getD both k 0) even
-      ∙ first-joined (divided 0 n row) (divided 1 n row) n (i / 2) q
-      ∙ sample-divided row 0 n (i / 2) q
-      ∙ ap (λ (k : ℕ). getD row k 0) (sym even))
-      (λ t.
-      let odd : i ≡ 2 * (i / 2) + 1 = omega (arith, eqb-false (i % 2) 0 t) in
-      ap (λ (k : ℕ). getD both k 0) odd
-      ∙ second-joined (divided 0 n row) (divided 1 n row) n (i / 2) q
-      ∙ sample-divided row 1 n (i / 2) q
-      ∙ ap (λ (k : ℕ). getD row k 0) (sym odd))
+      (λ t. subst SameAt (omega (arith, eqb-true (i % 2) 0 t)) (even (i / 2) (omega arith)))
+      (λ t. subst SameAt (omega (arith, eqb-false (i % 2) 0 t)) (odd (i / 2) (omega arith)))
 
   pub join-split : joined n (divided 0 n row) (divided 1 n row) ≡ row
-  unfolding both
-  join-split = ext-getD 0 both row (length-joined (divided 0 n row) (divided 1 n row) n ∙ sym e) back
+  unfolding both SameAt
+  join-split =
+      let l = length-joined (divided 0 n row) (divided 1 n row) n in
+      ext-getD 0 both row (l ∙ sym e) (λ i p. back i (omega (arith, l)))
 
 -- dividing what was joined is the two rows
 module _ (n : ℕ) (first second : List ℕ) where
