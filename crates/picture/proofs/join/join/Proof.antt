@@ -27,7 +27,7 @@ returns-3 c =
     (sym bad, when-refused _ _ bad)
 
 merge-requires : tie.Need-merge-requires
-merge-requires c κs = search needs
+merge-requires c κs = (omega arith, (omega arith, omega arith))
 
 same-length : tie.Need-same-length
 same-length c = search needs

@@ -27,7 +27,7 @@ returns-3 c =
     (sym bad, (when-refused _ _ bad, when-refused _ _ bad))
 
 deal-requires : tie.Need-deal-requires
-deal-requires c κs = search needs
+deal-requires c κs = (omega arith, (omega arith, omega arith))
 
 same-length : tie.Need-same-length
 same-length c = search needs
