@@ -1,21 +1,18 @@
 -- Dividing and joining puts each sample back, and it divides as the places say.
 -- Assumes nothing.
-use mathlib.Core.Path.{_≡_, sym, ap, subst, _∙_}
+use mathlib.Core.Path.{_≡_, refl, sym, ap, subst, _∙_}
 use mathlib.Core.List.{List}
-use Prim.Native.Nat.{ℕ, _+_, _*_, _/_, _%_, _≤_, _<_}
+use Prim.Native.Nat.{ℕ, zero, suc, _+_, _*_, _/_, _%_, _≤_, _<_}
 use native.Mathlib.Omega.{arith}
-use lib.Dec.{eqb}
 use lib.ListN.{length, getD}
 use lib.Seq.{ext-getD}
-use borrow.Author.Tests.{eqb-true, eqb-false}
 use Rattle.ground.specs.Answer.{given}
-use Rattle.ground.proofs.Cases.{on-test}
 use Rattle.ground.proofs.Writing.{is-table}
 use Rattle.picture.specs.Division.{imageAt, sampleIn, lineFrom, sampleFrom, w}
 use Rattle.picture.specs.Place.{placedOf}
-use Rattle.picture.specs.Row.{divided, joined}
+use Rattle.picture.specs.Row.{divided, joined, rowBy}
 use Rattle.picture.proofs.Places.{found}
-use Rattle.picture.proofs.Rows.{sample-divided, length-joined, first-joined, second-joined}
+use Rattle.picture.proofs.Rows.{sample-divided, length-joined, sample-joined}
 use Rattle.picture.proofs.Steps.{sample-back}
 
 -- joining what was divided is the row
@@ -26,19 +23,20 @@ module _ (n : ℕ) (row : List ℕ) (e : length row ≡ 2 * n) where
   SameAt : ℕ → Type 0
   SameAt i = getD both i 0 ≡ getD row i 0
 
-  even : (j : ℕ) → j < n → SameAt (2 * j + 0)
-  unfolding both SameAt
-  even j p = first-joined (divided 0 n row) (divided 1 n row) n j p ∙ sample-divided row 0 n j p
+  of-row : (c : ℕ) → c < 2 → rowBy c (divided 0 n row) (divided 1 n row) ≡ divided c n row
+  of-row zero q = refl
+  of-row (suc zero) q = refl
+  of-row (suc (suc c)) q = absurd (omega arith)
 
-  odd : (j : ℕ) → j < n → SameAt (2 * j + 1)
+  same : (j c : ℕ) → j < n → c < 2 → SameAt (2 * j + c)
   unfolding both SameAt
-  odd j p = second-joined (divided 0 n row) (divided 1 n row) n j p ∙ sample-divided row 1 n j p
+  same j c p q =
+      sample-joined (divided 0 n row) (divided 1 n row) n j c p q
+      ∙ ap (λ (l : List ℕ). getD l j 0) (of-row c q)
+      ∙ sample-divided row c n j p
 
   back : (i : ℕ) → i < 2 * n → SameAt i
-  back i p =
-      on-test (eqb (i % 2) 0)
-      (λ t. subst SameAt (omega (arith, eqb-true (i % 2) 0 t)) (even (i / 2) (omega arith)))
-      (λ t. subst SameAt (omega (arith, eqb-false (i % 2) 0 t)) (odd (i / 2) (omega arith)))
+  back i p = subst SameAt (omega arith) (same (i / 2) (i % 2) (omega arith) (omega arith))
 
   pub join-split : joined n (divided 0 n row) (divided 1 n row) ≡ row
   unfolding both SameAt
@@ -47,18 +45,16 @@ module _ (n : ℕ) (row : List ℕ) (e : length row ≡ 2 * n) where
       ext-getD 0 both row (l ∙ sym e) (λ i p. back i (omega (arith, l)))
 
 -- dividing what was joined is the two rows
-module _ (n : ℕ) (first second : List ℕ) where
-  pub split-join-first : length first ≡ n → divided 0 n (joined n first second) ≡ first
-  unfolding divided
-  split-join-first e =
-      sym
-      (is-table n (λ j. getD (joined n first second) (2 * j + 0) 0) 0 first e (λ j p. sym (first-joined first second n j p)))
-
-  pub split-join-second : length second ≡ n → divided 1 n (joined n first second) ≡ second
-  unfolding divided
-  split-join-second e =
-      sym
-      (is-table n (λ j. getD (joined n first second) (2 * j + 1) 0) 0 second e (λ j p. sym (second-joined first second n j p)))
+pub split-join :
+    (n : ℕ) (first second : List ℕ) (c : ℕ)
+    → c < 2
+    → length (rowBy c first second) ≡ n
+    → divided c n (joined n first second) ≡ rowBy c first second
+unfolding divided
+split-join n first second c q e =
+    sym
+    (is-table n (λ j. getD (joined n first second) (2 * j + c) 0) 0 (rowBy c first second) e
+    (λ j p. sym (sample-joined first second n j c p q)))
 
 module _ (n : ℕ) (row : List ℕ) where
   -- what stands at sample j of the row that image u gets is the sample whose place is there (`step-again`)

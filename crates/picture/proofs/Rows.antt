@@ -2,14 +2,14 @@
 -- Assumes nothing.
 use mathlib.Core.Path.{_≡_, refl, sym, _∙_}
 use mathlib.Core.List.{List, [], _∷_}
-use Prim.Native.Nat.{ℕ, _+_, _*_, _<_}
+use Prim.Native.Nat.{ℕ, zero, suc, _+_, _*_, _<_}
 use native.Mathlib.Numerals.{add-one}
 use native.Mathlib.Omega.{arith}
 use lib.ListN.{length, getD, set}
 use lib.Seq.{sets}
 use Rattle.ground.specs.Written.{upto, table}
 use Rattle.ground.proofs.Writing.{sets-whole, sets-upto, length-upto, getD-upto, length-table, getD-table}
-use Rattle.picture.specs.Row.{divided, joined}
+use Rattle.picture.specs.Row.{divided, joined, rowBy}
 
 -- what the loops do: nothing yet, then a sample or a pair more
 module _ (row : List ℕ) (w : ℕ) where
@@ -54,10 +54,11 @@ module _ (first second : List ℕ) where
   pub all-joined : (l : List ℕ) (n : ℕ) → length l ≡ 2 * n → sets l 0 (joined n first second) ≡ joined n first second
   all-joined l n e = sets-whole l (joined n first second) (length-joined n ∙ sym e)
 
-  pub first-joined : (n j : ℕ) → j < n → getD (joined n first second) (2 * j + 0) 0 ≡ getD first j 0
-  unfolding joined
-  first-joined n j p = getD-upto 2 pair (λ m. refl) n j 0 0 p (omega arith)
+  of-pair : (j w : ℕ) → w < 2 → getD (pair j) w 0 ≡ getD (rowBy w first second) j 0
+  of-pair j zero q = refl
+  of-pair j (suc zero) q = refl
+  of-pair j (suc (suc w)) q = absurd (omega arith)
 
-  pub second-joined : (n j : ℕ) → j < n → getD (joined n first second) (2 * j + 1) 0 ≡ getD second j 0
+  pub sample-joined : (n j w : ℕ) → j < n → w < 2 → getD (joined n first second) (2 * j + w) 0 ≡ getD (rowBy w first second) j 0
   unfolding joined
-  second-joined n j p = getD-upto 2 pair (λ m. refl) n j 1 0 p (omega arith)
+  sample-joined n j w p q = getD-upto 2 pair (λ m. refl) n j w 0 p q ∙ of-pair j w q

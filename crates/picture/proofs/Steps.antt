@@ -1,7 +1,7 @@
 -- A step of division and the way back undo each other, for images of any size: by arithmetic, with no case for a sample.
 -- Assumes nothing.
 use mathlib.Core.Path.{_≡_, refl, ap, _∙_}
-use Prim.Native.Nat.{ℕ, _+_, _-_, _/_, _%_, _≤_}
+use Prim.Native.Nat.{ℕ, _+_, _-_, _*_, _/_, _%_, _≤_}
 use native.Mathlib.Omega.{arith}
 use Rattle.line.specs.declared.picture.PictureLine.{PictureLine}
 use Rattle.picture.specs.declared.division.Quarter.{Quarter}
@@ -18,6 +18,24 @@ h-listed = (refl, refl, refl, refl)
 pub w-listed : (w 1 ≡ 0) × (w 2 ≡ 1) × (w 3 ≡ 0) × (w 4 ≡ 1)
 unfolding w
 w-listed = (refl, refl, refl, refl)
+
+-- 004, 5.3's own sentence, on lines 2a + 1 and 2a + 2 and samples 2b and 2b + 1
+module _ (a b : ℕ) where
+  pub odd-line-even-sample : imageAt (2 * a + 1) (2 * b) ≡ 1
+  unfolding imageAt
+  odd-line-even-sample = omega arith
+
+  pub odd-line-odd-sample : imageAt (2 * a + 1) (2 * b + 1) ≡ 2
+  unfolding imageAt
+  odd-line-odd-sample = omega arith
+
+  pub even-line-even-sample : imageAt (2 * a + 2) (2 * b) ≡ 3
+  unfolding imageAt
+  even-line-even-sample = omega arith
+
+  pub even-line-odd-sample : imageAt (2 * a + 2) (2 * b + 1) ≡ 4
+  unfolding imageAt
+  even-line-odd-sample = omega arith
 
 -- a step is told by its three numbers
 pub quarter-is :

@@ -1,6 +1,6 @@
 -- Dividing a row of a picture into the rows of two images, and joining them (004, 5.3; document 01, "Dividing a picture").
 -- Assumes nothing.
-use Prim.Native.Nat.{ℕ, _+_, _*_}
+use Prim.Native.Nat.{ℕ, zero, suc, _+_, _*_}
 use mathlib.Core.Bool.{Bool, _&&_}
 use mathlib.Core.List.{List, [], _∷_}
 use lib.Dec.{eqb}
@@ -17,6 +17,11 @@ divided w n row = table n (λ j. getD row (2 * j + w) 0)
 -- the row of 2n samples that two rows of n make: sample j of the first (w = 0), and then sample j of the second (w = 1)
 unfoldable pub joined : ℕ → List ℕ → List ℕ → List ℕ
 joined n first second = upto n (λ j. getD first j 0 ∷ getD second j 0 ∷ [])
+
+-- which of the two rows has a w: the first has 0, the second 1
+abbrev pub rowBy : ℕ → List ℕ → List ℕ → List ℕ
+rowBy zero first second = first
+rowBy (suc w) first second = second
 
 -- the paper's number for each answer
 abbrev pub paperCopied : Copied → Answer (Unit {0})
