@@ -2,12 +2,12 @@
 // after, and for each symbol, and for two numbers that are none, what it decodes to at each disparity, what it means and where it is legal.
 mod line;
 
+use decoder::decode::Decoded;
+use decoder::meaning::Legal;
+use decoder::meaning::Meaning;
+use encoder::encode::Encoded;
 use line::Line;
-use symbol::decode::Decoded;
 use symbol::disparity::Disparity;
-use symbol::encode::Encoded;
-use symbol::meaning::Legal;
-use symbol::meaning::Meaning;
 use symbol::special::Special;
 
 // The rest of a character's line: the disparity before, the symbol and the disparity after.
@@ -18,12 +18,12 @@ fn encoded(start: Line, d: Disparity, e: Encoded) -> Line {
 }
 
 fn byte_line(d: Disparity, b: u8) {
-    let e = symbol::encode::encode_byte(d, b);
+    let e = encoder::encode::encode_byte(d, b);
     encoded(Line::new().hex(b as u16, 2), d, e).write();
 }
 
 fn special_line(d: Disparity, k: Special) {
-    let e = symbol::encode::encode_special(d, k);
+    let e = encoder::encode::encode_special(d, k);
     encoded(Line::new().name(k), d, e).write();
 }
 
@@ -33,7 +33,7 @@ fn special_lines(k: Special) {
 }
 
 fn decoded(start: Line, d: Disparity, s: u16) -> Line {
-    let r = symbol::decode::decode(d, s);
+    let r = decoder::decode::decode(d, s);
     let l = start.space();
     match r {
         Decoded::Byte(b, after) => l.hex(b as u16, 2).sign(after),
@@ -61,7 +61,7 @@ fn symbol_line(s: u16) {
         Disparity::Positive,
         s,
     ).space();
-    let m = symbol::meaning::meaning_of(s);
+    let m = decoder::meaning::meaning_of(s);
     let whole = match m {
         Meaning::Byte(b, at) => legal(l.hex(b as u16, 2), at),
         Meaning::Special(k, at) => legal(l.name(k), at),

@@ -8,9 +8,9 @@ use Prim.Native.Nat.{ℕ, zero, suc, _%_}
 use lib.Dec.{ltb}
 use Rattle.symbol.specs.declared.disparity.Disparity.{Disparity}
 use Rattle.symbol.specs.Code.{charOf, afterOf}
-use Rattle.symbol.specs.Decoder.{entryOf, maskOf, decodingTable}
-use Rattle.symbol.proofs.Masks.{legal-mask, after-mask}
-use Rattle.symbol.proofs.Reading.{entry-in, legal-is, number-is}
+use Rattle.decoder.specs.Decoder.{entryOf, maskOf, decodingTable}
+use Rattle.decoder.proofs.Masks.{legal-mask, after-mask}
+use Rattle.decoder.proofs.Reading.{entry-in, legal-is, number-is}
 use Rattle.decode_run.specs.Run.{bytesBy, bytesOf}
 
 nothing : (t : Bool) → _≡_ {A = List ℕ} (cond t [] []) []

@@ -9,7 +9,7 @@ use lib.ListN.{length, drop}
 use Rattle.symbol.specs.declared.disparity.Disparity.{Disparity}
 use Rattle.symbol.specs.declared.disparity.Disparity.the-variants.{Negative, Positive}
 use Rattle.symbol.specs.Code.{charOf, afterOf}
-use Rattle.symbol.specs.Decoder.{entryIn, legalBy, afterBy}
+use Rattle.decoder.specs.Decoder.{entryIn, legalBy, afterBy}
 
 abbrev pub start : Bool → Disparity
 start positive = cond positive Positive Negative

@@ -14,14 +14,14 @@ pub fn decode_by(t: &[u16; 1024], m: u16, symbols: &[u16], bytes: &mut [u8]) -> 
     let mut before = m;
     let mut i = 0;
     while i < n {
-        let e = symbol::decoder::entry(t, symbols[i]);
+        let e = decoder::table::entry(t, symbols[i]);
         let c = e % 512;
         if 255 < c {
             return i;
         }
-        if symbol::decoder::legal_by(before, e) {
+        if decoder::table::legal_by(before, e) {
             bytes[i] = c as u8;
-            before = symbol::decoder::after_by(before, e);
+            before = decoder::table::after_by(before, e);
             i += 1;
         } else {
             return i;
@@ -46,7 +46,7 @@ pub extern "C" fn brazulint_decode_run(positive: bool, symbols: &[u16], bytes: &
     ensures count { λ r. ⌜ r ≡ length (bytesOf (start positive) (now (symbols .entry)) (length (now (bytes .entry)))) ⌝ }
     ensures written { λ _. ⌜ now (bytes .exit) ≡ over (bytesOf (start positive) (now (symbols .entry)) (length (now (bytes .entry)))) (now (bytes .entry)) ⌝ }
 {
-    let t = symbol::decoder::decoding_table();
-    let m = symbol::decoder::mask_of(disparity(positive));
+    let t = decoder::table::decoding_table();
+    let m = decoder::table::mask_of(disparity(positive));
     decode_by(&t, m, symbols, bytes)
 }

@@ -3,11 +3,11 @@
 use mathlib.Core.Path.{_≡_, refl, sym, ap, _∙_}
 use mathlib.Core.List.{List, [], _∷_, _++_, append-assoc, append-nil}
 use Prim.Native.Nat.{ℕ, zero, suc, _+_, _*_, _≤_, _<_}
-use native.Mathlib.Nat.{add-zero, add-suc, mul-suc, mul-le-mul-left, eq-or-lt-of-le, le-of-suc-le-suc, not-suc-le-zero}
+use native.Mathlib.Nat.{add-zero, add-suc, mul-zero, mul-suc, mul-le-mul-left, eq-or-lt-of-le, le-of-suc-le-suc, not-suc-le-zero}
 use native.Mathlib.Numerals.{add-one}
 use native.Mathlib.Omega.{arith}
 use mathlib.Core.Logic.{⊎-elim}
-use lib.ListN.{length, getD, set, length-append, List·getD-append}
+use lib.ListN.{length, getD, set, replicate, length-append, length-replicate, getD-replicate, List·getD-append}
 use lib.Seq.{sets, sets-eq, set-comm, drop-length, getD-append-add, ext-getD}
 use lib.Dec.{eqb}
 use borrow.Author.Tests.{eqb-true}
@@ -94,3 +94,42 @@ module _ {A : Type 0} (n : ℕ) (f : ℕ → A) where
 pub tested-table : (n : ℕ) (f : ℕ → ℕ) (t : List ℕ) → length t ≡ n → everyAt (λ i x. eqb x (f i)) 0 t ≡ true → t ≡ table n f
 tested-table n f t long ok =
     is-table n f 0 t long (λ i h. eqb-true (getD t i 0) (f i) (at-entry (λ k x. eqb x (f k)) t ok i (rw long h)))
+
+-- a list of two pieces: what stands in the first, and what stands in the second
+module _ {A : Type 0} (p q : List A) (n i : ℕ) (d : A) (sized : length p ≡ n) where
+  pub getD-first : i < n → getD (p ++ q) i d ≡ getD p i d
+  getD-first h = List·getD-append p q d i (rw sized h)
+
+  pub getD-second : getD (p ++ q) (n + i) d ≡ getD q i d
+  getD-second = ap (λ (k : ℕ). getD (p ++ q) (k + i) d) (sym sized) ∙ getD-append-add p q i d
+
+module _ {A : Type 0} where
+  -- pieces that are the same one by one
+  pub upto-same : (n : ℕ) (f g : ℕ → List A) → ((i : ℕ) → i < n → f i ≡ g i) → upto n f ≡ upto n g
+  unfolding upto
+  upto-same zero f g e = refl
+  upto-same (suc n) f g e = rw (upto-same n f g (λ i h. e i (omega arith)), e n (omega arith))
+
+  -- one piece again and again, so many at a time
+  pub upto-again : (h n : ℕ) (p : List A) → upto n (λ _. upto h (λ _. p)) ≡ upto (h * n) (λ _. p)
+  unfolding upto
+  upto-again h zero p = rw mul-zero
+  upto-again h (suc n) p =
+      ap (λ (l : List A). l ++ upto h (λ _. p)) (upto-again h n p) ∙ upto-split (h * n) h (λ _. p) ∙ rw mul-suc
+
+  -- entries that are the same one by one
+  pub table-same : (n : ℕ) (f g : ℕ → A) → ((i : ℕ) → i < n → f i ≡ g i) → table n f ≡ table n g
+  unfolding table
+  table-same n f g e = upto-same n (λ k. f k ∷ []) (λ k. g k ∷ []) (λ i h. ap (λ (a : A). a ∷ []) (e i h))
+
+  -- an even number of entries, two at a time
+  pub table-pairs : (n : ℕ) (f : ℕ → A) → table (2 * n) f ≡ upto n (λ k. f (2 * k) ∷ f (2 * k + 1) ∷ [])
+  unfolding table upto
+  table-pairs zero f = refl
+  table-pairs (suc n) f =
+      let two : 2 * suc n ≡ suc (suc (2 * n)) = omega arith in
+      rw (two, add-one, ← (table-pairs n f)) (append-assoc (table (2 * n) f) (f (2 * n) ∷ []) (f (suc (2 * n)) ∷ []))
+
+  -- one entry again and again
+  pub replicate-table : (n : ℕ) (a : A) → replicate n a ≡ table n (λ _. a)
+  replicate-table n a = is-table n (λ _. a) a (replicate n a) (length-replicate n a) (λ i h. getD-replicate n i a a h)

@@ -1,12 +1,7 @@
 pub mod Characters
 pub mod Distinct
-pub mod Entries
 pub mod Flip
 pub mod Forms
 pub mod Inverse
-pub mod Masks
 pub mod Ones
-pub mod Paper
-pub mod Reading
-pub mod Rows
 pub mod Specials

@@ -3,7 +3,7 @@
 -- Assumes nothing.
 use Prim.Native.Nat.{ℕ, zero, suc, _+_, _*_, _/_, _%_, _^_}
 use mathlib.Core.Path.{_≡_}
-use mathlib.Core.Bool.{Bool, false, _&&_, _||_, cond}
+use mathlib.Core.Bool.{Bool, true, false, _&&_, _||_, cond}
 use mathlib.Core.List.{List, [], _∷_}
 use mathlib.Core.Option.{Option}
 use lib.Count.{onesIn}
@@ -14,7 +14,7 @@ use Rattle.symbol.specs.declared.disparity.Disparity.{Disparity}
 use Rattle.symbol.specs.declared.disparity.Disparity.the-variants.{Negative, Positive}
 use Rattle.symbol.specs.Blocks.{sixBits, sixBitsK28, fourBits, alternate, alternateAt, fourBitsSpecial}
 use Rattle.symbol.specs.Character.{characters, isSpecial, xOf, yOf}
-use Rattle.symbol.specs.Disparity.{afterBlock}
+use Rattle.symbol.specs.Disparity.{isPositive, afterBlock}
 
 abbrev pub oneOf : ℕ → List ℕ → Bool
 oneOf x [] = false
@@ -41,6 +41,15 @@ betweenOf d c = afterBlock 6 d (sixOf d c)
 unfoldable pub afterOf : Disparity → ℕ → Disparity
 unfolding betweenOf fourOf onesIn
 afterOf d c = afterBlock 4 (betweenOf d c) (fourOf (betweenOf d c) c)
+
+-- whether character c leaves positive disparity behind negative (and then negative behind positive: law `turns-both`)
+unfoldable pub turns : ℕ → Bool
+turns c = isPositive (afterOf Negative c)
+
+-- a test as a number: 1 where it holds, else 0
+abbrev pub bit : Bool → ℕ
+bit true = 1
+bit false = 0
 
 -- n bits the other way round
 unfoldable pub turned : ℕ → ℕ → ℕ

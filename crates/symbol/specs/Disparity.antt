@@ -1,7 +1,7 @@
 -- The running disparity (ANSI INCITS 230, the 8B/10B code; the same in IEEE 802.3, 36.2.4.4).
 -- Assumes nothing.
 use Prim.Native.Nat.{ℕ, _*_}
-use mathlib.Core.Bool.{Bool, cond}
+use mathlib.Core.Bool.{Bool, true, false, cond}
 use lib.Dec.{ltb}
 use lib.Count.{onesIn}
 use Rattle.symbol.specs.declared.disparity.Disparity.{Disparity}
@@ -14,6 +14,10 @@ fresh = Negative
 abbrev pub opposed : Disparity → Disparity
 opposed Negative = Positive
 opposed Positive = Negative
+
+abbrev pub isPositive : Disparity → Bool
+isPositive Negative = false
+isPositive Positive = true
 
 -- the opposite of d where it turns, else d
 abbrev pub turnedIf : Bool → Disparity → Disparity

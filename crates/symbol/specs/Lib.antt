@@ -1,9 +1,4 @@
 pub mod Blocks
 pub mod Character
 pub mod Code
-pub mod Decode
-pub mod Decoder
 pub mod Disparity
-pub mod Encode
-pub mod Encoder
-pub mod Meaning

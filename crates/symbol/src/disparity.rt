@@ -15,7 +15,7 @@ pub fn before_fresh_signal() -> Disparity
 }
 
 // The opposite of d where it turns, else d.
-pub(crate) fn turned_if(turns: bool, d: Disparity) -> Disparity
+pub fn turned_if(turns: bool, d: Disparity) -> Disparity
     ensures { λ r. ⌜ r ≡ turnedIf turns d ⌝ }
 {
     if turns {

@@ -18,7 +18,7 @@ pub enum Special {
 }
 
 // The number of a special character among the characters.
-pub(crate) fn number(k: Special) -> u16
+pub fn number(k: Special) -> u16
     ensures { λ r. ⌜ r ≡ numberOf k ⌝ }
 {
     match k {
@@ -54,7 +54,7 @@ const NAMES: [Special; 12] = [
 ];
 
 // The special character with number 256 + n; K28.0 where there is none.
-pub(crate) fn named(n: u16) -> Special
+pub fn named(n: u16) -> Special
     ensures { λ r. ⌜ r ≡ nth n ⌝ }
 {
     if n < 12 {

@@ -6,7 +6,7 @@ use native.Mathlib.Omega.{arith}
 use lib.ListN.{length, getD}
 use Prim.Native.Nat.{_%_}
 use mathlib.Core.Bool.{true, false}
-use Rattle.symbol.specs.Decoder.{entryIn, legalBy}
+use Rattle.decoder.specs.Decoder.{entryIn, legalBy}
 use lib.Dec.{ltb}
 use borrow.Author.Tests.{ltb-true, ltb-false}
 use borrow.Author.Needs.{needs}

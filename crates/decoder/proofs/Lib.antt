@@ -1,0 +1,4 @@
+pub mod Entries
+pub mod Masks
+pub mod Paper
+pub mod Reading

@@ -1,0 +1,71 @@
+-- What the decoding table holds, and what its entries say (document 01, "Receiving and finding").
+-- Assumes nothing.
+use Prim.Native.Nat.{ℕ, _+_, _*_, _/_, _%_}
+use mathlib.Core.Bool.{Bool, not, cond}
+use mathlib.Core.List.{List, [], _∷_}
+use mathlib.Core.Option.{Option, none, some}
+use lib.Bits.{bitAnd, bitXor}
+use lib.Dec.{eqb, ltb}
+use lib.ListN.{getD}
+use Rattle.ground.specs.Answer.{Answer, given, unless, checked}
+use Rattle.ground.specs.Search.{isSome}
+use Rattle.ground.specs.Written.{table}
+use Rattle.symbol.specs.declared.disparity.Disparity.{Disparity}
+use Rattle.symbol.specs.declared.disparity.Disparity.the-variants.{Negative, Positive}
+use Rattle.symbol.specs.Character.{characterOf}
+use Rattle.symbol.specs.Code.{turns, bit, charOf}
+use Rattle.decoder.specs.Decode.{After}
+use Rattle.symbol.specs.Disparity.{turnedIf}
+use Rattle.decoder.specs.Meaning.{Means, meantBy}
+
+-- an entry: the character's number in bits 0 to 8, bit 9 where it is legal at negative disparity, bit 10 at positive, and bits 11 and 12
+-- where it turns the disparity; 0 for no symbol
+abbrev pub entryFrom : Option ℕ → Bool → Bool → ℕ
+entryFrom none n p = 0
+entryFrom (some c) n p = c + 512 * bit n + 1024 * bit p + 6144 * bit (turns c)
+
+unfoldable pub entryOf : ℕ → ℕ
+entryOf s = entryFrom (meantBy s) (isSome (charOf Negative s)) (isSome (charOf Positive s))
+
+unfoldable pub decodingTable : List ℕ
+decodingTable = table 1024 entryOf
+
+-- the entry of symbol s in a table; above 1023, that of no symbol
+abbrev pub entryIn : List ℕ → ℕ → ℕ
+entryIn t s = cond (ltb s 1024) (getD t s 0) 0
+
+-- what an entry says
+abbrev pub legalBit : Disparity → ℕ → Bool
+legalBit Negative e = eqb (e / 512 % 2) 1
+legalBit Positive e = eqb (e / 1024 % 2) 1
+
+abbrev pub entryAfter : Disparity → ℕ → Disparity
+entryAfter d e = turnedIf (eqb (e / 2048 % 2) 1) d
+
+abbrev pub decodedBy : Disparity → ℕ → Answer After
+decodedBy d e =
+    checked (unless 20 (legalBit d e) ∷ []) (record { character = characterOf (e % 512); after = entryAfter d e })
+
+abbrev pub meaningBy : ℕ → Answer Means
+meaningBy e =
+    given
+    (record {
+      character = cond (eqb e 0) none (some (characterOf (e % 512)));
+      negative = legalBit Negative e;
+      positive = legalBit Positive e;
+    })
+
+-- ---- the same for a loop, which keeps the disparity as the bit of an entry that says whether it is legal there
+
+abbrev pub maskOf : Disparity → ℕ
+maskOf Negative = 512
+maskOf Positive = 1024
+
+abbrev pub ofMask : ℕ → Disparity
+ofMask m = cond (eqb m 512) Negative Positive
+
+unfoldable pub legalBy : ℕ → ℕ → Bool
+legalBy m e = not (eqb (bitAnd e m) 0)
+
+unfoldable pub afterBy : ℕ → ℕ → ℕ
+afterBy m e = bitXor m (bitAnd (e / 4) 1536)

@@ -1,0 +1,72 @@
+-- The entries of the encoder's tables.
+-- Assumes nothing.
+use mathlib.Core.Path.{_≡_, refl, sym, ap, ap₂, _∙_}
+use mathlib.Core.Bool.{Bool, true, false, cond}
+use mathlib.Core.List.{List}
+use Prim.Native.Nat.{ℕ, _+_, _/_, _%_, _≤_, _<_}
+use native.Mathlib.Omega.{arith}
+use lib.Bits.{bitXor}
+use lib.ListN.{getD}
+use Rattle.ground.proofs.Writing.{getD-table}
+use Rattle.symbol.specs.declared.disparity.Disparity.{Disparity}
+use Rattle.symbol.specs.declared.disparity.Disparity.the-variants.{Negative, Positive}
+use Rattle.symbol.specs.Code.{symbolOf, afterOf, turns}
+use Rattle.symbol.specs.Disparity.{turnedIf}
+use Rattle.symbol.proofs.Ones.{turns-both}
+use Rattle.encoder.specs.declared.encode.Encoded.{Encoded}
+use Rattle.encoder.specs.Encode.{encoded}
+use Rattle.encoder.specs.Tables.{offsetOf, ofOffset, symbolTable, turnTable}
+
+-- a disparity is told again from its offset
+pub offset-again : (d : Disparity) → ofOffset (offsetOf d) ≡ d
+unfolding ofOffset
+offset-again Negative = refl
+offset-again Positive = refl
+
+pub offset-below : (d : Disparity) → offsetOf d ≤ 268
+offset-below Negative = omega arith
+offset-below Positive = omega arith
+
+-- behind the offset of a disparity stand the symbols at it
+pub symbol-at : (d : Disparity) (c : ℕ) → c < 268 → getD symbolTable (offsetOf d + c) 0 ≡ symbolOf d c
+unfolding ofOffset symbolTable
+symbol-at d c h =
+    getD-table 536 (λ i. symbolOf (ofOffset (i / 268)) (i % 268)) (offsetOf d + c) 0 (omega (arith, offset-below d))
+    ∙ ap₂ (λ (e : Disparity) (k : ℕ). symbolOf e k) (side d) (place d)
+  where
+    side : (d : Disparity) → ofOffset ((offsetOf d + c) / 268) ≡ d
+    side Negative = let q : (offsetOf Negative + c) / 268 ≡ 0 = omega arith in rw q
+    side Positive = let q : (offsetOf Positive + c) / 268 ≡ 1 = omega arith in rw q
+
+    place : (d : Disparity) → (offsetOf d + c) % 268 ≡ c
+    place Negative = omega arith
+    place Positive = omega arith
+
+pub turn-at : (c : ℕ) → c < 268 → getD turnTable c 0 ≡ cond (turns c) 268 0
+unfolding turnTable
+turn-at c h = getD-table 268 (λ c. cond (turns c) 268 0) c 0 h
+
+pub turn-below : (c : ℕ) → c < 268 → getD turnTable c 0 ≤ 268
+turn-below c h = rw (turn-at c h) (either (turns c))
+  where
+    either : (t : Bool) → cond t 268 0 ≤ 268
+    either true = omega arith
+    either false = omega arith
+
+-- an exclusive or with a character's turn gives the offset of the disparity after it
+pub after-at : (d : Disparity) (c : ℕ) → c < 268 → bitXor (offsetOf d) (getD turnTable c 0) ≡ offsetOf (afterOf d c)
+after-at d c h = ap (bitXor (offsetOf d)) (turn-at c h) ∙ turned d (turns c) ∙ ap offsetOf (sym (turns-both d c h))
+  where
+    turned : (d : Disparity) (t : Bool) → bitXor (offsetOf d) (cond t 268 0) ≡ offsetOf (turnedIf t d)
+    turned Negative true = refl
+    turned Negative false = refl
+    turned Positive true = refl
+    turned Positive false = refl
+
+-- so the symbol that stands behind the offset, and the disparity of the offset after, are what encoding answers
+pub encoded-is : (d : Disparity) (c : ℕ) → c < 268 → {t : List ℕ} {at after : ℕ} {e : Disparity} → t ≡ symbolTable → at ≡ offsetOf d + c
+    → e ≡ ofOffset after → after ≡ offsetOf (afterOf d c) → _≡_ {A = Encoded} (record { symbol = getD t at 0; after = e }) (encoded d c)
+encoded-is d c h p q r s =
+    ap₂ (λ (x : ℕ) (y : Disparity). record { symbol = x; after = y })
+    (ap₂ (λ (l : List ℕ) (n : ℕ). getD l n 0) p q ∙ symbol-at d c h)
+    (r ∙ ap ofOffset s ∙ offset-again (afterOf d c))

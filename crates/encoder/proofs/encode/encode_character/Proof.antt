@@ -1,0 +1,69 @@
+-- `encoder::encode::encode_character` meets its contract: the entries are the character's, at the offset of the disparity.
+-- Assumes nothing.
+use mathlib.Core.Path.{_≡_}
+use Prim.Native.Nat.{_<_}
+use native.Mathlib.Omega.{arith}
+use lib.Bits.{bitXor}
+use lib.ListN.{getD}
+use Rattle.symbol.specs.Code.{afterOf}
+use Rattle.encoder.specs.Tables.{offsetOf}
+use Rattle.encoder.proofs.Entries.{offset-below, turn-below, after-at, encoded-is}
+use borrow.Author.Needs.{needs}
+use Rattle.encoder.proofs.encode.encode_character.Statement.{statement}
+use Rattle.encoder.proofs.encode.encode_character.Tie as tie
+
+symbol-table-requires : tie.Need-symbol-table-requires
+symbol-table-requires c κs = search needs
+
+turn-table-requires : tie.Need-turn-table-requires
+turn-table-requires c κs = search needs
+
+offset-of-requires : tie.Need-offset-of-requires
+offset-of-requires c κs = search needs
+
+add-at : tie.Need-add-at
+add-at c = omega (arith, c .offset-of .ensures, offset-below (c .before .before .before .args .d))
+
+mul-symbol : tie.Need-mul-symbol
+mul-symbol c = omega (arith, c .offset-of .ensures, offset-below (c .before .before .before .args .d))
+
+array-read-symbol : tie.Need-array-read-symbol
+array-read-symbol c = omega (arith, c .offset-of .ensures, offset-below (c .before .before .before .args .d))
+
+mul-turn : tie.Need-mul-turn
+mul-turn c = search needs
+
+array-read-turn : tie.Need-array-read-turn
+array-read-turn c = search needs
+
+cast-turn : tie.Need-cast-turn
+cast-turn c = rw (c .before .turn-table .ensures) (omega (arith, turn-below (c .before .before .before .args .c) (omega arith)))
+
+disparity-at-requires : tie.Need-disparity-at-requires
+disparity-at-requires c κs = search needs
+
+returns : tie.Need-returns
+returns c =
+    let a = c .before .before .before .before .args in
+    let h : a .c < 268 = omega arith in
+    let o = c .before .offset-of in
+    let t = c .before .before .turn-table in
+    let k : bitXor (o .result) (getD (t .result) (a .c) 0) ≡ offsetOf (afterOf (a .d) (a .c)) =
+    rw (o .ensures, t .ensures) (after-at (a .d) (a .c) h) in
+    encoded-is (a .d) (a .c) h (c .before .before .before .symbol-table .ensures) (omega (arith, o .ensures)) (c .disparity-at .ensures) (omega (arith, k))
+
+pub encode-character-spec : {M : Type 1} → statement M
+encode-character-spec =
+    tie.close
+    (tie.spec
+    symbol-table-requires
+    turn-table-requires
+    offset-of-requires
+    add-at
+    mul-symbol
+    array-read-symbol
+    mul-turn
+    array-read-turn
+    cast-turn
+    disparity-at-requires
+    returns)

@@ -1,0 +1,16 @@
+-- `encoder::tables::turn_table` meets its contract: antt computes the test of the whole table.
+-- Assumes nothing.
+use mathlib.Core.Path.{refl}
+use mathlib.Core.Bool.{cond}
+use Rattle.ground.proofs.Writing.{tested-table}
+use Rattle.symbol.specs.Code.{afterOf, turns}
+use Rattle.encoder.specs.Tables.{turnTable}
+use Rattle.encoder.proofs.tables.turn_table.Statement.{statement}
+use Rattle.encoder.proofs.tables.turn_table.Tie as tie
+
+returns : tie.Need-returns
+unfolding afterOf turns turnTable
+returns c = tested-table 268 (λ c. cond (turns c) 268 0) _ refl refl
+
+pub turn-table-spec : {M : Type 1} → statement M
+turn-table-spec = tie.close (tie.spec returns)

@@ -1,0 +1,42 @@
+// Encoding: a character to its ten-bit symbol.
+use symbol::disparity::Disparity;
+use symbol::special::Special;
+ghost use mathlib.Core.Path.{_≡_};
+ghost use Prim.Native.Nat.{_<_};
+ghost use Rattle.symbol.specs.Character.{numberOf};
+ghost use Rattle.encoder.specs.Encode.{encoded};
+
+// The ten-bit symbol, its lowest bit sent first, and the disparity after it.
+pub struct Encoded {
+    pub symbol: u16,
+    pub after: Disparity,
+}
+
+// A character by its number, at the running disparity before it.
+fn encode_character(d: Disparity, c: u16) -> Encoded
+    requires { ⌜ c < 268 ⌝ }
+    ensures { λ r. ⌜ r ≡ encoded d c ⌝ }
+{
+    let symbols = crate::tables::symbol_table();
+    let turns = crate::tables::turn_table();
+    let offset = crate::tables::offset_of(d);
+    let at = offset + c as usize;
+    let symbol = symbols[at];
+    let turn = turns[c as usize] as usize;
+    let after = crate::tables::disparity_at(offset ^ turn);
+    Encoded { symbol, after }
+}
+
+// A byte at the running disparity before it.
+pub fn encode_byte(d: Disparity, b: u8) -> Encoded
+    ensures { λ r. ⌜ r ≡ encoded d b ⌝ }
+{
+    encode_character(d, b as u16)
+}
+
+// A special character at the running disparity before it.
+pub fn encode_special(d: Disparity, k: Special) -> Encoded
+    ensures { λ r. ⌜ r ≡ encoded d (numberOf k) ⌝ }
+{
+    encode_character(d, symbol::special::number(k))
+}
