@@ -1,0 +1,82 @@
+-- Which formats are known, in the paper's own numbers, and what every shape has in common.
+-- Assumes nothing.
+use mathlib.Core.Path.{_≡_, refl, ap, _∙_}
+use mathlib.Core.Bool.{Bool, true, false, _&&_, _||_}
+use mathlib.Core.Logic.{_⊎_, inl, inr, ⊎-elim}
+use Prim.Native.Nat.{ℕ, zero, suc, _+_, _*_, _≤_}
+use native.Mathlib.Nat.{mul-le-mul-left}
+use native.Mathlib.Omega.{arith}
+use lib.Dec.{eqb}
+use borrow.Author.Tests.{eq-eqb, eqb-true}
+use Rattle.ground.specs.Range.{within}
+use Rattle.ground.proofs.Cases.{on-test}
+use Rattle.ground.proofs.Ranges.{is-within, from-low, to-high}
+use Rattle.ground.proofs.Tests.{both-left, both-right}
+use Rattle.span.specs.declared.format.Format.{Format}
+use Rattle.span.specs.declared.format.Shape.{Shape}
+use Rattle.span.specs.Format.{isKnown, row, numbered, shapeOf, Small}
+
+-- formats 1 to 3 at 10 or 12 bits
+pub record Known (f : Format) : Type 0 where
+  pub from : 1 ≤ f .number
+  pub to : f .number ≤ 3
+  pub bits : (f .depth ≡ 10) ⊎ (f .depth ≡ 12)
+
+either : (a b : Bool) → (a || b) ≡ true → (a ≡ true) ⊎ (b ≡ true)
+either true b t = inl refl
+either false b t = inr t
+
+-- either of two tests
+right-of : (a b : Bool) → b ≡ true → (a || b) ≡ true
+right-of true b t = refl
+right-of false b t = t
+
+module _ (f : Format) where
+  abbrev ten : Bool
+  ten = eqb (f .depth) 10
+
+  abbrev twelve : Bool
+  twelve = eqb (f .depth) 12
+
+  pub is-known : Known f → isKnown f ≡ true
+  is-known k =
+      ap (λ (t : Bool). t && (ten || twelve)) (is-within 1 3 (f .number) (k .from) (k .to))
+      ∙ ⊎-elim (λ e. ap (λ (t : Bool). t || twelve) (eq-eqb _ _ e)) (λ e. right-of ten twelve (eq-eqb _ _ e)) (k .bits)
+
+  pub known-told : isKnown f ≡ true → Known f
+  known-told t =
+      let in-range : within 1 3 (f .number) ≡ true = both-left (within 1 3 (f .number)) (ten || twelve) t in
+      let bits : (ten || twelve) ≡ true = both-right (within 1 3 (f .number)) (ten || twelve) t in
+      record {
+        from = from-low _ _ _ in-range;
+        to = to-high _ _ _ in-range;
+        bits = ⊎-elim (λ e. inl (eqb-true _ _ e)) (λ e. inr (eqb-true _ _ e)) (either ten twelve bits);
+      }
+
+  pub unknown : (Known f → ⊥) → isKnown f ≡ false
+  unknown x = on-test (isKnown f) (λ t. absurd (x (known-told t))) (λ t. t)
+
+small-row : (n : ℕ) → Small (numbered n)
+small-row zero = record { half = omega arith; ancillary = omega arith; fill = omega arith }
+small-row (suc zero) = record { half = omega arith; ancillary = omega arith; fill = omega arith }
+small-row (suc (suc zero)) = record { half = omega arith; ancillary = omega arith; fill = omega arith }
+small-row (suc (suc (suc zero))) = record { half = omega arith; ancillary = omega arith; fill = omega arith }
+small-row (suc (suc (suc (suc n)))) = record { half = omega arith; ancillary = omega arith; fill = omega arith }
+
+pub small : {p : Shape} (f : Format) → p ≡ shapeOf f → Small p
+unfolding shapeOf
+small f e = rw e (small-row (f .number))
+
+-- what is no format has no streams
+pub no-row : (n : ℕ) → (n ≡ 1 → ⊥) → (n ≡ 2 → ⊥) → (n ≡ 3 → ⊥) → numbered n ≡ row 0 0 0
+no-row zero a b c = refl
+no-row (suc zero) a b c = absurd (a refl)
+no-row (suc (suc zero)) a b c = absurd (b refl)
+no-row (suc (suc (suc zero))) a b c = absurd (c refl)
+no-row (suc (suc (suc (suc n)))) a b c = refl
+
+-- its pairs of words, the fill apart
+pub few-pairs : {p : Shape} → Small p → p .half * (1932 + p .ancillary) ≤ 5280
+few-pairs {p} s =
+    let m : (1932 + p .ancillary) * p .half ≤ (1932 + p .ancillary) * 2 = mul-le-mul-left (1932 + p .ancillary) (s .half) in
+    omega (arith, m, s .ancillary)

@@ -1,0 +1,107 @@
+-- How long a span is: its words, characters and symbols; and document 01's table of formats.
+-- Assumes nothing.
+use mathlib.Core.Path.{_≡_, refl, _∙_}
+use mathlib.Core.Bool.{true, _||_}
+use mathlib.Core.List.{List, [], _∷_}
+use Prim.Native.Nat.{ℕ, zero, suc, _+_, _*_, _≤_}
+use native.Mathlib.Omega.{arith}
+use lib.Dec.{eqb}
+use lib.ListN.{length, replicate, length-append, length-drop, length-replicate}
+use Rattle.ground.specs.Range.{within}
+use Rattle.ground.proofs.Ranges.{from-low, to-high}
+use Rattle.ground.proofs.Tests.{both-left}
+use Rattle.symbol.specs.declared.disparity.Disparity.{Disparity}
+use Rattle.span.specs.declared.format.Format.{Format}
+use Rattle.span.specs.declared.format.Shape.{Shape}
+use Rattle.span.specs.Format.{isKnown, shapeOf, streams, samplesIn, pairsIn, symbolsIn, eavAt}
+use Rattle.span.specs.Span.{interleaved, bytes, wordsFromSav, wordsFromEav, spanWords, charsFromSav, charsFromEav, spanChars, spanSymbols, fillWord}
+use Rattle.span.specs.Stream.{Asked, fromSav, fromEav}
+use Rattle.span.proofs.Encoding.{length-symbols}
+use Rattle.span.proofs.Interleaving.{length-interleaved}
+use Rattle.span.proofs.Packing.{length-bytes}
+
+-- the table: s, the ancillary words per stream, the fill words, the symbols, the samples
+abbrev pub columns : Shape → List ℕ
+columns p = streams p ∷ p .ancillary ∷ 2 * p .fill ∷ symbolsIn p ∷ samplesIn p ∷ []
+
+pub table-of-formats :
+    (depth : ℕ)
+    → (columns (shapeOf record { number = 1; depth = depth }) ≡ 2 ∷ 268 ∷ 880 ∷ 7920 ∷ 3840 ∷ [])
+    × (columns (shapeOf record { number = 2; depth = depth }) ≡ 2 ∷ 708 ∷ 1056 ∷ 9504 ∷ 3840 ∷ [])
+    × (columns (shapeOf record { number = 3; depth = depth }) ≡ 4 ∷ 708 ∷ 2112 ∷ 19008 ∷ 7680 ∷ [])
+unfolding shapeOf
+table-of-formats depth = (refl, refl, refl)
+
+-- a known format has streams and fill
+record Some (p : Shape) : Type 0 where
+  half : 1 ≤ p .half
+  fill : 1 ≤ p .fill
+
+-- formats 1 to 3 have, whatever the depth
+numbered : (n depth : ℕ) → 1 ≤ n → n ≤ 3 → Some (shapeOf record { number = n; depth = depth })
+unfolding shapeOf
+numbered zero depth p q = absurd (omega arith)
+numbered (suc zero) depth p q = record { half = omega arith; fill = omega arith }
+numbered (suc (suc zero)) depth p q = record { half = omega arith; fill = omega arith }
+numbered (suc (suc (suc zero))) depth p q = record { half = omega arith; fill = omega arith }
+numbered (suc (suc (suc (suc n)))) depth p q = absurd (omega arith)
+
+module _ (f : Format) (known : isKnown f ≡ true) where
+  some : Some (shapeOf f)
+  some =
+      let t = both-left (within 1 3 (f .number)) (eqb (f .depth) 10 || eqb (f .depth) 12) known in
+      numbered (f .number) (f .depth) (from-low 1 3 (f .number) t) (to-high 1 3 (f .number) t)
+
+  pub known-has-streams : 1 ≤ shapeOf f .half
+  known-has-streams = some .half
+
+  pub known-has-fill : 1 ≤ shapeOf f .fill
+  known-has-fill = some .fill
+
+-- words: any format
+module _ (f : Format) (a : Asked) where
+  pub length-words-sav : length (wordsFromSav f a) ≡ streams (shapeOf f) * 1924
+  unfolding wordsFromSav
+  length-words-sav = length-interleaved (streams (shapeOf f)) 1924 (fromSav f a)
+
+  pub length-words-eav :
+      length (wordsFromEav f a) ≡ streams (shapeOf f) * (8 + shapeOf f .ancillary) + 2 * shapeOf f .fill
+  unfolding wordsFromEav
+  length-words-eav =
+      let n = 8 + shapeOf f .ancillary in
+      length-append (interleaved (streams (shapeOf f)) n (fromEav f a)) (replicate (2 * shapeOf f .fill) fillWord)
+      ∙ rw (length-interleaved (streams (shapeOf f)) n (fromEav f a), length-replicate)
+
+  pub length-words : length (spanWords f a) ≡ 2 * pairsIn (shapeOf f)
+  unfolding spanWords
+  length-words = length-append (wordsFromSav f a) (wordsFromEav f a) ∙ omega (arith, length-words-sav, length-words-eav)
+
+  -- their bytes
+  pub length-bytes-sav : length (bytes (wordsFromSav f a)) ≡ eavAt (shapeOf f)
+  length-bytes-sav =
+      length-bytes (shapeOf f .half * 1924) (wordsFromSav f a) (length-words-sav ∙ omega arith) ∙ omega arith
+
+  pub length-bytes-eav :
+      length (bytes (wordsFromEav f a)) ≡ 3 * (shapeOf f .half * (8 + shapeOf f .ancillary) + shapeOf f .fill)
+  length-bytes-eav =
+      length-bytes (shapeOf f .half * (8 + shapeOf f .ancillary) + shapeOf f .fill) (wordsFromEav f a)
+      (length-words-eav ∙ omega arith)
+
+-- characters and symbols, where there are streams
+module _ (f : Format) (a : Asked) (some : 1 ≤ shapeOf f .half) where
+  pub length-chars-sav : length (charsFromSav f a) ≡ eavAt (shapeOf f)
+  unfolding charsFromSav
+  length-chars-sav = omega (arith, length-drop 4 (bytes (wordsFromSav f a)), length-bytes-sav f a)
+
+  pub length-chars-eav :
+      length (charsFromEav f a) ≡ 3 * (shapeOf f .half * (8 + shapeOf f .ancillary) + shapeOf f .fill)
+  unfolding charsFromEav
+  length-chars-eav = omega (arith, length-drop 4 (bytes (wordsFromEav f a)), length-bytes-eav f a)
+
+  pub length-chars : length (spanChars f a) ≡ symbolsIn (shapeOf f)
+  unfolding spanChars
+  length-chars = length-append (charsFromSav f a) (charsFromEav f a) ∙ omega (arith, length-chars-sav, length-chars-eav)
+
+  pub length-of-symbols : (d : Disparity) → length (spanSymbols d f a) ≡ symbolsIn (shapeOf f)
+  unfolding spanSymbols
+  length-of-symbols d = length-symbols d (spanChars f a) ∙ length-chars

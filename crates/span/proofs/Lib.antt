@@ -1,0 +1,12 @@
+pub mod Encoding
+pub mod Formats
+pub mod Images
+pub mod Interleaving
+pub mod LengthCalls
+pub mod Lengths
+pub mod OneToOne
+pub mod Packing
+pub mod Parts
+pub mod Places
+pub mod Samples
+pub mod Signals

@@ -1,0 +1,36 @@
+-- Spans one after the other are one run of characters; the CRC runs on from the picture words of the line before the number.
+-- Assumes nothing.
+use mathlib.Core.Path.{_≡_, refl, sym, ap, _∙_}
+use mathlib.Core.List.{List, [], _∷_, _++_}
+use Prim.Native.Nat.{ℕ}
+use Rattle.symbol.specs.declared.disparity.Disparity.{Disparity}
+use Rattle.symbol.specs.declared.disparity.Disparity.the-variants.{Negative}
+use Rattle.word.specs.Crcc.{crc}
+use Rattle.word.proofs.Crc.{crc-append}
+use Rattle.span.specs.declared.format.Format.{Format}
+use Rattle.span.specs.Encoding.{symbolsFrom}
+use Rattle.span.specs.Span.{spanChars, spanSymbols, spanAfter, signalFrom, signal}
+use Rattle.span.specs.Stream.{Asked, picture, eav, lineNumber, register}
+use Rattle.span.proofs.Encoding.{symbols-append}
+
+-- the characters of spans one after the other
+abbrev pub allChars : Format → List Asked → List ℕ
+allChars f [] = []
+allChars f (a ∷ more) = spanChars f a ++ allChars f more
+
+handed-on : (d : Disparity) (f : Format) (spans : List Asked) → signalFrom d f spans ≡ symbolsFrom d (allChars f spans)
+unfolding signalFrom spanSymbols spanAfter symbolsFrom
+handed-on d f [] = refl
+handed-on d f (a ∷ more) =
+    ap (λ (l : List ℕ). spanSymbols d f a ++ l) (handed-on (spanAfter d f a) f more)
+    ∙ sym (symbols-append d (spanChars f a) (allChars f more))
+
+-- the first span from negative disparity, each other from what the one before it leaves
+pub signal-is : (f : Format) (spans : List Asked) → signal f spans ≡ symbolsFrom Negative (allChars f spans)
+unfolding signal
+signal-is f spans = handed-on Negative f spans
+
+-- 004, 6.4: from the first word after a SAV, through the picture, to the last line-number word
+pub register-runs-on : (f : Format) (a : Asked) (t : ℕ) → register f a t ≡ crc (crc 0 (picture f a t)) (eav a ++ lineNumber a)
+unfolding register
+register-runs-on f a t = sym (crc-append 0 (picture f a t) (eav a ++ lineNumber a))

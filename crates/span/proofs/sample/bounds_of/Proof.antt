@@ -1,0 +1,69 @@
+-- `span::sample::bounds_of` meets its contract: by the line and the depth.
+-- Assumes nothing.
+use mathlib.Core.Path.{_≡_, sym, _∙_}
+use mathlib.Core.Bool.{true, false}
+use Prim.Native.Nat.{ℕ}
+use lib.Dec.{eqb}
+use Rattle.line.specs.Stream.{isActive}
+use Rattle.span.specs.declared.format.Format.{Format}
+use Rattle.span.specs.Sample.{boundsOf}
+use borrow.Author.Needs.{needs}
+use Rattle.span.proofs.sample.bounds_of.Statement.{statement}
+use Rattle.span.proofs.sample.bounds_of.Tie as tie
+
+module _ (f : Format) (n : ℕ) where
+  ten : isActive n ≡ true → eqb (f .depth) 10 ≡ true → boundsOf f n ≡ record { low = 4; high = 1019; factor = 4 }
+  ten t e = simp (t, e)
+
+  twelve : isActive n ≡ true → eqb (f .depth) 10 ≡ false → boundsOf f n ≡ record { low = 16; high = 4079; factor = 1 }
+  twelve t e = simp (t, e)
+
+  blanking : isActive n ≡ false → boundsOf f n ≡ record { low = 0x100; high = 0x100; factor = 1 }
+  blanking t = simp t
+
+is-active-requires : tie.Need-is-active-requires
+is-active-requires c κs = search needs
+
+is-ten-bits-requires : tie.Need-is-ten-bits-requires
+is-ten-bits-requires c κs = search needs
+
+between-requires : tie.Need-between-requires
+between-requires c κs = search needs
+
+returns : tie.Need-returns
+returns c =
+    let a = c .before .before .before .before .before .args in
+    c .between .ensures
+    ∙ sym (ten (a .f) (a .l .0) (sym (c .before .before .before .before .is-active .ensures) ∙ c .before .before .before .if1 .taken)
+    (sym (c .before .before .is-ten-bits .ensures) ∙ c .before .if2 .taken))
+
+between-requires-2 : tie.Need-between-requires-2
+between-requires-2 c κs = search needs
+
+returns-2 : tie.Need-returns-2
+returns-2 c =
+    let a = c .before .before .before .before .before .args in
+    c .between2 .ensures
+    ∙ sym (twelve (a .f) (a .l .0) (sym (c .before .before .before .before .is-active .ensures) ∙ c .before .before .before .if1 .taken)
+    (sym (c .before .before .is-ten-bits .ensures) ∙ c .before .if2 .left))
+
+between-requires-3 : tie.Need-between-requires-3
+between-requires-3 c κs = search needs
+
+returns-3 : tie.Need-returns-3
+returns-3 c =
+    let a = c .before .before .before .args in
+    c .between3 .ensures ∙ sym (blanking (a .f) (a .l .0) (sym (c .before .before .is-active .ensures) ∙ c .before .if1 .left))
+
+pub bounds-of-spec : {M : Type 1} → statement M
+bounds-of-spec =
+    tie.close
+    (tie.spec
+    is-active-requires
+    is-ten-bits-requires
+    between-requires
+    returns
+    between-requires-2
+    returns-2
+    between-requires-3
+    returns-3)

@@ -1,0 +1,59 @@
+-- The formats (document 01, "A span": its table; 004, tables 4, 11 and 14).
+-- Assumes nothing.
+use Prim.Native.Nat.{ℕ, _+_, _*_, _/_, _≤_}
+use mathlib.Core.Bool.{Bool, _&&_, _||_}
+use mathlib.Core.List.{List, [], _∷_}
+use lib.Dec.{eqb}
+use lib.ListN.{getD}
+use Rattle.ground.specs.Range.{within}
+use Rattle.span.specs.declared.format.Format.{Format}
+use Rattle.span.specs.declared.format.Shape.{Shape}
+
+-- formats 1 to 3, at 10 or 12 bits
+abbrev pub isKnown : Format → Bool
+isKnown f = within 1 3 (f .number) && (eqb (f .depth) 10 || eqb (f .depth) 12)
+
+-- a row of the table: s, the ancillary words per stream, the fill words. s and the fill are even, and half of each is kept, since the
+-- link takes words two at a time.
+abbrev pub row : ℕ → ℕ → ℕ → Shape
+row s a g = record { half = s / 2; ancillary = a; fill = g / 2 }
+
+-- the table, from format 1 on; what is no format has no streams
+abbrev pub formats : List Shape
+formats = row 0 0 0 ∷ row 2 268 880 ∷ row 2 708 1056 ∷ row 4 708 2112 ∷ []
+
+abbrev pub numbered : ℕ → Shape
+numbered n = getD formats n (row 0 0 0)
+
+unfoldable pub shapeOf : Format → Shape
+shapeOf f = numbered (f .number)
+
+-- the number s of streams
+abbrev pub streams : Shape → ℕ
+streams p = 2 * p .half
+
+-- the samples that a span carries: 1920 of each stream
+abbrev pub samplesIn : Shape → ℕ
+samplesIn p = 1920 * streams p
+
+-- the words of one stream from a SAV to before the next, fill apart: SAV 4, picture 1920, EAV 4, line number 2, CRCC 2, ancillary
+abbrev pub wordsPerStream : Shape → ℕ
+wordsPerStream p = 4 + 1920 + 4 + 2 + 2 + p .ancillary
+
+-- the pairs of words of a span
+abbrev pub pairsIn : Shape → ℕ
+pairsIn p = p .half * wordsPerStream p + p .fill
+
+-- its symbols: two words give three
+abbrev pub symbolsIn : Shape → ℕ
+symbolsIn p = 3 * pairsIn p
+
+-- the symbol at which the EAV begins
+abbrev pub eavAt : Shape → ℕ
+eavAt p = 2886 * streams p
+
+-- no shape is larger than these
+pub record Small (p : Shape) : Type 0 where
+  pub half : p .half ≤ 2
+  pub ancillary : p .ancillary ≤ 708
+  pub fill : p .fill ≤ 1056

@@ -1,0 +1,28 @@
+-- Which samples a stream may carry on a line, and the words sent for them (document 01, "Words of a stream" and "Sending"; 004, 6.1, 6.8).
+-- Assumes nothing.
+use Prim.Native.Nat.{ℕ}
+use mathlib.Core.Bool.{Bool, cond}
+use lib.Dec.{eqb}
+use Rattle.line.specs.Stream.{isActive}
+use Rattle.word.specs.Sample.{allowed as allowedAt, sampleWord as wordAt}
+use Rattle.span.specs.declared.format.Format.{Format}
+use Rattle.span.specs.declared.sample.Bounds.{Bounds}
+
+-- 6.8: the blanking word of stream t
+abbrev pub blank : Format → ℕ → ℕ
+blank f t = 0x100
+
+-- may stream t of line n carry sample x: on an active line what the depth allows, on a blanking line the blanking word alone
+abbrev pub allowed : Format → ℕ → ℕ → ℕ → Bool
+allowed f n t x = cond (isActive n) (allowedAt (f .depth) x) (eqb x (blank f t))
+
+-- the word sent for it: on an active line by the depth, on a blanking line as it is
+abbrev pub sampleWord : Format → ℕ → ℕ → ℕ → ℕ
+sampleWord f n t x = cond (isActive n) (wordAt (f .depth) x) x
+
+-- the same for a loop: the lowest and highest sample allowed (law `allowed-is`), and the factor that makes it a word (law `word-is`)
+abbrev pub boundsOf : Format → ℕ → Bounds
+boundsOf f n =
+    cond (isActive n)
+    (cond (eqb (f .depth) 10) (record { low = 4; high = 1019; factor = 4 }) (record { low = 16; high = 4079; factor = 1 }))
+    (record { low = 0x100; high = 0x100; factor = 1 })

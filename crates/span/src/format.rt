@@ -1,0 +1,76 @@
+// Formats as the caller wrote them, and what the known ones mean (document 01, "A span").
+ghost use mathlib.Core.Path.{_≡_};
+ghost use lib.Dec.{eqb};
+ghost use Rattle.span.specs.Format.{isKnown as known, shapeOf};
+
+// The number of the format and the depth in bits, any numbers: the calls that take a format refuse what is unknown.
+pub struct Format {
+    number: u8,
+    depth: u8,
+}
+
+// Half the streams, the ancillary words per stream, half the fill words.
+pub struct Shape {
+    pub half: usize,
+    pub ancillary: usize,
+    pub fill: usize,
+}
+
+// The one place where a format is made.
+pub fn format_of(number: u8, depth: u8) -> Format
+    ensures { λ r. ⌜ r ≡ record { number = number; depth = depth } ⌝ }
+{
+    Format { number, depth }
+}
+
+// Whether there is such a format and depth.
+pub fn is_known(f: Format) -> bool
+    ensures { λ r. ⌜ r ≡ known f ⌝ }
+{
+    if ground::range::within(1, 3, f.number as u16) {
+        if f.depth == 10 {
+            return true;
+        }
+        return f.depth == 12;
+    }
+    false
+}
+
+// Whether samples have ten bits.
+pub(crate) fn is_ten_bits(f: Format) -> bool
+    ensures { λ r. ⌜ r ≡ eqb (f .depth) 10 ⌝ }
+{
+    f.depth == 10
+}
+
+// What it means; nothing of everything where it is unknown.
+pub fn shape_of(f: Format) -> Shape
+    ensures { λ r. ⌜ r ≡ shapeOf f ⌝ }
+{
+    if f.number == 1 {
+        return Shape {
+            half: 1,
+            ancillary: 268,
+            fill: 440,
+        };
+    }
+    if f.number == 2 {
+        return Shape {
+            half: 1,
+            ancillary: 708,
+            fill: 528,
+        };
+    }
+    if f.number == 3 {
+        return Shape {
+            half: 2,
+            ancillary: 708,
+            fill: 1056,
+        };
+    }
+    Shape {
+        half: 0,
+        ancillary: 0,
+        fill: 0,
+    }
+}

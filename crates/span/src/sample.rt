@@ -1,0 +1,31 @@
+// The samples that a line may carry, for loops that check and send them.
+use crate::format::Format;
+use line::stream::StreamLine;
+ghost use mathlib.Core.Path.{_≡_};
+ghost use Rattle.span.specs.Sample.{boundsOf};
+
+// The lowest and the highest sample allowed, and the factor that makes a sample the word sent.
+pub struct Bounds {
+    pub low: u16,
+    pub high: u16,
+    pub factor: u16,
+}
+
+fn between(low: u16, high: u16, factor: u16) -> Bounds
+    ensures { λ r. ⌜ r ≡ record { low = low; high = high; factor = factor } ⌝ }
+{
+    Bounds { low, high, factor }
+}
+
+// Those of a line: by the depth on an active line; 100 (hex) alone, as it is, on any other.
+pub fn bounds_of(f: Format, l: StreamLine) -> Bounds
+    ensures { λ r. ⌜ r ≡ boundsOf f (l .0) ⌝ }
+{
+    if line::stream::is_active(l) {
+        if crate::format::is_ten_bits(f) {
+            return between(4, 1019, 4);
+        }
+        return between(16, 4079, 1);
+    }
+    between(0x100, 0x100, 1)
+}
