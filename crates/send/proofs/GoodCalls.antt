@@ -1,0 +1,187 @@
+-- Good calls are sent, and no others, in document 01's own numbers.
+-- Assumes nothing.
+use mathlib.Core.Path.{_≡_, refl, sym, _∙_}
+use mathlib.Core.Bool.{Bool, true, false}
+use mathlib.Core.List.{List}
+use mathlib.Core.Logic.{_⊎_, inl, inr, ⊎-elim}
+use Prim.Native.Nat.{ℕ, zero, suc, _≤_, _<_}
+use native.Mathlib.Omega.{arith}
+use lib.Dec.{eqb, ltb}
+use lib.ListN.{length, getD}
+use borrow.Author.Tests.{eqb-true, eqb-false, eq-eqb, ne-eqb, not-false, ltb-true, ltb-false}
+use Rattle.ground.specs.Answer.{Answer, refused, given}
+use Rattle.ground.specs.Range.{within}
+use Rattle.ground.proofs.Cases.{on-test}
+use Rattle.ground.proofs.Ranges.{is-within, not-within, from-low, to-high, outside}
+use Rattle.line.specs.Stream.{isLine, isActive}
+use Rattle.symbol.specs.declared.disparity.Disparity.{Disparity}
+use Rattle.span.specs.declared.format.Format.{Format}
+use Rattle.span.specs.Format.{isKnown, numbered, shapeOf, samplesIn, symbolsIn}
+use Rattle.span.specs.Sample.{boundsOf}
+use Rattle.span.specs.Span.{spanAfter}
+use Rattle.span.specs.Stream.{Asked}
+use Rattle.span.proofs.Formats.{is-known, known-told}
+use Rattle.send.specs.Check.{firstOutside}
+use Rattle.send.specs.Send.{Good, sendOf}
+use Rattle.send.proofs.Checking.{outside-never}
+use Rattle.send.proofs.Refusals.{forbidden-is, send-meets-1, send-meets-2, send-meets-3, send-meets-4, send-meets-6, sends, is-good}
+
+-- formats 1 to 3, with the samples and the symbols of a span
+abbrev pub Sized : ℕ → ℕ → ℕ → Type 0
+Sized number samples symbols =
+    ((number ≡ 1) × (samples ≡ 3840) × (symbols ≡ 7920))
+    ⊎ (((number ≡ 2) × (samples ≡ 3840) × (symbols ≡ 9504))
+    ⊎ ((number ≡ 3) × (samples ≡ 7680) × (symbols ≡ 19008)))
+
+-- a call that document 01 does not refuse: format, depth, line, samples, and the room for symbols
+pub record GoodCall (number depth n : ℕ) (xs : List ℕ) (room : ℕ) : Type 0 where
+  pub format : Sized number (length xs) room
+  pub bits : (depth ≡ 10) ⊎ (depth ≡ 12)
+  pub first : 1 ≤ n
+  pub last : n ≤ 1125
+  pub ten : depth ≡ 10 → 42 ≤ n → n ≤ 1121 → (i : ℕ) → i < length xs → (4 ≤ getD xs i 0) × (getD xs i 0 ≤ 1019)
+  pub twelve : depth ≡ 12 → 42 ≤ n → n ≤ 1121 → (i : ℕ) → i < length xs → (16 ≤ getD xs i 0) × (getD xs i 0 ≤ 4079)
+  pub blanking : (42 ≤ n → n ≤ 1121 → ⊥) → (i : ℕ) → i < length xs → getD xs i 0 ≡ 0x100
+
+-- the bounds of a line, in those numbers
+module _ (f : Format) (n x : ℕ) where
+  abbrev inBounds : Bool
+  inBounds = within (boundsOf f n .low) (boundsOf f n .high) x
+
+  at-ten : f .depth ≡ 10 → isActive n ≡ true → inBounds ≡ within 4 1019 x
+  at-ten e active = simp (active, eq-eqb (f .depth) 10 e)
+
+  at-twelve : f .depth ≡ 12 → isActive n ≡ true → inBounds ≡ within 16 4079 x
+  at-twelve e active =
+      let other : f .depth ≡ 10 → ⊥ = λ ten. omega arith in
+      simp (active, ne-eqb (f .depth) 10 other)
+
+  in-blanking : isActive n ≡ false → inBounds ≡ within 0x100 0x100 x
+  in-blanking t = simp t
+
+one-of-three : (n : ℕ) → 1 ≤ n → n ≤ 3 → (n ≡ 1) ⊎ ((n ≡ 2) ⊎ (n ≡ 3))
+one-of-three zero p q = absurd (omega arith)
+one-of-three (suc zero) p q = inl refl
+one-of-three (suc (suc zero)) p q = inr (inl refl)
+one-of-three (suc (suc (suc zero))) p q = inr (inr refl)
+one-of-three (suc (suc (suc (suc n)))) p q = absurd (omega arith)
+
+-- the table of formats, in those numbers
+module _ (f : Format) (long room : ℕ) where
+  record Right : Type 0 where
+    from : 1 ≤ f .number
+    to : f .number ≤ 3
+    samples : long ≡ samplesIn (shapeOf f)
+    symbols : room ≡ symbolsIn (shapeOf f)
+
+  right : (n : ℕ) → 1 ≤ n → n ≤ 3 → f .number ≡ n → long ≡ samplesIn (numbered n) → room ≡ symbolsIn (numbered n) → Right
+  unfolding shapeOf
+  right n p q t e g = record { from = omega arith; to = omega arith; samples = e ∙ rw t; symbols = g ∙ rw t }
+
+  sized : Sized (f .number) long room → Right
+  sized =
+      ⊎-elim
+      (λ t. right 1 (omega arith) (omega arith) (t .0) (t .1) (t .2))
+      (⊎-elim
+      (λ t. right 2 (omega arith) (omega arith) (t .0) (t .1) (t .2))
+      (λ t. right 3 (omega arith) (omega arith) (t .0) (t .1) (t .2)))
+
+  sizes : Right → Sized (f .number) long room
+  unfolding shapeOf
+  sizes r =
+      let e = r .samples in
+      let g = r .symbols in
+      ⊎-elim
+      (λ t. inl (t, e ∙ rw t, g ∙ rw t))
+      (⊎-elim (λ t. inr (inl (t, e ∙ rw t, g ∙ rw t))) (λ t. inr (inr (t, e ∙ rw t, g ∙ rw t))))
+      (one-of-three (f .number) (r .from) (r .to))
+
+-- an answer that is given is no refusal
+not-refused : {A : Type 0} {r : Answer A} {e : A} {number place : ℕ} → r ≡ given e → r ≡ refused number place → ⊥
+not-refused g x = let z : _≡_ {A = ℕ} 0 1 = cc in omega arith
+
+module _ (d : Disparity) (f : Format) (a : Asked) (room : ℕ) where
+  abbrev inside : ℕ → Type 0
+  inside i = inBounds f (a .line) (getD (a .samples) i 0) ≡ true
+
+  each-inside : GoodCall (f .number) (f .depth) (a .line) (a .samples) room → (i : ℕ) → i < length (a .samples) → inside i
+  each-inside g i h =
+      let n = a .line in
+      let x = getD (a .samples) i 0 in
+      on-test (isActive n)
+      (λ t.
+      let p = from-low 42 1121 n t in
+      let q = to-high 42 1121 n t in
+      ⊎-elim
+      (λ e. let b = g .ten e p q i h in at-ten f n x e t ∙ is-within 4 1019 x (b .0) (b .1))
+      (λ e. let b = g .twelve e p q i h in at-twelve f n x e t ∙ is-within 16 4079 x (b .0) (b .1))
+      (g .bits))
+      (λ t.
+      let e = g .blanking (outside 42 1121 n t) i h in
+      in-blanking f n x t ∙ is-within 0x100 0x100 x (omega arith) (omega arith))
+
+  -- a good call is sent
+  pub good-is-sent : GoodCall (f .number) (f .depth) (a .line) (a .samples) room → sendOf d f a room ≡ given (spanAfter d f a)
+  good-is-sent g =
+      let s = sized f (length (a .samples)) room (g .format) in
+      sends d f a room
+      (is-known f (record { from = s .from; to = s .to; bits = g .bits }))
+      (is-within 1 1125 (a .line) (g .first) (g .last))
+      (s .samples)
+      (s .symbols)
+      (length (a .samples))
+      (sym (outside-never _ _ _ (each-inside g)))
+      (omega arith)
+
+  -- what is sent, told by the refusals that it did not meet
+  module _ (e : Disparity) (sent : sendOf d f a room ≡ given e) where
+    never : {number place : ℕ} → sendOf d f a room ≡ refused number place → ⊥
+    never x = not-refused sent x
+
+    known : isKnown f ≡ true
+    known = on-test (isKnown f) (λ t. t) (λ t. absurd (never (send-meets-1 d f a room t)))
+
+    line : isLine (a .line) ≡ true
+    line = on-test (isLine (a .line)) (λ t. t) (λ t. absurd (never (send-meets-2 d f a room known t)))
+
+    samples : length (a .samples) ≡ samplesIn (shapeOf f)
+    samples =
+        on-test (eqb (length (a .samples)) (samplesIn (shapeOf f)))
+        (eqb-true _ _)
+        (λ t. absurd (never (send-meets-3 d f a room known line (eqb-false _ _ t))))
+
+    symbols : room ≡ symbolsIn (shapeOf f)
+    symbols =
+        on-test (eqb room (symbolsIn (shapeOf f)))
+        (eqb-true _ _)
+        (λ t. absurd (never (send-meets-4 d f a room known line samples (eqb-false _ _ t))))
+
+    good : Good f a
+    good =
+        let w = firstOutside (boundsOf f (a .line) .low) (boundsOf f (a .line) .high) (a .samples) in
+        on-test (ltb w (length (a .samples)))
+        (λ t. absurd (never (send-meets-6 d f a room known line samples symbols w refl (ltb-true _ _ t))))
+        (λ t. is-good d f a room known line samples symbols w refl (ltb-false _ _ t))
+
+    was-inside : (i : ℕ) → i < length (a .samples) → inside i
+    was-inside i h = not-false _ (sym (forbidden-is f a known i) ∙ good .allowed i h)
+
+    -- so it was a good call
+    pub sent-is-good : GoodCall (f .number) (f .depth) (a .line) (a .samples) room
+    sent-is-good =
+        let k = known-told f known in
+        let n = a .line in record {
+          format = sizes f (length (a .samples)) room (record { from = k .from; to = k .to; samples = samples; symbols = symbols });
+          bits = k .bits;
+          first = from-low 1 1125 n line;
+          last = to-high 1 1125 n line;
+          ten = λ e p q i h.
+              let t = sym (at-ten f n _ e (is-within 42 1121 n p q)) ∙ was-inside i h in
+              (from-low 4 1019 _ t, to-high 4 1019 _ t);
+          twelve = λ e p q i h.
+              let t = sym (at-twelve f n _ e (is-within 42 1121 n p q)) ∙ was-inside i h in
+              (from-low 16 4079 _ t, to-high 16 4079 _ t);
+          blanking = λ x i h.
+              let t = sym (in-blanking f n _ (not-within 42 1121 n x)) ∙ was-inside i h in
+              omega (arith, from-low 0x100 0x100 _ t, to-high 0x100 0x100 _ t);
+        }

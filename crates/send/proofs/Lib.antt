@@ -1,0 +1,11 @@
+pub mod Blank
+pub mod Checking
+pub mod GoodCalls
+pub mod OneToOne
+pub mod Passing
+pub mod Putting
+pub mod Refusals
+pub mod Runs
+pub mod Sizes
+pub mod TimingCodes
+pub mod Whole

@@ -1,0 +1,123 @@
+-- Runs of characters put into the symbol buffer one behind the other.
+-- Assumes nothing.
+use mathlib.Core.Path.{_≡_, refl, sym, ap, ap₂, _∙_}
+use mathlib.Core.List.{List, [], _∷_, _++_}
+use Prim.Native.Nat.{ℕ, zero, suc, _+_, _*_, _≤_, _<_}
+use native.Mathlib.Omega.{arith}
+use lib.ListN.{length, set}
+use lib.Seq.{sets, length-sets}
+use Rattle.ground.proofs.Writing.{sets-append, sets-whole, length-upto, upto-same}
+use Rattle.ground.specs.Written.{upto}
+use Rattle.symbol.specs.declared.disparity.Disparity.{Disparity}
+use Rattle.encoder.specs.Tables.{offsetOf, ofOffset}
+use Rattle.encoder.proofs.Entries.{offset-again}
+use Rattle.span.specs.Encoding.{symbolsFrom, afterRun}
+use Rattle.span.proofs.Encoding.{symbols-append, after-append, length-symbols}
+use Rattle.send.specs.declared.coder.Three.{Three}
+use Rattle.send.specs.Put.{behind, put, pairChars, threeOf, groupChars}
+
+-- the disparity that an offset behind a run stands for
+pub behind-is : (d : ℕ) (cs : List ℕ) → ofOffset (behind d cs) ≡ afterRun (ofOffset d) cs
+unfolding behind
+behind-is d cs = offset-again (afterRun (ofOffset d) cs)
+
+-- two runs, where the offset between them is the one that the first leaves
+pub one-offset : (d e : ℕ) (cs ds : List ℕ) → ofOffset e ≡ afterRun (ofOffset d) cs → behind e ds ≡ behind d (cs ++ ds)
+unfolding behind
+one-offset d e cs ds t =
+    ap (λ (x : Disparity). offsetOf (afterRun x ds)) t ∙ ap offsetOf (sym (after-append (ofOffset d) cs ds))
+
+one-buffer : (d e at place : ℕ) (cs ds before after : List ℕ) → ofOffset e ≡ afterRun (ofOffset d) cs → after ≡ put d cs at before
+    → place ≡ at + length cs → put e ds place after ≡ put d (cs ++ ds) at before
+unfolding put
+one-buffer d e at place cs ds before after t o q =
+    let x : List ℕ = symbolsFrom (ofOffset d) cs in
+    let y : List ℕ = symbolsFrom (afterRun (ofOffset d) cs) ds in
+    ap (λ (l : List ℕ). sets l place (symbolsFrom (ofOffset e) ds)) o
+    ∙ ap (λ (z : Disparity). sets (sets before at x) place (symbolsFrom z ds)) t
+    ∙ sets-append before x y at place (q ∙ ap (λ (n : ℕ). at + n) (sym (length-symbols (ofOffset d) cs)))
+    ∙ ap (sets before at) (sym (symbols-append (ofOffset d) cs ds))
+
+-- what a call that puts a run of characters does: the offset behind it, and the buffer
+pub record Put (d : ℕ) (cs : List ℕ) (at : ℕ) (before : List ℕ) (e : ℕ) (after : List ℕ) : Type 0 where
+  pub offset : e ≡ behind d cs
+  pub out : after ≡ put d cs at before
+
+module _ {d at e : ℕ} {cs before after : List ℕ} (p : Put d cs at before e after) where
+  -- the buffer keeps its length
+  pub same-size : length after ≡ length before
+  unfolding put
+  same-size = ap (λ (l : List ℕ). length l) (p .out) ∙ length-sets before at (symbolsFrom (ofOffset d) cs)
+
+  pub told : ofOffset e ≡ afterRun (ofOffset d) cs
+  told = ap ofOffset (p .offset) ∙ behind-is d cs
+
+  -- the offset behind a run is one
+  pub is-offset : e ≡ offsetOf (ofOffset e)
+  unfolding behind
+  is-offset = p .offset ∙ ap offsetOf (sym told)
+
+  -- a run and the run behind it are one
+  pub then : {place g : ℕ} {ds end : List ℕ} → place ≡ at + length cs → Put e ds place after g end → Put d (cs ++ ds) at before g end
+  then {place} {g} {ds} {end} q r = record { offset = offsets; out = r .out ∙ buffers }
+    where
+      offsets : g ≡ behind d (cs ++ ds)
+      offsets = r .offset ∙ one-offset d e cs ds told
+
+      buffers : put e ds place after ≡ put d (cs ++ ds) at before
+      buffers = one-buffer d e at place cs ds before after told (p .out) q
+
+-- a run that fills the buffer is all that stands in it
+pub whole : {d e : ℕ} {cs before after : List ℕ} → Put d cs 0 before e after → length cs ≡ length before
+    → after ≡ symbolsFrom (ofOffset d) cs
+unfolding put
+whole {d} {cs} {before} p q =
+    p .out ∙ sets-whole before (symbolsFrom (ofOffset d) cs) (length-symbols (ofOffset d) cs ∙ q)
+
+-- three characters, as the code stores them
+pub three-put : (d at : ℕ) (out : List ℕ) (x y z : ℕ) {t : Three} → t ≡ threeOf (ofOffset d) x y z
+    → Put d (x ∷ y ∷ z ∷ []) at out (t .offset) (set (set (set out at (t .first)) (at + 1) (t .second)) (at + 2) (t .third))
+unfolding behind put threeOf
+three-put d at out x y z p =
+    let one : at + 1 ≡ suc at = omega arith in
+    let two : at + 2 ≡ suc (suc at) = omega arith in
+    record { offset = rw p; out = rw (p, one, two) }
+
+-- the two promises of a call as one
+pub made : {d at e : ℕ} {cs before after : List ℕ} → (e ≡ behind d cs) × (after ≡ put d cs at before) → Put d cs at before e after
+made p = record { offset = p .0; out = p .1 }
+
+-- one word of each stream: a pair of words with two streams, two with four
+pub group-of-two : (w : ℕ → ℕ) → groupChars 1 w ≡ pairChars (w 0) (w 1)
+unfolding groupChars upto
+group-of-two w = refl
+
+pub group-of-four : (w : ℕ → ℕ) → groupChars 2 w ≡ pairChars (w 0) (w 1) ++ pairChars (w 2) (w 3)
+unfolding groupChars upto
+group-of-four w = refl
+
+pub length-group : (half : ℕ) (w : ℕ → ℕ) → length (groupChars half w) ≡ 3 * half
+unfolding groupChars
+length-group half w = length-upto 3 (λ u. pairChars (w (2 * u)) (w (2 * u + 1))) (λ m. refl) half
+
+-- a run by another name
+pub renamed : {d at e : ℕ} {cs ds before after : List ℕ} → ds ≡ cs → Put d cs at before e after → Put d ds at before e after
+renamed {d} {at} {e} {before} {after} q p = rw q p
+
+-- the same word on each stream that is there
+pub same-group : (half : ℕ) (w v : ℕ → ℕ) → ((t : ℕ) → t < 2 * half → w t ≡ v t) → groupChars half w ≡ groupChars half v
+unfolding groupChars
+same-group half w v e =
+    upto-same half (λ u. pairChars (w (2 * u)) (w (2 * u + 1))) (λ u. pairChars (v (2 * u)) (v (2 * u + 1)))
+    (λ u h. ap₂ (λ (a b : ℕ). pairChars a b) (e (2 * u) (omega arith)) (e (2 * u + 1) (omega arith)))
+
+pub same-four : (half : ℕ) → half ≤ 2 → (w v : ℕ → ℕ) → w 0 ≡ v 0 → w 1 ≡ v 1 → w 2 ≡ v 2 → w 3 ≡ v 3
+    → groupChars half w ≡ groupChars half v
+same-four half h w v a b c e = same-group half w v (λ t l. each t (omega arith))
+  where
+    each : (t : ℕ) → t < 4 → w t ≡ v t
+    each zero l = a
+    each (suc zero) l = b
+    each (suc (suc zero)) l = c
+    each (suc (suc (suc zero))) l = e
+    each (suc (suc (suc (suc t)))) l = absurd (omega arith)

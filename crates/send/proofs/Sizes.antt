@@ -1,0 +1,50 @@
+-- How many characters stand behind the picture, and in a run.
+-- Assumes nothing.
+use mathlib.Core.Path.{_≡_, refl, _∙_}
+use mathlib.Core.Bool.{true}
+use mathlib.Core.List.{List, _++_}
+use Prim.Native.Nat.{ℕ, _*_, _≤_}
+use native.Mathlib.Omega.{arith}
+use lib.ListN.{length, length-append}
+use Rattle.ground.proofs.Writing.{length-upto}
+use Rattle.line.specs.Stream.{vOf}
+use Rattle.word.specs.declared.line_number.LineWords.{LineWords}
+use Rattle.word.specs.LineNumber.{lineWords}
+use Rattle.word.specs.Timing.{timing}
+use Rattle.span.specs.declared.content.ContentBytes.{ContentBytes}
+use Rattle.send.specs.declared.picture.Passed.{Passed}
+use Rattle.send.specs.Put.{pairChars, timingChars, groupChars, crccBehind, sumIn, crccChars, behindChars, runChars}
+use Rattle.send.proofs.Putting.{length-group}
+use Rattle.send.proofs.TimingCodes.{length-timing}
+
+length-crcc : (half : ℕ) (p : Passed) (xyz : ℕ) (n : LineWords) → length (crccChars half p xyz n) ≡ 6 * half
+unfolding crccChars
+length-crcc half p xyz n =
+    let first : ℕ → ℕ = λ t. crccBehind (sumIn p t) xyz n .crcc0 in
+    let second : ℕ → ℕ = λ t. crccBehind (sumIn p t) xyz n .crcc1 in
+    length-append (groupChars half first) (groupChars half second) ∙ omega (arith, length-group half first, length-group half second)
+
+pub length-behind : (half : ℕ) → 1 ≤ half → half ≤ 2 → (p : Passed) (m : ℕ) (content : ContentBytes)
+    → length (behindChars half p m content) ≡ 24 * half
+unfolding behindChars
+length-behind half some few p m content =
+    let xyz : ℕ = timing (vOf m) true in
+    let n : LineWords = lineWords m in
+    let code : List ℕ = timingChars half 266 (content .eav1) (content .eav2) xyz in
+    let g0 : List ℕ = groupChars half (λ _. n .ln0) in
+    let g1 : List ℕ = groupChars half (λ _. n .ln1) in
+    let sums : List ℕ = crccChars half p xyz n in
+    length-append code (g0 ++ (g1 ++ sums))
+    ∙ omega (
+      arith,
+      length-append g0 (g1 ++ sums),
+      length-append g1 sums,
+      length-timing half 266 (content .eav1) (content .eav2) xyz some few,
+      length-group half (λ _. n .ln0),
+      length-group half (λ _. n .ln1),
+      length-crcc half p xyz n,
+    )
+
+pub length-run : (n w : ℕ) → length (runChars n w) ≡ 3 * n
+unfolding runChars
+length-run n w = length-upto 3 (λ _. pairChars w w) (λ m. refl) n

@@ -1,0 +1,187 @@
+-- The characters of a span as the sender puts them: part behind part, each over half the streams.
+-- Assumes nothing.
+use mathlib.Core.Path.{_≡_, refl, sym, ap, ap₂, _∙_}
+use mathlib.Core.Bool.{Bool, true, false, cond}
+use mathlib.Core.List.{List, [], _++_, append-assoc}
+use Prim.Native.Nat.{ℕ, zero, suc, _+_, _*_, _/_, _≤_, _<_}
+use native.Mathlib.Omega.{arith}
+use lib.ListN.{length, getD}
+use borrow.Author.Tests.{lt-ltb, not-false}
+use Rattle.ground.specs.Written.{upto, table}
+use Rattle.ground.proofs.Writing.{getD-table, upto-same, table-same}
+use Rattle.line.specs.Stream.{vOf, lineAfter}
+use Rattle.symbol.specs.declared.disparity.Disparity.{Disparity}
+use Rattle.encoder.specs.Tables.{offsetOf, ofOffset}
+use Rattle.encoder.proofs.Entries.{offset-again}
+use Rattle.word.specs.declared.crcc.CrccWords.{CrccWords}
+use Rattle.word.specs.Crcc.{crc, crccWords}
+use Rattle.word.specs.LineNumber.{lineWords}
+use Rattle.word.specs.Timing.{timing}
+use Rattle.word.proofs.Crc.{crc-append}
+use Rattle.span.specs.declared.content.ContentBytes.{ContentBytes}
+use Rattle.span.specs.declared.format.Format.{Format}
+use Rattle.span.specs.declared.format.Shape.{Shape}
+use Rattle.span.specs.Content.{contentOf}
+use Rattle.span.specs.Format.{shapeOf, symbolsIn}
+use Rattle.span.specs.Encoding.{symbolsFrom, afterRun}
+use Rattle.span.specs.Sample.{allowed, sampleWord, boundsOf}
+use Rattle.span.specs.Span.{interleaved, bytes, charsFromSav, charsFromEav, spanChars, spanSymbols, spanAfter}
+use Rattle.span.specs.Stream.{Asked, picture, eav, lineNumber, register, crcc}
+use Rattle.span.proofs.Formats.{Known, known-told, small}
+use Rattle.span.proofs.Lengths.{known-has-streams, length-chars}
+use Rattle.span.proofs.Packing.{bytes-interleaved, bytes-replicate}
+use Rattle.span.proofs.Parts.{parts-from-sav, parts-from-eav, blank-area}
+use Rattle.span.proofs.Samples.{word-is, word-below}
+use Rattle.send.specs.declared.picture.Passed.{Passed}
+use Rattle.send.specs.Put.{timingChars, groupChars, scaled, pictureChars, sumOf, passedAt, crccBehind, sumIn, crccChars, behind, behindChars, runChars, wholeChars, Fits}
+use Rattle.send.specs.Send.{Good}
+use Rattle.send.proofs.Putting.{Put, renamed, told, whole, same-group}
+
+-- what stands in brackets another way
+regroup : (t g h c r : List ℕ) → t ++ ((g ++ h) ++ (c ++ r)) ≡ (t ++ (g ++ (h ++ c))) ++ r
+regroup t g h c r =
+    ap (λ (l : List ℕ). t ++ l) (append-assoc g h (c ++ r) ∙ ap (λ (l : List ℕ). g ++ l) (sym (append-assoc h c r)) ∙ sym (append-assoc g (h ++ c) r))
+    ∙ sym (append-assoc t (g ++ (h ++ c)) r)
+
+module _ (f : Format) (a : Asked) (good : Good f a) (factor : ℕ) (is : factor ≡ boundsOf f (a .line) .factor) where
+  abbrev half : ℕ
+  half = shapeOf f .half
+
+  abbrev w : ℕ → ℕ → ℕ
+  w = scaled factor (a .samples)
+
+  known : Known f
+  known = known-told f (good .known)
+
+  may : (i : ℕ) → i < length (a .samples) → allowed f (a .line) (i / 1920) (getD (a .samples) i 0) ≡ true
+  may i h = not-false _ (good .allowed i h)
+
+  -- each sample by the factor is a word
+  pub fits : Fits factor (a .samples)
+  fits = record { fits = λ i h. rw is (word-below f known (a .line) (i / 1920) (getD (a .samples) i 0) (may i h)) }
+
+  -- and the one that is sent
+  sample-scaled : (t j : ℕ) → t < 2 * half → j < 1920 → sampleWord f (a .line) t (getD (a .samples) (1920 * t + j) 0) ≡ w t j
+  sample-scaled t j l h =
+      let x : ℕ = getD (a .samples) (1920 * t + j) 0 in
+      let inside : 1920 * t + j < length (a .samples) = omega (arith, good .samples) in
+      let place : (1920 * t + j) / 1920 ≡ t = omega arith in
+      let ok : allowed f (a .line) t x ≡ true = ap (λ (u : ℕ). allowed f (a .line) u x) (sym place) ∙ may (1920 * t + j) inside in
+      word-is f known (a .line) t x ok ∙ ap (λ (m : ℕ). x * m) (sym is)
+
+  picture-is : bytes (interleaved (2 * half) 1920 (picture f a)) ≡ pictureChars half 1920 w
+  unfolding picture pictureChars groupChars
+  picture-is =
+      bytes-interleaved half 1920 (picture f a)
+      ∙ upto-same 1920 (λ j. groupChars half (λ t. getD (picture f a t) j 0)) (λ j. groupChars half (λ t. w t j))
+      (λ j h. same-group half (λ t. getD (picture f a t) j 0) (λ t. w t j)
+      (λ t l. getD-table 1920 (λ j. sampleWord f (a .line) t (getD (a .samples) (1920 * t + j) 0)) j 0 h ∙ sample-scaled t j l h))
+
+  words-are : (t : ℕ) → t < 2 * half → picture f a t ≡ table 1920 (w t)
+  unfolding picture
+  words-are t l =
+      table-same 1920 (λ j. sampleWord f (a .line) t (getD (a .samples) (1920 * t + j) 0)) (w t) (λ j h. sample-scaled t j l h)
+
+  -- the CRC of a stream is the one that ran over its picture words, run on
+  register-is : (t : ℕ) → t < 2 * half → register f a t ≡ crc (sumOf half 1920 w t) (eav a ++ lineNumber a)
+  unfolding register
+  register-is t l =
+      sym (crc-append 0 (picture f a t) (eav a ++ lineNumber a))
+      ∙ ap (λ (ws : List ℕ). crc (crc 0 ws) (eav a ++ lineNumber a))
+      (words-are t l ∙ sym (ap (λ (b : Bool). cond b (table 1920 (w t)) []) (lt-ltb t (2 * half) l)))
+
+  abbrev next : ℕ
+  next = lineAfter (a .line)
+
+  abbrev xyz : ℕ
+  xyz = timing (vOf next) true
+
+  some : 1 ≤ half
+  some = known-has-streams f (good .known)
+
+  few : half ≤ 2
+  few = small f refl .half
+
+  module _ (d : ℕ) where
+    abbrev passed : Passed
+    passed = passedAt half d w 1920
+
+    -- up to four streams
+    sum-in : (t : ℕ) → t < 4 → sumOf half 1920 w t ≡ sumIn passed t
+    sum-in zero l = refl
+    sum-in (suc zero) l = refl
+    sum-in (suc (suc zero)) l = refl
+    sum-in (suc (suc (suc zero))) l = refl
+    sum-in (suc (suc (suc (suc t)))) l = absurd (omega arith)
+
+    crcc-words-are : (t : ℕ) → t < 2 * half → crccWords (register f a t) ≡ crccBehind (sumIn passed t) xyz (lineWords next)
+    crcc-words-are t l =
+        ap crccWords (register-is t l)
+        ∙ ap (λ (c : ℕ). crccWords (crc c (eav a ++ lineNumber a))) (sum-in t (omega (arith, few)))
+
+    crcc-is : bytes (interleaved (2 * half) 2 (crcc f a)) ≡ crccChars half passed xyz (lineWords next)
+    unfolding crccChars groupChars upto
+    crcc-is =
+        bytes-interleaved half 2 (crcc f a)
+        ∙ ap₂ (λ (x y : List ℕ). x ++ y)
+        (same-group half (λ t. crccWords (register f a t) .crcc0) (λ t. crccBehind (sumIn passed t) xyz (lineWords next) .crcc0)
+        (λ t l. ap (λ (q : CrccWords). q .crcc0) (crcc-words-are t l)))
+        (same-group half (λ t. crccWords (register f a t) .crcc1) (λ t. crccBehind (sumIn passed t) xyz (lineWords next) .crcc1)
+        (λ t l. ap (λ (q : CrccWords). q .crcc1) (crcc-words-are t l)))
+
+    number-is :
+        bytes (interleaved (2 * half) 2 (λ _. lineNumber a)) ≡ groupChars half (λ _. lineWords next .ln0) ++ groupChars half (λ _. lineWords next .ln1)
+    unfolding groupChars upto
+    number-is = bytes-interleaved half 2 (λ _. lineNumber a)
+
+    abbrev content : ContentBytes
+    content = contentOf f (a .content)
+
+    abbrev blanks : List ℕ
+    blanks = runChars (half * shapeOf f .ancillary) 0x100 ++ runChars (shapeOf f .fill) 0x100
+
+    eav-is : charsFromEav f a ≡ behindChars half passed next content ++ blanks
+    unfolding timingChars behindChars runChars
+    eav-is =
+        parts-from-eav f a some
+        ∙ ap (λ (l : List ℕ). timingChars half 266 (content .eav1) (content .eav2) xyz ++ l)
+        (ap₂ (λ (x y : List ℕ). x ++ y) number-is
+        (ap₂ (λ (x y : List ℕ). x ++ y) crcc-is
+        (ap₂ (λ (x y : List ℕ). x ++ y) (blank-area f (a .line)) (bytes-replicate (shapeOf f .fill) 0x100))))
+        ∙ regroup (timingChars half 266 (content .eav1) (content .eav2) xyz) (groupChars half (λ _. lineWords next .ln0)) (groupChars half (λ _. lineWords next .ln1))
+        (crccChars half passed xyz (lineWords next)) blanks
+
+    sav-is : charsFromSav f a ≡ timingChars half 261 (content .sav1) (content .sav2) (timing (vOf (a .line)) false) ++ pictureChars half 1920 w
+    unfolding timingChars
+    sav-is =
+        parts-from-sav f a some
+        ∙ ap (λ (l : List ℕ). timingChars half 261 (content .sav1) (content .sav2) (timing (vOf (a .line)) false) ++ l) picture-is
+
+    pub whole-is : spanChars f a
+        ≡ timingChars half 261 (content .sav1) (content .sav2) (timing (vOf (a .line)) false)
+        ++ (pictureChars half 1920 w ++ (behindChars half passed next content ++ blanks))
+    unfolding spanChars
+    whole-is =
+        ap₂ (λ (x y : List ℕ). x ++ y) sav-is eav-is
+        ∙ append-assoc (timingChars half 261 (content .sav1) (content .sav2) (timing (vOf (a .line)) false)) (pictureChars half 1920 w) (behindChars half passed next content ++ blanks)
+
+  -- what the sender is asked for and what it answers, by a shape that is the format's
+  pub streams-there : {p : Shape} → p ≡ shapeOf f → 1 ≤ p .half
+  streams-there e = rw e some
+
+  pub samples-there : {p : Shape} → p ≡ shapeOf f → length (a .samples) ≡ 3840 * p .half
+  samples-there e = rw e (omega (arith, good .samples))
+
+  pub span-put : (d : Disparity) {o e : ℕ} {p : Shape} {c : ContentBytes} {before after : List ℕ} → o ≡ offsetOf d → p ≡ shapeOf f
+      → c ≡ contentOf f (a .content) → length before ≡ symbolsIn (shapeOf f) → Put o (wholeChars p o w (a .line) c) 0 before e after
+      → (ofOffset e ≡ spanAfter d f a) × (after ≡ spanSymbols d f a)
+  unfolding wholeChars spanAfter spanSymbols
+  span-put d {o} {p} {c} q r t sized put =
+      let sav : List ℕ = timingChars half 261 (contentOf f (a .content) .sav1) (contentOf f (a .content) .sav2) (timing (vOf (a .line)) false) in
+      let names : wholeChars p o w (a .line) c ≡ spanChars f a =
+      ap₂ (λ (x : Shape) (y : ContentBytes). wholeChars x o w (a .line) y) r t ∙ sym (whole-is (behind o sav)) in
+      let mine = renamed (sym names) put in
+      let start : ofOffset o ≡ d = ap ofOffset q ∙ offset-again d in (
+        told mine ∙ ap (λ (e : Disparity). afterRun e (spanChars f a)) start,
+        whole mine (length-chars f a some ∙ sym sized) ∙ ap (λ (e : Disparity). symbolsFrom e (spanChars f a)) start,
+      )

@@ -1,0 +1,132 @@
+-- `send::parts::put_behind` meets its contract: EAV, line number and CRCC, one behind the other.
+-- Assumes nothing.
+use mathlib.Core.Path.{_≡_, sym, ap, ap₂, _∙_}
+use mathlib.Core.Bool.{Bool, true}
+use mathlib.Core.List.{_++_}
+use Prim.Native.Nat.{ℕ, _+_}
+use native.Mathlib.Omega.{arith}
+use Rattle.line.specs.Stream.{vOf, lineAfter}
+use Rattle.word.specs.declared.line_number.LineWords.{LineWords}
+use Rattle.word.specs.LineNumber.{lineWords}
+use Rattle.word.specs.Timing.{timing}
+use Rattle.span.specs.declared.content.ContentBytes.{ContentBytes}
+use Rattle.send.specs.declared.picture.Passed.{Passed}
+use Rattle.send.specs.Put.{timingChars, groupChars, crccChars, behindChars}
+use Rattle.send.proofs.Putting.{made, renamed, then, is-offset, same-size, length-group}
+use Rattle.send.proofs.TimingCodes.{length-timing}
+use borrow.Author.Needs.{needs}
+use Rattle.send.proofs.parts.put_behind.Statement.{statement}
+use Rattle.send.proofs.parts.put_behind.Tie as tie
+
+-- the characters, where the line's words and the timing word are what the calls answer
+as-put : (half : ℕ) (p : Passed) (content : ContentBytes) (m : ℕ) {xyz : ℕ} {n : LineWords} → n ≡ lineWords m → xyz ≡ timing (vOf m) true
+    → behindChars half p m content
+    ≡ timingChars half 266 (content .eav1) (content .eav2) xyz
+    ++ (groupChars half (λ _. n .ln0) ++ (groupChars half (λ _. n .ln1) ++ crccChars half p xyz n))
+unfolding behindChars
+as-put half p content m e q =
+    ap₂ (λ (n : LineWords) (xyz : ℕ).
+    timingChars half 266 (content .eav1) (content .eav2) xyz
+    ++ (groupChars half (λ _. n .ln0) ++ (groupChars half (λ _. n .ln1) ++ crccChars half p xyz n))) (sym e) (sym q)
+
+line-after-requires : tie.Need-line-after-requires
+line-after-requires c κs = search needs
+
+words-of-requires : tie.Need-words-of-requires
+words-of-requires c κs = search needs
+
+v-of-requires : tie.Need-v-of-requires
+v-of-requires c κs = search needs
+
+timing-word-requires : tie.Need-timing-word-requires
+timing-word-requires c κs = search needs
+
+put-timing-requires : tie.Need-put-timing-requires
+put-timing-requires c κs =
+    let s = c .before .before .before .before .before .before in
+    (s .pre .0, (s .pre .1 .0, (s .pre .1 .1 .0, (s .pre .1 .1 .1 .0, (s .pre .1 .1 .1 .1 .0, (omega arith, omega (arith, s .pre .1 .1 .1 .1 .1)))))))
+
+mul-put-same : tie.Need-mul-put-same
+mul-put-same c = search needs
+
+add-put-same : tie.Need-add-put-same
+add-put-same c = search needs
+
+put-same-requires : tie.Need-put-same-requires
+put-same-requires c κs =
+    let s = c .before .before .before .before .before .before .before .before .before .before in
+    let p = made (c .before .before .before .put-timing .ensures) in
+    (s .pre .0, (s .pre .1 .0, (s .pre .1 .1 .0, (s .pre .1 .1 .1 .0, (is-offset p, omega (arith, same-size p, s .pre .1 .1 .1 .1 .1))))))
+
+mul-put-same-2 : tie.Need-mul-put-same-2
+mul-put-same-2 c = search needs
+
+add-put-same-2 : tie.Need-add-put-same-2
+add-put-same-2 c =
+    let s = c .before .before .before .before .before .before .before .before .before .before .before .before .before .before in omega (arith, s .good, s .pre .1 .1 .1 .1 .1)
+
+put-same-requires-2 : tie.Need-put-same-requires-2
+put-same-requires-2 c κs =
+    let s = c .before .before .before .before .before .before .before .before .before .before .before .before .before .before in
+    let p = made (c .before .before .before .before .before .before .before .put-timing .ensures) in
+    let q = made (c .before .before .before .put-same .ensures) in
+    (s .pre .0, (s .pre .1 .0, (s .pre .1 .1 .0, (s .pre .1 .1 .1 .0, (is-offset q, omega (arith, same-size p, same-size q, s .pre .1 .1 .1 .1 .1))))))
+
+mul-put-crcc : tie.Need-mul-put-crcc
+mul-put-crcc c =
+    let s = c .before .before .before .before .before .before .before .before .before .before .before .before .before .before .before .before .before .before in omega (arith, s .pre .1 .1 .1 .0)
+
+add-put-crcc : tie.Need-add-put-crcc
+add-put-crcc c =
+    let s = c .before .before .before .before .before .before .before .before .before .before .before .before .before .before .before .before .before .before in omega (arith, s .good, s .pre .1 .1 .1 .1 .1)
+
+put-crcc-requires : tie.Need-put-crcc-requires
+put-crcc-requires c κs =
+    let s = c .before .before .before .before .before .before .before .before .before .before .before .before .before .before .before .before .before .before in
+    let p = made (c .before .before .before .before .before .before .before .before .before .before .before .put-timing .ensures) in
+    let q = made (c .before .before .before .before .before .before .before .put-same .ensures) in
+    let r = made (c .before .before .before .put-same2 .ensures) in
+    (s .pre .0, (s .pre .1 .0, (s .pre .1 .1 .0, (s .pre .1 .1 .1 .0, (is-offset r, omega (arith, same-size p, same-size q, same-size r, s .pre .1 .1 .1 .1 .1))))))
+
+same-length : tie.Need-same-length
+same-length c = search needs
+
+returns : tie.Need-returns
+returns c =
+    let s = c .before .before .before .before .before .before .before .before .before .before .before .before .before .before .before .before .before .before .before .before .before in
+    let a = s .args in
+    let next = c .before .before .before .before .before .before .before .before .before .before .before .before .before .before .before .before .before .before .before .line-after in
+    let n = c .before .before .before .before .before .before .before .before .before .before .before .before .before .before .before .before .before .before .words-of in
+    let xyz = c .before .before .before .before .before .before .before .before .before .before .before .before .before .before .before .before .timing-word in
+    let number = n .ensures ∙ ap lineWords (next .ensures) in
+    let code = xyz .ensures ∙ ap (λ (v : Bool). timing v true) (c .before .before .before .before .before .before .before .before .before .before .before .before .before .before .before .before .before .v-of .ensures ∙ ap vOf (next .ensures)) in
+    let l = length-timing (a .half) 266 (a .content .eav1) (a .content .eav2) (xyz .result) (s .pre .1 .1 .0) (s .pre .1 .1 .1 .0) in
+    let g0 = length-group (a .half) (λ _. n .result .ln0) in
+    let g1 = length-group (a .half) (λ _. n .result .ln1) in
+    let p = made (c .before .before .before .before .before .before .before .before .before .before .before .before .before .before .put-timing .ensures) in
+    let q = made (c .before .before .before .before .before .before .before .before .before .before .put-same .ensures) in
+    let r = made (c .before .before .before .before .before .before .put-same2 .ensures) in
+    let e = renamed (as-put (a .half) (a .p) (a .content) (lineAfter (a .l .0)) number code)
+    (then p (omega (arith, l)) (then q (omega (arith, g0)) (then r (omega (arith, g1)) (made (c .before .before .put-crcc .ensures))))) in
+    (e .offset, e .out)
+
+pub put-behind-spec : {M : Type 1} → statement M
+put-behind-spec =
+    tie.close
+    (tie.spec
+    line-after-requires
+    words-of-requires
+    v-of-requires
+    timing-word-requires
+    put-timing-requires
+    mul-put-same
+    add-put-same
+    put-same-requires
+    mul-put-same-2
+    add-put-same-2
+    put-same-requires-2
+    mul-put-crcc
+    add-put-crcc
+    put-crcc-requires
+    same-length
+    returns)

@@ -1,0 +1,4 @@
+pub mod Blanking
+pub mod Check
+pub mod Put
+pub mod Send

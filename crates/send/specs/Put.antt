@@ -1,0 +1,156 @@
+-- What the sender's loops put into the symbol buffer, with the running disparity kept as its offset in the encoder's tables. Only private
+-- functions speak of this; that all of it together is the span's characters is the law `whole-is`.
+-- Assumes nothing.
+use Prim.Native.Nat.{ℕ, _+_, _*_, _<_}
+use mathlib.Core.Path.{_≡_}
+use mathlib.Core.Bool.{true, false, cond}
+use mathlib.Core.List.{List, [], _∷_, _++_}
+use lib.Dec.{ltb}
+use lib.ListN.{length, getD, drop}
+use lib.Seq.{sets}
+use Rattle.ground.specs.Written.{upto, table}
+use Rattle.symbol.specs.declared.disparity.Disparity.{Disparity}
+use Rattle.symbol.specs.declared.special.Special.the-variants.{«K28_5», «K29_7»}
+use Rattle.symbol.specs.Character.{numberOf}
+use Rattle.symbol.specs.Code.{symbolOf, afterOf}
+use Rattle.encoder.specs.Tables.{offsetOf, ofOffset}
+use Rattle.word.specs.Bytes.{bytesOf}
+use Rattle.line.specs.Stream.{vOf, lineAfter}
+use Rattle.word.specs.declared.crcc.CrccWords.{CrccWords}
+use Rattle.word.specs.declared.line_number.LineWords.{LineWords}
+use Rattle.word.specs.Crcc.{crc, crcWord, crccWords}
+use Rattle.word.specs.LineNumber.{lineWords}
+use Rattle.word.specs.Timing.{timing}
+use Rattle.span.specs.declared.content.ContentBytes.{ContentBytes}
+use Rattle.span.specs.declared.format.Shape.{Shape}
+use Rattle.span.specs.Encoding.{symbolsFrom, afterRun}
+use Rattle.span.specs.Span.{interleaved, listed, bytes}
+use Rattle.send.specs.declared.coder.Coded.{Coded}
+use Rattle.send.specs.declared.coder.Three.{Three}
+use Rattle.send.specs.declared.put.Four.{Four}
+use Rattle.send.specs.declared.picture.Passed.{Passed}
+
+-- a character
+abbrev pub coded : Disparity → ℕ → Coded
+coded e c = record { symbol = symbolOf e c; offset = offsetOf (afterOf e c) }
+
+-- the offset after a run of characters from an offset on, and the buffer with their symbols put at a place
+unfoldable pub behind : ℕ → List ℕ → ℕ
+unfolding afterRun
+behind d cs = offsetOf (afterRun (ofOffset d) cs)
+
+unfoldable pub put : ℕ → List ℕ → ℕ → List ℕ → List ℕ
+unfolding symbolsFrom
+put d cs at out = sets out at (symbolsFrom (ofOffset d) cs)
+
+-- the symbols of three characters
+unfoldable pub threeOf : Disparity → ℕ → ℕ → ℕ → Three
+unfolding symbolsFrom afterRun
+threeOf e x y z =
+    let s = symbolsFrom e (x ∷ y ∷ z ∷ []) in
+    record { first = getD s 0 0; second = getD s 1 0; third = getD s 2 0; offset = offsetOf (afterRun e (x ∷ y ∷ z ∷ [])) }
+
+-- the characters of a pair of words
+abbrev pub pairChars : ℕ → ℕ → List ℕ
+pairChars a b = listed (bytesOf a b)
+
+-- the characters of one word of each stream
+unfoldable pub groupChars : ℕ → (ℕ → ℕ) → List ℕ
+groupChars half w = upto half (λ u. pairChars (w (2 * u)) (w (2 * u + 1)))
+
+-- one word of each of up to four streams
+abbrev pub wordIn : Four → ℕ → ℕ
+wordIn g t = getD (g .a ∷ g .b ∷ g .c ∷ g .e ∷ []) t 0
+
+-- the first two pairs of a timing code, with the special character and the content bytes put in; w is the word of the second pair
+abbrev pub syncChars : ℕ → ℕ → ℕ → ℕ → List ℕ
+syncChars k content1 content2 w =
+    let t = bytesOf w w in k ∷ k ∷ content1 ∷ content2 ∷ t .second ∷ t .third ∷ []
+
+-- a timing code of all streams, with the special character and the content bytes put in
+unfoldable pub timingChars : ℕ → ℕ → ℕ → ℕ → ℕ → List ℕ
+timingChars half k content1 content2 xyz =
+    k ∷ k ∷ content1 ∷ content2 ∷ drop 4 (bytes (interleaved (2 * half) 4 (λ t. 0xFFF ∷ 0x000 ∷ 0x000 ∷ xyz ∷ [])))
+
+-- word j of stream t of the picture: a sample by the factor
+abbrev pub scaled : ℕ → List ℕ → ℕ → ℕ → ℕ
+scaled factor xs t j = getD xs (1920 * t + j) 0 * factor
+
+-- the characters of the first n words of all streams
+unfoldable pub pictureChars : ℕ → ℕ → (ℕ → ℕ → ℕ) → List ℕ
+pictureChars half n w = upto n (λ j. groupChars half (λ t. w t j))
+
+-- the CRC of the first n words of a stream; 0 for one that is not there
+abbrev pub sumOf : ℕ → ℕ → (ℕ → ℕ → ℕ) → ℕ → ℕ
+sumOf half n w t = crc 0 (cond (ltb t (2 * half)) (table n (w t)) [])
+
+-- what is known behind the first n words of the picture: the offset, and the CRC of each stream
+abbrev pub passedAt : ℕ → ℕ → (ℕ → ℕ → ℕ) → ℕ → Passed
+passedAt half d w n =
+    record {
+      offset = behind d (pictureChars half n w);
+      first = sumOf half n w 0;
+      second = sumOf half n w 1;
+      third = sumOf half n w 2;
+      fourth = sumOf half n w 3;
+    }
+
+-- the same behind one word more of each stream
+abbrev pub summed : ℕ → (ℕ → ℕ) → ℕ → ℕ → ℕ
+summed half w t c = cond (ltb t (2 * half)) (crcWord c (w t)) c
+
+abbrev pub stepped : ℕ → (ℕ → ℕ) → Passed → Passed
+stepped half w p =
+    record {
+      offset = behind (p .offset) (groupChars half w);
+      first = summed half w 0 (p .first);
+      second = summed half w 1 (p .second);
+      third = summed half w 2 (p .third);
+      fourth = summed half w 3 (p .fourth);
+    }
+
+-- what the CRC runs over behind the picture: the EAV and the line number
+abbrev pub tailWords : ℕ → LineWords → List ℕ
+tailWords xyz n = 0xFFF ∷ 0x000 ∷ 0x000 ∷ xyz ∷ n .ln0 ∷ n .ln1 ∷ []
+
+-- the CRCC words of stream t
+abbrev pub crccBehind : ℕ → ℕ → LineWords → CrccWords
+crccBehind c xyz n = crccWords (crc c (tailWords xyz n))
+
+abbrev pub sumIn : Passed → ℕ → ℕ
+sumIn p t = getD (p .first ∷ p .second ∷ p .third ∷ p .fourth ∷ []) t 0
+
+-- the characters of the CRCC words of all streams
+unfoldable pub crccChars : ℕ → Passed → ℕ → LineWords → List ℕ
+crccChars half p xyz n =
+    groupChars half (λ t. crccBehind (sumIn p t) xyz n .crcc0) ++ groupChars half (λ t. crccBehind (sumIn p t) xyz n .crcc1)
+
+-- those of EAV, line number and CRCC, where the line after is given
+unfoldable pub behindChars : ℕ → Passed → ℕ → ContentBytes → List ℕ
+behindChars half p next content =
+    let n = lineWords next in
+    let xyz = timing (vOf next) true in
+    timingChars half (numberOf «K29_7») (content .eav1) (content .eav2) xyz
+    ++ (groupChars half (λ _. n .ln0) ++ (groupChars half (λ _. n .ln1) ++ crccChars half p xyz n))
+
+-- so many pairs of one word
+unfoldable pub runChars : ℕ → ℕ → List ℕ
+runChars n w = upto n (λ _. pairChars w w)
+
+-- all parts of the span of line n, where the offset before it is d and the picture words are w
+unfoldable pub wholeChars : Shape → ℕ → (ℕ → ℕ → ℕ) → ℕ → ContentBytes → List ℕ
+wholeChars p d w n content =
+    let half = p .half in
+    let sav = timingChars half (numberOf «K28_5») (content .sav1) (content .sav2) (timing (vOf n) false) in
+    sav
+    ++ (pictureChars half 1920 w
+    ++ (behindChars half (passedAt half (behind d sav) w 1920) (lineAfter n) content
+    ++ (runChars (half * p .ancillary) 0x100 ++ runChars (p .fill) 0x100)))
+
+-- a pair of the word leaves the disparity of the offset as it was
+pub record Stays (d w : ℕ) : Type 0 where
+  pub stays : afterRun (ofOffset d) (pairChars w w) ≡ ofOffset d
+
+-- each sample by the factor is a word
+pub record Fits (factor : ℕ) (xs : List ℕ) : Type 0 where
+  pub fits : (i : ℕ) → i < length xs → getD xs i 0 * factor < 4096

@@ -1,0 +1,169 @@
+// Pieces of a span, put into the symbol buffer at a place.
+ghost use mathlib.Core.Path.{_≡_};
+ghost use Prim.Native.Nat.{_+_, _*_, _≤_, _<_};
+ghost use mathlib.Core.List.{[], _∷_};
+ghost use lib.ListN.{length};
+ghost use Rattle.encoder.specs.Tables.{offsetOf, ofOffset, symbolTable, turnTable};
+ghost use Rattle.send.specs.Put.{behind, put, pairChars, groupChars, wordIn, runChars, Stays};
+
+// One word of each stream; with two streams the last two count for nothing.
+pub(crate) struct Four {
+    pub(crate) a: u16,
+    pub(crate) b: u16,
+    pub(crate) c: u16,
+    pub(crate) e: u16,
+}
+
+// The symbols of characters x, y and z.
+pub(crate) fn put_three(
+    symbols: &[u16; 536],
+    turns: &[u16; 268],
+    d: usize,
+    x: u16,
+    y: u16,
+    z: u16,
+    out: &mut [u16],
+    at: usize,
+) -> usize
+    requires { ⌜ now symbols ≡ symbolTable ⌝ }
+    requires { ⌜ now turns ≡ turnTable ⌝ }
+    requires { ⌜ d ≡ offsetOf (ofOffset d) ⌝ }
+    requires { ⌜ x < 268 ⌝ }
+    requires { ⌜ y < 268 ⌝ }
+    requires { ⌜ z < 268 ⌝ }
+    requires { ⌜ at + 3 ≤ length (now out) ⌝ }
+    ensures offset { λ r. ⌜ r ≡ behind d (x ∷ y ∷ z ∷ []) ⌝ }
+    ensures out { λ _. ⌜ now (out .exit) ≡ put d (x ∷ y ∷ z ∷ []) at (now (out .entry)) ⌝ }
+{
+    let t = crate::coder::code_three(symbols, turns, d, x, y, z);
+    out[at] = t.first;
+    out[at + 1] = t.second;
+    out[at + 2] = t.third;
+    t.offset
+}
+
+// The symbols of the three bytes of words a and b.
+pub(crate) fn put_pair(
+    symbols: &[u16; 536],
+    turns: &[u16; 268],
+    d: usize,
+    a: u16,
+    b: u16,
+    out: &mut [u16],
+    at: usize,
+) -> usize
+    requires { ⌜ now symbols ≡ symbolTable ⌝ }
+    requires { ⌜ now turns ≡ turnTable ⌝ }
+    requires { ⌜ d ≡ offsetOf (ofOffset d) ⌝ }
+    requires { ⌜ at + 3 ≤ length (now out) ⌝ }
+    ensures offset { λ r. ⌜ r ≡ behind d (pairChars a b) ⌝ }
+    ensures out { λ _. ⌜ now (out .exit) ≡ put d (pairChars a b) at (now (out .entry)) ⌝ }
+{
+    let t = word::bytes::bytes_of(a, b);
+    put_three(
+        symbols,
+        turns,
+        d,
+        t.first as u16,
+        t.second as u16,
+        t.third as u16,
+        out,
+        at,
+    )
+}
+
+// One word of each stream.
+pub(crate) fn put_four(
+    symbols: &[u16; 536],
+    turns: &[u16; 268],
+    half: usize,
+    d: usize,
+    g: Four,
+    out: &mut [u16],
+    at: usize,
+) -> usize
+    requires { ⌜ now symbols ≡ symbolTable ⌝ }
+    requires { ⌜ now turns ≡ turnTable ⌝ }
+    requires { ⌜ 1 ≤ half ⌝ }
+    requires { ⌜ half ≤ 2 ⌝ }
+    requires { ⌜ d ≡ offsetOf (ofOffset d) ⌝ }
+    requires { ⌜ at + 3 * half ≤ length (now out) ⌝ }
+    ensures offset { λ r. ⌜ r ≡ behind d (groupChars half (wordIn g)) ⌝ }
+    ensures out { λ _. ⌜ now (out .exit) ≡ put d (groupChars half (wordIn g)) at (now (out .entry)) ⌝ }
+{
+    let low = put_pair(symbols, turns, d, g.a, g.b, out, at);
+    if half == 1 {
+        return low;
+    }
+    put_pair(symbols, turns, low, g.c, g.e, out, at + 3)
+}
+
+// The same word on every stream.
+pub(crate) fn put_same(
+    symbols: &[u16; 536],
+    turns: &[u16; 268],
+    half: usize,
+    d: usize,
+    w: u16,
+    out: &mut [u16],
+    at: usize,
+) -> usize
+    requires { ⌜ now symbols ≡ symbolTable ⌝ }
+    requires { ⌜ now turns ≡ turnTable ⌝ }
+    requires { ⌜ 1 ≤ half ⌝ }
+    requires { ⌜ half ≤ 2 ⌝ }
+    requires { ⌜ d ≡ offsetOf (ofOffset d) ⌝ }
+    requires { ⌜ at + 3 * half ≤ length (now out) ⌝ }
+    ensures offset { λ r. ⌜ r ≡ behind d (groupChars half (λ _. w)) ⌝ }
+    ensures out { λ _. ⌜ now (out .exit) ≡ put d (groupChars half (λ _. w)) at (now (out .entry)) ⌝ }
+{
+    put_four(
+        symbols,
+        turns,
+        half,
+        d,
+        Four {
+            a: w,
+            b: w,
+            c: w,
+            e: w,
+        },
+        out,
+        at,
+    )
+}
+
+// So many pairs of one word that leaves the disparity as it was: the same three symbols again and again.
+pub(crate) fn put_run(
+    symbols: &[u16; 536],
+    turns: &[u16; 268],
+    pairs: usize,
+    d: usize,
+    w: u16,
+    out: &mut [u16],
+    at: usize,
+)
+    requires { ⌜ now symbols ≡ symbolTable ⌝ }
+    requires { ⌜ now turns ≡ turnTable ⌝ }
+    requires { ⌜ d ≡ offsetOf (ofOffset d) ⌝ }
+    requires { ⌜ Stays d w ⌝ }
+    requires { ⌜ at + 3 * pairs ≤ length (now out) ⌝ }
+    ensures { λ _. ⌜ now (out .exit) ≡ put d (runChars pairs w) at (now (out .entry)) ⌝ }
+{
+    let b = word::bytes::bytes_of(w, w);
+    let t = crate::coder::code_three(
+        symbols,
+        turns,
+        d,
+        b.first as u16,
+        b.second as u16,
+        b.third as u16,
+    );
+    let mut i = 0;
+    while i < pairs {
+        out[at + 3 * i] = t.first;
+        out[at + 3 * i + 1] = t.second;
+        out[at + 3 * i + 2] = t.third;
+        i += 1;
+    }
+}

@@ -1,0 +1,105 @@
+// Sending a span (document 01, "Sending").
+use line::stream::StreamLine;
+use span::content::Content;
+use span::format::Format;
+use symbol::disparity::Disparity;
+ghost use mathlib.Core.Path.{_≡_};
+ghost use mathlib.Core.Bool.{true};
+ghost use lib.ListN.{length};
+ghost use Rattle.line.specs.Stream.{isLine};
+ghost use Rattle.span.specs.Format.{isKnown, shapeOf, samplesIn, symbolsIn};
+ghost use Rattle.span.specs.Sample.{boundsOf};
+ghost use Rattle.span.specs.Span.{spanSymbols, spanAfter};
+ghost use Rattle.send.specs.Send.{Good, asked, paperSent, sendOf, sentBuffer};
+
+pub enum Sent {
+    // The disparity after the span.
+    After(Disparity),
+    // 1
+    UnknownFormat,
+    // 2
+    NoLine,
+    // 3
+    WrongInput,
+    // 4
+    WrongOutput,
+    // 6, with the lowest index in the samples as given.
+    NotAllowed(usize),
+}
+
+// A span that may be sent. The tables are lent once, here.
+fn send_span(
+    f: Format,
+    l: StreamLine,
+    d: Disparity,
+    content: Content,
+    factor: u16,
+    samples: &[u16],
+    out: &mut [u16],
+) -> Disparity
+    requires { ⌜ Good f (asked (l .0) content (now samples)) ⌝ }
+    requires { ⌜ factor ≡ boundsOf f (l .0) .factor ⌝ }
+    requires { ⌜ length (now out) ≡ symbolsIn (shapeOf f) ⌝ }
+    ensures after { λ r. ⌜ r ≡ spanAfter d f (asked (l .0) content (now (samples .entry))) ⌝ }
+    ensures symbols { λ _. ⌜ now (out .exit) ≡ spanSymbols d f (asked (l .0) content (now (samples .entry))) ⌝ }
+{
+    let symbols = encoder::tables::symbol_table();
+    let turns = encoder::tables::turn_table();
+    let p = span::format::shape_of(f);
+    let c = span::content::content_of(f, content);
+    let before = encoder::tables::offset_of(d);
+    let after = crate::parts::put_span(&symbols, &turns, p, l, c, factor, samples, before, out);
+    encoder::tables::disparity_at(after)
+}
+
+// A call whose format, line and lengths are good: its samples are left to tell.
+fn send_samples(
+    f: Format,
+    l: StreamLine,
+    d: Disparity,
+    content: Content,
+    samples: &[u16],
+    symbols: &mut [u16],
+) -> Sent
+    requires { ⌜ isKnown f ≡ true ⌝ }
+    requires { ⌜ isLine (l .0) ≡ true ⌝ }
+    requires { ⌜ length (now samples) ≡ samplesIn (shapeOf f) ⌝ }
+    requires { ⌜ length (now symbols) ≡ symbolsIn (shapeOf f) ⌝ }
+    ensures answer { λ r. ⌜ paperSent r ≡ sendOf d f (asked (l .0) content (now (samples .entry))) (length (now (symbols .entry))) ⌝ }
+    ensures symbols { λ _. ⌜ now (symbols .exit) ≡ sentBuffer d f (asked (l .0) content (now (samples .entry))) (now (symbols .entry)) ⌝ }
+{
+    let bounds = span::sample::bounds_of(f, l);
+    let wrong = crate::check::first_outside(bounds.low, bounds.high, samples);
+    if wrong < samples.len() {
+        return Sent::NotAllowed(wrong);
+    }
+    Sent::After(send_span(f, l, d, content, bounds.factor, samples, symbols))
+}
+
+// The span of a line: its symbols into the buffer, from the running disparity before it. The samples stand stream by stream.
+pub fn send(
+    f: Format,
+    l: StreamLine,
+    d: Disparity,
+    content: Content,
+    samples: &[u16],
+    symbols: &mut [u16],
+) -> Sent
+    ensures answer { λ r. ⌜ paperSent r ≡ sendOf d f (asked (l .0) content (now (samples .entry))) (length (now (symbols .entry))) ⌝ }
+    ensures symbols { λ _. ⌜ now (symbols .exit) ≡ sentBuffer d f (asked (l .0) content (now (samples .entry))) (now (symbols .entry)) ⌝ }
+{
+    if !span::format::is_known(f) {
+        return Sent::UnknownFormat;
+    }
+    if !line::stream::is_line(l) {
+        return Sent::NoLine;
+    }
+    let lengths = span::length::span_lengths(f);
+    if samples.len() != lengths.samples {
+        return Sent::WrongInput;
+    }
+    if symbols.len() != lengths.symbols {
+        return Sent::WrongOutput;
+    }
+    send_samples(f, l, d, content, samples, symbols)
+}

@@ -1,0 +1,79 @@
+// The timing codes of all streams, with a special character and content bytes in the place of their first four bytes (004, 7.1).
+ghost use mathlib.Core.Path.{_≡_};
+ghost use Prim.Native.Nat.{_+_, _*_, _≤_, _<_};
+ghost use lib.ListN.{length};
+ghost use Rattle.encoder.specs.Tables.{offsetOf, ofOffset, symbolTable, turnTable};
+ghost use Rattle.send.specs.Put.{behind, put, syncChars, timingChars};
+
+// The special characters of SAV and EAV, by their numbers among the characters.
+pub(crate) const K28_5: u16 = 261;
+
+pub(crate) const K29_7: u16 = 266;
+
+// The special character twice, the content bytes, and the last two bytes of the second pair of words w.
+fn put_sync(
+    symbols: &[u16; 536],
+    turns: &[u16; 268],
+    d: usize,
+    k: u16,
+    content1: u8,
+    content2: u8,
+    w: u16,
+    out: &mut [u16],
+    at: usize,
+) -> usize
+    requires { ⌜ now symbols ≡ symbolTable ⌝ }
+    requires { ⌜ now turns ≡ turnTable ⌝ }
+    requires { ⌜ d ≡ offsetOf (ofOffset d) ⌝ }
+    requires { ⌜ k < 268 ⌝ }
+    requires { ⌜ at + 6 ≤ length (now out) ⌝ }
+    ensures offset { λ r. ⌜ r ≡ behind d (syncChars k content1 content2 w) ⌝ }
+    ensures out { λ _. ⌜ now (out .exit) ≡ put d (syncChars k content1 content2 w) at (now (out .entry)) ⌝ }
+{
+    let t = word::bytes::bytes_of(w, w);
+    let d1 = crate::put::put_three(symbols, turns, d, k, k, content1 as u16, out, at);
+    crate::put::put_three(
+        symbols,
+        turns,
+        d1,
+        content2 as u16,
+        t.second as u16,
+        t.third as u16,
+        out,
+        at + 3,
+    )
+}
+
+// The whole code: with two streams its second pair of words is 000 000, with four it is FFF FFF.
+pub(crate) fn put_timing(
+    symbols: &[u16; 536],
+    turns: &[u16; 268],
+    half: usize,
+    d: usize,
+    k: u16,
+    content1: u8,
+    content2: u8,
+    xyz: u16,
+    out: &mut [u16],
+    at: usize,
+) -> usize
+    requires { ⌜ now symbols ≡ symbolTable ⌝ }
+    requires { ⌜ now turns ≡ turnTable ⌝ }
+    requires { ⌜ 1 ≤ half ⌝ }
+    requires { ⌜ half ≤ 2 ⌝ }
+    requires { ⌜ d ≡ offsetOf (ofOffset d) ⌝ }
+    requires { ⌜ k < 268 ⌝ }
+    requires { ⌜ at + 12 * half ≤ length (now out) ⌝ }
+    ensures offset { λ r. ⌜ r ≡ behind d (timingChars half k content1 content2 xyz) ⌝ }
+    ensures out { λ _. ⌜ now (out .exit) ≡ put d (timingChars half k content1 content2 xyz) at (now (out .entry)) ⌝ }
+{
+    if half == 1 {
+        let d1 = put_sync(symbols, turns, d, k, content1, content2, 0x000, out, at);
+        let d2 = crate::put::put_same(symbols, turns, half, d1, 0x000, out, at + 6);
+        return crate::put::put_same(symbols, turns, half, d2, xyz, out, at + 9);
+    }
+    let d1 = put_sync(symbols, turns, d, k, content1, content2, 0xFFF, out, at);
+    let d2 = crate::put::put_same(symbols, turns, half, d1, 0x000, out, at + 6);
+    let d3 = crate::put::put_same(symbols, turns, half, d2, 0x000, out, at + 12);
+    crate::put::put_same(symbols, turns, half, d3, xyz, out, at + 18)
+}
