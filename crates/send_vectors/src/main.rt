@@ -42,12 +42,12 @@ fn fill_samples(samples: &mut [u16], depth: u8, start: u16) {
     }
 }
 
-// Samples that a line may carry.
-fn fill_line(samples: &mut [u16], depth: u8, line: u16) {
+// Samples that a line may carry; where the blanking row is refused, the call that they are for is refused too.
+fn fill_line(samples: &mut [u16], format: u8, depth: u8, line: u16) {
     if line::stream::is_active(line::stream::stream_line(line)) {
         fill_samples(samples, depth, line);
     } else {
-        ground::fill::fill(samples, 256);
+        send::blanking::fill_blanking(span::format::format_of(format, depth), samples);
     }
 }
 
@@ -147,7 +147,7 @@ fn write_line(
     samples: &mut [u16],
     symbols: &mut [u16],
 ) {
-    fill_line(samples, depth, line);
+    fill_line(samples, format, depth, line);
     for i in 0..4u64 {
         write_first(format as u64);
         write_next(depth as u64);
@@ -226,7 +226,7 @@ fn write_edge(
     samples: &mut [u16],
     symbols: &mut [u16],
 ) {
-    fill_line(samples, depth, line);
+    fill_line(samples, format, depth, line);
     ground::fill::fill(symbols, 7);
     put_sample(samples, i, x);
     write_asked(format, depth, line, samples.len(), symbols.len(), i, x);
