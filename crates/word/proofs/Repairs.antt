@@ -4,13 +4,13 @@ use mathlib.Core.Path.{_≡_, refl, ap, _∙_}
 use mathlib.Core.Bool.{Bool, true, false, cond}
 use mathlib.Core.Logic.{⊎-elim}
 use mathlib.Core.Option.{some}
-use Prim.Native.Nat.{ℕ, _+_, _-_, _/_, _%_, _^_, _≤_, _<_, min}
-use native.Mathlib.Nat.{eq-or-lt-of-le}
+use Prim.Native.Nat.{ℕ, zero, suc, _+_, _-_, _/_, _%_, _^_, _≤_, _<_, min}
+use native.Mathlib.Nat.{zero-add, eq-or-lt-of-le, pow-suc}
 use native.Mathlib.Omega.{arith}
-use lib.Bits.{bitAnd, bitXor}
+use lib.Bits.{bitAnd, bitXor, and-step, and-self, and-le-l, and-shr}
 use lib.Count.{onesIn}
 use lib.Dec.{eqb, ltb}
-use borrow.Author.Tests.{eqb-true, eq-eqb, ne-eqb, ltb-true, lt-ltb, le-ltb, le-leb, lt-leb, leb-true}
+use borrow.Author.Tests.{eqb-true, eqb-false, eq-eqb, ne-eqb, ltb-true, lt-ltb, le-ltb, le-leb, lt-leb, leb-true}
 use Rattle.ground.specs.Answer.{refused, given}
 use Rattle.ground.specs.Bit.{inverted}
 use Rattle.ground.specs.Search.{firstBelow}
@@ -26,13 +26,58 @@ use Rattle.word.specs.Timing.{timing}
 
 -- ---- a number without its lowest one
 
+abbrev without : ℕ → ℕ
+without x = bitAnd x (x - 1)
+
+-- it has a one less
+ones-without : (b x : ℕ) → onesIn b (without x) ≡ onesIn b x - 1
+unfolding onesIn
+ones-without zero x = refl
+ones-without (suc b) x =
+    let low : without x % 2 ≡ 0 = omega (arith, and-step x (x - 1)) in
+    let half : without x / 2 ≡ bitAnd (x / 2) ((x - 1) / 2) = and-shr x (x - 1) 1 in
+    on-test (eqb (x % 2) 0)
+    (λ t.
+    let e : x % 2 ≡ 0 = eqb-true (x % 2) 0 t in
+    let h : (x - 1) / 2 ≡ x / 2 - 1 = omega arith in
+    rw (low, half, h, e, zero-add, zero-add) (ones-without b (x / 2)))
+    (λ t.
+    let e : x % 2 ≡ 1 = let n = eqb-false (x % 2) 0 t in omega arith in
+    let h : (x - 1) / 2 ≡ x / 2 = omega arith in
+    rw (low, half, h, e, and-self) (omega arith))
+
+-- a number that is not 0 has a one
+some-one : (b x : ℕ) → x < 2 ^ b → 0 < x → 0 < onesIn b x
+unfolding onesIn
+some-one zero x h l = absurd (omega arith)
+some-one (suc b) x h l =
+    on-test (eqb (x % 2) 0)
+    (λ t.
+    let e : x % 2 ≡ 0 = eqb-true (x % 2) 0 t in
+    let ih = some-one b (x / 2) (omega (arith, rw pow-suc at h)) (omega arith) in
+    omega arith)
+    (λ t. let n = eqb-false (x % 2) 0 t in omega arith)
+
+no-ones : 0 ≡ onesIn 12 0
+unfolding onesIn
+no-ones = refl
+
 abbrev pub nearness : ℕ → ℕ
 nearness x = cond (eqb x 0) 0 (cond (eqb (bitAnd x (x - 1)) 0) 1 2)
 
--- antt computes it for all 4,096 words
 pub nearness-is : (x : ℕ) → x < 4096 → nearness x ≡ min 2 (onesIn 12 x)
-unfolding onesIn
-nearness-is x h = eqb-true (nearness x) (min 2 (onesIn 12 x)) (at-number 4096 (λ x. eqb (nearness x) (min 2 (onesIn 12 x))) refl x h)
+nearness-is x h =
+    on-test (eqb x 0) (λ t. rw (eqb-true x 0 t) (ap (min 2) no-ones))
+    (λ t.
+    let one : 0 < onesIn 12 x = some-one 12 x h (let n = eqb-false x 0 t in omega arith) in
+    on-test (eqb (without x) 0)
+    (λ u.
+    let e : 0 ≡ onesIn 12 x - 1 = no-ones ∙ rw (eqb-true (without x) 0 u) at (ones-without 12 x) in
+    simp (t, u) (omega (arith, e, one)))
+    (λ u.
+    let two : 0 < onesIn 12 (without x) =
+    some-one 12 (without x) (omega (arith, and-le-l x (x - 1))) (let n = eqb-false (without x) 0 u in omega arith) in
+    simp (t, u) (omega (arith, ones-without 12 x, two))))
 
 pub difference-is : (a b : ℕ) → nearness (bitXor a b % 4096) ≡ min 2 (distance a b)
 unfolding distance _⊕_

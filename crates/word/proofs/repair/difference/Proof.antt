@@ -1,4 +1,4 @@
--- `word::repair::difference` meets its contract by the computed test of all words.
+-- `word::repair::difference` meets its contract: a number without its lowest one has a one less.
 -- Assumes nothing.
 use mathlib.Core.Path.{_≡_, sym, _∙_}
 use Prim.Native.Nat.{_%_}
