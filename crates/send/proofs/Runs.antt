@@ -56,6 +56,15 @@ unfolding afterRun bytesOf afterOf
 blank-at Negative = refl
 blank-at Positive = refl
 
+-- and so does 000, whose bytes are 00
+zero-at : (e : Disparity) → afterRun e (pairChars 0x000 0x000) ≡ e
+unfolding afterRun bytesOf afterOf
+zero-at Negative = refl
+zero-at Positive = refl
+
+pub zero-stays : (d : ℕ) → Stays d 0x000
+zero-stays d = record { stays = zero-at (ofOffset d) }
+
 pub blank-stays : (d : ℕ) → Stays d 0x100
 blank-stays d = record { stays = blank-at (ofOffset d) }
 

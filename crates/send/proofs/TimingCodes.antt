@@ -3,12 +3,12 @@
 use mathlib.Core.Path.{_≡_, refl}
 use mathlib.Core.List.{_++_}
 use mathlib.Core.Logic.{_⊎_, inl, inr, ⊎-elim}
-use Prim.Native.Nat.{ℕ, zero, suc, _*_, _≤_}
+use Prim.Native.Nat.{ℕ, zero, suc, _-_, _*_, _≤_}
 use native.Mathlib.Omega.{arith}
 use lib.ListN.{length}
 use Rattle.ground.specs.Written.{upto, table}
 use Rattle.span.specs.Span.{interleaved, bytes}
-use Rattle.send.specs.Put.{groupChars, syncChars, timingChars}
+use Rattle.send.specs.Put.{groupChars, syncChars, secondWord, timingChars, runChars}
 
 -- two streams or four
 either : (half : ℕ) → 1 ≤ half → half ≤ 2 → (half ≡ 1) ⊎ (half ≡ 2)
@@ -18,19 +18,12 @@ either (suc (suc zero)) p q = inr refl
 either (suc (suc (suc n))) p q = absurd (omega arith)
 
 module _ (half k content1 content2 xyz : ℕ) where
-  -- two streams: FFF FFF 000 000 lose four bytes, and 000 000, XYZ XYZ follow
-  pub timing-of-two : half ≡ 1
+  -- of FFF, 000 and 000 on each stream four bytes are replaced, and what is left of the second pair stays
+  pub timing-is : 1 ≤ half → half ≤ 2
       → timingChars half k content1 content2 xyz
-      ≡ syncChars k content1 content2 0x000 ++ (groupChars half (λ _. 0x000) ++ groupChars half (λ _. xyz))
-  unfolding timingChars groupChars interleaved bytes upto table
-  timing-of-two e = rw e
-
-  -- four streams: FFF FFF FFF FFF lose four bytes
-  pub timing-of-four : half ≡ 2
-      → timingChars half k content1 content2 xyz
-      ≡ syncChars k content1 content2 0xFFF ++ (groupChars half (λ _. 0x000) ++ (groupChars half (λ _. 0x000) ++ groupChars half (λ _. xyz)))
-  unfolding timingChars groupChars interleaved bytes upto table
-  timing-of-four e = rw e
+      ≡ syncChars k content1 content2 (secondWord half) ++ (runChars (3 * half - 2) 0x000 ++ groupChars half (λ _. xyz))
+  unfolding timingChars groupChars runChars interleaved bytes upto table
+  timing-is p q = ⊎-elim (λ e. rw e) (λ e. rw e) (either half p q)
 
   -- four words of each stream
   pub length-timing : 1 ≤ half → half ≤ 2 → length (timingChars half k content1 content2 xyz) ≡ 12 * half

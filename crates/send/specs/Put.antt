@@ -5,7 +5,7 @@ use Prim.Native.Nat.{ℕ, _+_, _*_, _<_}
 use mathlib.Core.Path.{_≡_}
 use mathlib.Core.Bool.{true, false, cond}
 use mathlib.Core.List.{List, [], _∷_, _++_}
-use lib.Dec.{ltb}
+use lib.Dec.{eqb, ltb}
 use lib.ListN.{length, getD, drop}
 use lib.Seq.{sets}
 use Rattle.ground.specs.Written.{upto, table}
@@ -66,6 +66,10 @@ wordIn g t = getD (g .a ∷ g .b ∷ g .c ∷ g .e ∷ []) t 0
 abbrev pub syncChars : ℕ → ℕ → ℕ → ℕ → List ℕ
 syncChars k content1 content2 w =
     let t = bytesOf w w in k ∷ k ∷ content1 ∷ content2 ∷ t .second ∷ t .third ∷ []
+
+-- the word of the second pair of a timing code: FFF on four streams, and on two already 000
+abbrev pub secondWord : ℕ → ℕ
+secondWord half = cond (eqb half 1) 0x000 0xFFF
 
 -- a timing code of all streams, with the special character and the content bytes put in
 unfoldable pub timingChars : ℕ → ℕ → ℕ → ℕ → ℕ → List ℕ

@@ -3,7 +3,7 @@ ghost use mathlib.Core.Path.{_≡_};
 ghost use Prim.Native.Nat.{_+_, _*_, _≤_, _<_};
 ghost use lib.ListN.{length};
 ghost use Rattle.encoder.specs.Tables.{offsetOf, ofOffset, symbolTable, turnTable};
-ghost use Rattle.send.specs.Put.{behind, put, syncChars, timingChars};
+ghost use Rattle.send.specs.Put.{behind, put, syncChars, secondWord, timingChars};
 
 // The special characters of SAV and EAV, by their numbers among the characters.
 pub(crate) const K28_5: u16 = 261;
@@ -44,7 +44,17 @@ fn put_sync(
     )
 }
 
-// The whole code: with two streams its second pair of words is 000 000, with four it is FFF FFF.
+// The word of its second pair: with two streams the code has gone on to 000, with four it is FFF still.
+fn second_word(half: usize) -> u16
+    ensures { λ r. ⌜ r ≡ secondWord half ⌝ }
+{
+    if half == 1 {
+        return 0x000;
+    }
+    0xFFF
+}
+
+// The whole code: what is replaced, the pairs 000 000 that are left, and XYZ of each stream.
 pub(crate) fn put_timing(
     symbols: &[u16; 536],
     turns: &[u16; 268],
@@ -67,13 +77,9 @@ pub(crate) fn put_timing(
     ensures offset { λ r. ⌜ r ≡ behind d (timingChars half k content1 content2 xyz) ⌝ }
     ensures out { λ _. ⌜ now (out .exit) ≡ put d (timingChars half k content1 content2 xyz) at (now (out .entry)) ⌝ }
 {
-    if half == 1 {
-        let d1 = put_sync(symbols, turns, d, k, content1, content2, 0x000, out, at);
-        let d2 = crate::put::put_same(symbols, turns, half, d1, 0x000, out, at + 6);
-        return crate::put::put_same(symbols, turns, half, d2, xyz, out, at + 9);
-    }
-    let d1 = put_sync(symbols, turns, d, k, content1, content2, 0xFFF, out, at);
-    let d2 = crate::put::put_same(symbols, turns, half, d1, 0x000, out, at + 6);
-    let d3 = crate::put::put_same(symbols, turns, half, d2, 0x000, out, at + 12);
-    crate::put::put_same(symbols, turns, half, d3, xyz, out, at + 18)
+    let w = second_word(half);
+    let zeros = 3 * half - 2;
+    let d1 = put_sync(symbols, turns, d, k, content1, content2, w, out, at);
+    crate::put::put_run(symbols, turns, zeros, d1, 0x000, out, at + 6);
+    crate::put::put_same(symbols, turns, half, d1, xyz, out, at + 9 * half)
 }

@@ -1,3 +1,4 @@
+pub mod Contents
 pub mod Encoding
 pub mod Formats
 pub mod Images

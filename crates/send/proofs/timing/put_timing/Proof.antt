@@ -1,113 +1,79 @@
--- `send::timing::put_timing` meets its contract: the replaced bytes, and the words behind them.
+-- `send::timing::put_timing` meets its contract: the replaced bytes, the zeros that are left, and XYZ.
 -- Assumes nothing.
-use mathlib.Core.Path.{_≡_, refl}
+use mathlib.Core.Path.{refl, sym, ap}
+use Prim.Native.Nat.{_-_, _*_}
 use native.Mathlib.Omega.{arith}
-use Rattle.send.proofs.Putting.{made, renamed, then, is-offset, same-size, length-group}
-use Rattle.send.proofs.TimingCodes.{timing-of-two, timing-of-four}
+use Rattle.send.specs.Put.{syncChars}
+use Rattle.send.proofs.Putting.{made, renamed, then, is-offset, same-size}
+use Rattle.send.proofs.Runs.{zero-stays, run-made}
+use Rattle.send.proofs.Sizes.{length-run}
+use Rattle.send.proofs.TimingCodes.{timing-is}
 use borrow.Author.Needs.{needs}
 use Rattle.send.proofs.timing.put_timing.Statement.{statement}
 use Rattle.send.proofs.timing.put_timing.Tie as tie
 
+second-word-requires : tie.Need-second-word-requires
+second-word-requires c κs = search needs
+
+mul-zeros : tie.Need-mul-zeros
+mul-zeros c = search needs
+
+sub-zeros : tie.Need-sub-zeros
+sub-zeros c = search needs
+
 put-sync-requires : tie.Need-put-sync-requires
-put-sync-requires c κs = (search needs, (search needs, (search needs, (omega arith, omega arith))))
+put-sync-requires c κs =
+    let s = c .before .before .before in
+    (s .pre .0, (s .pre .1 .0, (s .pre .1 .1 .1 .1 .0, (s .pre .1 .1 .1 .1 .1 .0, omega (arith, s .pre .1 .1 .0, s .pre .1 .1 .1 .1 .1 .1)))))
+
+add-put-run : tie.Need-add-put-run
+add-put-run c = search needs
+
+put-run-requires : tie.Need-put-run-requires
+put-run-requires c κs =
+    let s = c .before .before .before .before .before .before .before in
+    let p = made (c .before .before .before .put-sync .ensures) in
+    (s .pre .0, (s .pre .1 .0, (is-offset p, (zero-stays _, omega (arith, same-size p, s .pre .1 .1 .0, s .pre .1 .1 .1 .1 .1 .1)))))
+
+mul-put-same : tie.Need-mul-put-same
+mul-put-same c = search needs
 
 add-put-same : tie.Need-add-put-same
 add-put-same c = search needs
 
 put-same-requires : tie.Need-put-same-requires
 put-same-requires c κs =
-    let p = made (c .before .before .before .put-sync .ensures) in
-    (search needs, (search needs, (omega arith, (omega arith, (is-offset p, omega (arith, same-size p))))))
-
-add-put-same-2 : tie.Need-add-put-same-2
-add-put-same-2 c = search needs
-
-put-same-requires-2 : tie.Need-put-same-requires-2
-put-same-requires-2 c κs =
+    let s = c .before .before .before .before .before .before .before .before .before .before .before in
     let p = made (c .before .before .before .before .before .before .before .put-sync .ensures) in
-    let q = made (c .before .before .before .put-same .ensures) in
-    (search needs, (search needs, (omega arith, (omega arith, (is-offset q, omega (arith, same-size p, same-size q))))))
+    let q = run-made (3 * s .args .half - 2) (is-offset p) (zero-stays _) (c .before .before .before .put-run .ensures) in
+    (s .pre .0, (s .pre .1 .0, (s .pre .1 .1 .0, (s .pre .1 .1 .1 .0, (is-offset p, omega (arith, same-size p, same-size q, s .pre .1 .1 .1 .1 .1 .1))))))
 
 same-length : tie.Need-same-length
 same-length c = search needs
 
 returns : tie.Need-returns
 returns c =
-    let a = c .before .before .before .before .before .before .before .before .before .before .before .before .before .before .args in
-    let one = c .before .before .before .before .before .before .before .before .before .before .before .before .if1 .taken in
-    let p = made (c .before .before .before .before .before .before .before .before .before .before .put-sync .ensures) in
-    let q = made (c .before .before .before .before .before .before .put-same .ensures) in
-    let r = made (c .before .before .put-same2 .ensures) in
-    let e = renamed (timing-of-two (a .half) (a .k) (a .content1) (a .content2) (a .xyz) one)
-    (then p refl (then q (omega (arith, one, length-group (a .half) (λ _. 0))) r)) in
-    (e .offset, e .out)
-
-put-sync-requires-2 : tie.Need-put-sync-requires-2
-put-sync-requires-2 c κs = (search needs, (search needs, (search needs, (omega arith, omega arith))))
-
-add-put-same-3 : tie.Need-add-put-same-3
-add-put-same-3 c = search needs
-
-put-same-requires-3 : tie.Need-put-same-requires-3
-put-same-requires-3 c κs =
-    let p = made (c .before .before .before .put-sync2 .ensures) in
-    (search needs, (search needs, (omega arith, (omega arith, (is-offset p, omega (arith, same-size p))))))
-
-add-put-same-4 : tie.Need-add-put-same-4
-add-put-same-4 c = search needs
-
-put-same-requires-4 : tie.Need-put-same-requires-4
-put-same-requires-4 c κs =
-    let p = made (c .before .before .before .before .before .before .before .put-sync2 .ensures) in
-    let q = made (c .before .before .before .put-same3 .ensures) in
-    (search needs, (search needs, (omega arith, (omega arith, (is-offset q, omega (arith, same-size p, same-size q))))))
-
-add-put-same-5 : tie.Need-add-put-same-5
-add-put-same-5 c =
-    let k = c .before .before .before .before .before .before .before .before .before .before .before .before .before .before in
-    let s = k .before in
-    omega (arith, s .good, s .pre .1 .1 .0, s .pre .1 .1 .1 .0, s .pre .1 .1 .1 .1 .1 .1, c .before .before .before .before .before .before .before .before .before .before .before .before .before .if1 .left)
-
-put-same-requires-5 : tie.Need-put-same-requires-5
-put-same-requires-5 c κs =
-    let p = made (c .before .before .before .before .before .before .before .before .before .before .before .put-sync2 .ensures) in
-    let q = made (c .before .before .before .before .before .before .before .put-same3 .ensures) in
-    let r = made (c .before .before .before .put-same4 .ensures) in
-    (search needs, (search needs, (omega arith, (omega arith, (is-offset r, omega (arith, same-size p, same-size q, same-size r))))))
-
-same-length-2 : tie.Need-same-length-2
-same-length-2 c = search needs
-
-returns-2 : tie.Need-returns-2
-returns-2 c =
-    let a = c .before .before .before .before .before .before .before .before .before .before .before .before .before .before .before .before .before .before .args in
-    let s = c .before .before .before .before .before .before .before .before .before .before .before .before .before .before .before .before .before .before in
-    let two : a .half ≡ 2 = omega (arith, s .pre .1 .1 .0, s .pre .1 .1 .1 .0, c .before .before .before .before .before .before .before .before .before .before .before .before .before .before .before .before .if1 .left) in
-    let p = made (c .before .before .before .before .before .before .before .before .before .before .before .before .before .before .put-sync2 .ensures) in
-    let q = made (c .before .before .before .before .before .before .before .before .before .before .put-same3 .ensures) in
-    let r = made (c .before .before .before .before .before .before .put-same4 .ensures) in
-    let l = length-group (a .half) (λ _. 0) in
-    let e = renamed (timing-of-four (a .half) (a .k) (a .content1) (a .content2) (a .xyz) two)
-    (then p refl (then q (omega (arith, two, l)) (then r (omega (arith, two, l)) (made (c .before .before .put-same5 .ensures))))) in
+    let s = c .before .before .before .before .before .before .before .before .before .before .before .before .before .before in
+    let a = s .args in
+    let p = renamed (ap (syncChars (a .k) (a .content1) (a .content2)) (sym (c .before .before .before .before .before .before .before .before .before .before .before .before .second-word .ensures))) (made (c .before .before .before .before .before .before .before .before .before .before .put-sync .ensures)) in
+    let q = run-made (3 * a .half - 2) (is-offset p) (zero-stays _) (c .before .before .before .before .before .before .put-run .ensures) in
+    let l = length-run (3 * a .half - 2) 0x000 in
+    let r = then p refl (then q (omega (arith, l, s .pre .1 .1 .0)) (made (c .before .before .put-same .ensures))) in
+    let e = renamed (timing-is (a .half) (a .k) (a .content1) (a .content2) (a .xyz) (s .pre .1 .1 .0) (s .pre .1 .1 .1 .0)) r in
     (e .offset, e .out)
 
 pub put-timing-spec : {M : Type 1} → statement M
 put-timing-spec =
     tie.close
     (tie.spec
+    second-word-requires
+    mul-zeros
+    sub-zeros
     put-sync-requires
+    add-put-run
+    put-run-requires
+    mul-put-same
     add-put-same
     put-same-requires
-    add-put-same-2
-    put-same-requires-2
     same-length
-    returns
-    put-sync-requires-2
-    add-put-same-3
-    put-same-requires-3
-    add-put-same-4
-    put-same-requires-4
-    add-put-same-5
-    put-same-requires-5
-    same-length-2
-    returns-2)
+    returns)
