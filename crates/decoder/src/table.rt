@@ -1,6 +1,7 @@
 // The decoding table over all 1,024 symbols, and what its entries say.
 use symbol::disparity::Disparity;
 ghost use mathlib.Core.Path.{_≡_};
+ghost use Prim.Native.Nat.{_%_};
 ghost use Rattle.decoder.specs.Decoder.{decodingTable, entryOf, entryIn, legalBit, entryAfter, maskOf, ofMask, legalBy, afterBy};
 
 // An entry for each symbol: the character's number in bits 0 to 8 (a byte is its own number, the special characters are 256 to 267),
@@ -1047,6 +1048,13 @@ pub fn entry(t: &[u16; 1024], s: u16) -> u16
         return t[s as usize];
     }
     0
+}
+
+// The byte in a symbol's entry.
+pub fn byte_of(t: &[u16; 1024], s: u16) -> u8
+    ensures { λ r. ⌜ r ≡ entryIn (now (t .entry)) s % 256 ⌝ }
+{
+    (entry(t, s) % 256) as u8
 }
 
 // The entry of one symbol. It builds the table: a loop lends it instead.

@@ -28,7 +28,7 @@ module _ (p : ℕ → Bool) where
   more : (i b : ℕ) → p i ≡ false → ((j : ℕ) → suc i ≤ j → j < b → p j ≡ false) → (j : ℕ) → i ≤ j → j < b → p j ≡ false
   more i b e f j h l = ⊎-elim (λ q. rw (← q) e) (λ q. f j q l) (eq-or-lt-of-le h)
 
-  hit-from : (n i k : ℕ) → firstFrom i n p ≡ some k → Lowest p i (i + n) k
+  pub hit-from : (n i k : ℕ) → firstFrom i n p ≡ some k → Lowest p i (i + n) k
   unfolding firstFrom
   hit-from zero i k e = let z : _≡_ {A = ℕ} 0 1 = cc in absurd (omega arith)
   hit-from (suc n) i k e =
@@ -40,7 +40,7 @@ module _ (p : ℕ → Bool) where
       let r = hit-from n (suc i) k (rw t at e) in
       record { from = omega arith; below = omega arith; holds = r .holds; least = more i k t (r .least) })
 
-  miss-from : (n i : ℕ) → firstFrom i n p ≡ none → Nowhere p i (i + n)
+  pub miss-from : (n i : ℕ) → firstFrom i n p ≡ none → Nowhere p i (i + n)
   unfolding firstFrom
   miss-from zero i e = record { never = λ j h l. absurd (omega arith) }
   miss-from (suc n) i e =
@@ -72,19 +72,28 @@ module _ (p : ℕ → Bool) where
       high t =
           ⊎-elim (λ q. sym q) (λ q. absurd (not-both k (y .holds) (x .least k (y .from) q))) (eq-or-lt-of-le (ltb-false j k t))
 
-  pub is-hit : (n k : ℕ) → Lowest p 0 n k → firstBelow n p ≡ some k
-  is-hit n k l = go (firstBelow n p) refl
+  -- the search from i on finds the lowest, and nothing where there is none
+  pub is-hit-from : (n i k : ℕ) → Lowest p i (i + n) k → firstFrom i n p ≡ some k
+  is-hit-from n i k l = go (firstFrom i n p) refl
     where
-      go : (o : Option ℕ) → firstBelow n p ≡ o → firstBelow n p ≡ some k
-      go none e = absurd (not-both k (l .holds) (miss n e .never k (l .from) (l .below)))
-      go (some j) e = rw (one-lowest l (hit n j e)) e
+      go : (o : Option ℕ) → firstFrom i n p ≡ o → firstFrom i n p ≡ some k
+      go none e = absurd (not-both k (l .holds) (miss-from n i e .never k (l .from) (l .below)))
+      go (some j) e = rw (one-lowest l (hit-from n i j e)) e
+
+  pub is-miss-from : (n i : ℕ) → Nowhere p i (i + n) → firstFrom i n p ≡ none
+  is-miss-from n i w = go (firstFrom i n p) refl
+    where
+      go : (o : Option ℕ) → firstFrom i n p ≡ o → firstFrom i n p ≡ none
+      go none e = e
+      go (some j) e = let l = hit-from n i j e in absurd (not-both j (l .holds) (w .never j (l .from) (l .below)))
+
+  pub is-hit : (n k : ℕ) → Lowest p 0 n k → firstBelow n p ≡ some k
+  unfolding firstBelow
+  is-hit n k l = is-hit-from n 0 k (rw zero-add l)
 
   pub is-miss : (n : ℕ) → Nowhere p 0 n → firstBelow n p ≡ none
-  is-miss n w = go (firstBelow n p) refl
-    where
-      go : (o : Option ℕ) → firstBelow n p ≡ o → firstBelow n p ≡ none
-      go none e = e
-      go (some j) e = let l = hit n j e in absurd (not-both j (l .holds) (w .never j (l .from) (l .below)))
+  unfolding firstBelow
+  is-miss n w = is-miss-from n 0 (rw zero-add w)
 
   -- where the test holds at no other number, the search finds the one
   pub is-only : (n k : ℕ) → k < n → p k ≡ true → ((j : ℕ) → j < n → p j ≡ true → j ≡ k) → firstBelow n p ≡ some k

@@ -6,19 +6,21 @@ use mathlib.Core.List.{List, [], _∷_}
 use Prim.Native.Nat.{ℕ, zero, suc, _+_, _*_, _≤_}
 use native.Mathlib.Omega.{arith}
 use lib.Dec.{eqb}
-use lib.ListN.{length, replicate, length-append, length-drop, length-replicate}
+use lib.ListN.{length, replicate, length-append, length-replicate}
 use Rattle.ground.specs.Range.{within}
 use Rattle.ground.proofs.Ranges.{from-low, to-high}
 use Rattle.ground.proofs.Tests.{both-left}
 use Rattle.symbol.specs.declared.disparity.Disparity.{Disparity}
 use Rattle.span.specs.declared.format.Format.{Format}
 use Rattle.span.specs.declared.format.Shape.{Shape}
+use Rattle.span.specs.Content.{contentOf}
 use Rattle.span.specs.Format.{isKnown, shapeOf, streams, samplesIn, pairsIn, symbolsIn, eavAt}
 use Rattle.span.specs.Span.{interleaved, bytes, wordsFromSav, wordsFromEav, spanWords, charsFromSav, charsFromEav, spanChars, spanSymbols, fillWord}
 use Rattle.span.specs.Stream.{Asked, fromSav, fromEav}
 use Rattle.span.proofs.Encoding.{length-symbols}
 use Rattle.span.proofs.Interleaving.{length-interleaved}
 use Rattle.span.proofs.Packing.{length-bytes}
+use Rattle.span.proofs.Synchronised.{length-both}
 
 -- the table: s, the ancillary words per stream, the fill words, the symbols, the samples
 abbrev pub columns : Shape → List ℕ
@@ -89,18 +91,12 @@ module _ (f : Format) (a : Asked) where
 
 -- characters and symbols, where there are streams
 module _ (f : Format) (a : Asked) (some : 1 ≤ shapeOf f .half) where
-  pub length-chars-sav : length (charsFromSav f a) ≡ eavAt (shapeOf f)
-  unfolding charsFromSav
-  length-chars-sav = omega (arith, length-drop 4 (bytes (wordsFromSav f a)), length-bytes-sav f a)
-
-  pub length-chars-eav :
-      length (charsFromEav f a) ≡ 3 * (shapeOf f .half * (8 + shapeOf f .ancillary) + shapeOf f .fill)
-  unfolding charsFromEav
-  length-chars-eav = omega (arith, length-drop 4 (bytes (wordsFromEav f a)), length-bytes-eav f a)
-
   pub length-chars : length (spanChars f a) ≡ symbolsIn (shapeOf f)
-  unfolding spanChars
-  length-chars = length-append (charsFromSav f a) (charsFromEav f a) ∙ omega (arith, length-chars-sav, length-chars-eav)
+  unfolding spanChars charsFromSav charsFromEav
+  length-chars =
+      length-both (contentOf f (a .content)) (bytes (wordsFromSav f a)) (bytes (wordsFromEav f a)) (eavAt (shapeOf f))
+      (length-bytes-sav f a) (omega arith) (omega (arith, length-bytes-eav f a))
+      ∙ omega (arith, length-bytes-eav f a)
 
   pub length-of-symbols : (d : Disparity) → length (spanSymbols d f a) ≡ symbolsIn (shapeOf f)
   unfolding spanSymbols

@@ -11,3 +11,4 @@ pub mod Parts
 pub mod Places
 pub mod Samples
 pub mod Signals
+pub mod Synchronised

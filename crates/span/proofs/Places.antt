@@ -2,19 +2,14 @@
 -- Assumes nothing.
 use mathlib.Core.Path.{_≡_, refl, sym, ap, _∙_}
 use mathlib.Core.Bool.{true, false}
-use mathlib.Core.List.{List, [], _∷_, _++_}
+use mathlib.Core.List.{List, _++_}
 use Prim.Native.Nat.{ℕ, _+_, _-_, _*_, _/_, _%_, _≤_, _<_}
 use native.Mathlib.Nat.{mul-le-mul-left}
 use native.Mathlib.Omega.{arith}
-use lib.Dec.{ltb}
-use lib.ListN.{getD, take, drop, replicate, getD-replicate}
-use lib.Seq.{getD-drop}
-use borrow.Author.Tests.{ltb-true, ltb-false}
-use Rattle.ground.proofs.Cases.{on-test}
+use lib.ListN.{getD, take, replicate, getD-replicate}
 use Rattle.ground.proofs.Writing.{getD-table, getD-first, getD-second}
 use Rattle.line.specs.Stream.{vOf, lineAfter}
 use Rattle.symbol.specs.declared.disparity.Disparity.{Disparity}
-use Rattle.symbol.specs.declared.special.Special.{Special}
 use Rattle.symbol.specs.declared.special.Special.the-variants.{«K28_5», «K29_7»}
 use Rattle.symbol.specs.Character.{numberOf}
 use Rattle.symbol.specs.Code.{symbolOf, TwoForms}
@@ -23,17 +18,19 @@ use Rattle.word.specs.Bytes.{bytesOf}
 use Rattle.word.specs.Crcc.{crccWords}
 use Rattle.word.specs.LineNumber.{ln0, ln1}
 use Rattle.word.specs.Timing.{timing}
+use Rattle.span.specs.declared.content.ContentBytes.{ContentBytes}
 use Rattle.span.specs.declared.format.Format.{Format}
 use Rattle.span.specs.Content.{contentOf}
 use Rattle.span.specs.Encoding.{symbolsFrom, afterRun}
 use Rattle.span.specs.Format.{shapeOf, streams, pairsIn, symbolsIn, eavAt}
 use Rattle.span.specs.Sample.{blank, sampleWord}
-use Rattle.span.specs.Span.{interleaved, bytes, listed, synchronised, wordsFromSav, wordsFromEav, spanWords, charsFromSav, charsFromEav, spanChars, spanSymbols, fillWord}
+use Rattle.span.specs.Span.{interleaved, bytes, listed, wordsFromSav, wordsFromEav, spanWords, charsFromSav, charsFromEav, spanChars, spanSymbols, fillWord}
 use Rattle.span.specs.Stream.{Asked, sav, picture, eav, lineNumber, crcc, register, ancillary, fromSav, fromEav}
 use Rattle.span.proofs.Encoding.{symbol-at}
 use Rattle.span.proofs.Interleaving.{length-interleaved, interleaved-at}
-use Rattle.span.proofs.Lengths.{length-words-sav, length-words, length-bytes-sav, length-chars-sav, length-chars}
+use Rattle.span.proofs.Lengths.{length-words-sav, length-words, length-bytes-sav, length-chars}
 use Rattle.span.proofs.Packing.{bytes-append, byte-at}
+use Rattle.span.proofs.Synchronised.{in-second, kept-byte}
 
 -- ---- words
 
@@ -42,7 +39,7 @@ abbrev pub wordAt : Format → Asked → ℕ → ℕ → ℕ
 wordAt f a j t = getD (spanWords f a) (streams (shapeOf f) * j + t) 0
 
 -- word j of n, of stream t of s, stands among the first s * n
-inside : (s n j t : ℕ) → j < n → t < s → s * j + t < s * n
+pub inside : (s n j t : ℕ) → j < n → t < s → s * j + t < s * n
 inside s n j t h l = omega (arith, mul-le-mul-left s h)
 
 module _ (f : Format) (a : Asked) where
@@ -157,19 +154,21 @@ pub first-symbol : (d : Disparity) (f : Format) (a : Asked) → getD (spanSymbol
 unfolding spanSymbols spanChars charsFromSav symbolsFrom
 first-symbol d f a = refl
 
--- from the fifth byte on, what is synchronised is as it was
-from-fifth :
-    (k : Special) (c1 c2 : ℕ) (code : List ℕ) (i : ℕ) → 4 ≤ i → getD (synchronised k c1 c2 code) i 0 ≡ getD code i 0
-from-fifth k c1 c2 code i h =
-    let e : i ≡ 4 + (i - 4) = omega arith in
-    let four = numberOf k ∷ numberOf k ∷ c1 ∷ c2 ∷ [] in
-    rw e (getD-second four (drop 4 code) 4 (i - 4) 0 refl ∙ getD-drop 4 code (i - 4) 0)
-
 module _ (f : Format) (a : Asked) (some : 1 ≤ shapeOf f .half) where
+  abbrev content : ContentBytes
+  content = contentOf f (a .content)
+
+  -- the bytes before the EAV, and those from it on
+  abbrev savBytes : List ℕ
+  savBytes = bytes (wordsFromSav f a)
+
+  abbrev eavBytes : List ℕ
+  eavBytes = bytes (wordsFromEav f a)
+
   -- the characters from the EAV on stand behind those from the SAV on
   behind-chars : (i : ℕ) → getD (spanChars f a) (eavAt (shapeOf f) + i) 0 ≡ getD (charsFromEav f a) i 0
-  unfolding spanChars
-  behind-chars i = getD-second (charsFromSav f a) (charsFromEav f a) (eavAt (shapeOf f)) i 0 (length-chars-sav f a some)
+  unfolding spanChars charsFromSav charsFromEav
+  behind-chars = in-second content savBytes eavBytes (eavAt (shapeOf f)) (length-bytes-sav f a) (omega arith)
 
   -- the EAV's
   pub char-at-sync-eav :
@@ -183,33 +182,10 @@ module _ (f : Format) (a : Asked) (some : 1 ≤ shapeOf f .half) where
       (ap (λ (k : ℕ). getD (spanChars f a) k 0) e ∙ behind-chars 0, behind-chars 1, behind-chars 2, behind-chars 3)
 
   -- the bytes of the words, in the same two parts
-  parts : List ℕ
-  parts = bytes (wordsFromSav f a) ++ bytes (wordsFromEav f a)
-
-  bytes-parts : bytes (spanWords f a) ≡ parts
-  unfolding spanWords parts
+  bytes-parts : bytes (spanWords f a) ≡ savBytes ++ eavBytes
+  unfolding spanWords
   bytes-parts =
       bytes-append (shapeOf f .half * 1924) (wordsFromSav f a) (wordsFromEav f a) (length-words-sav f a ∙ omega arith)
-
-  -- a character before the EAV, and one behind its beginning
-  in-sav : (k : ℕ) → 4 ≤ k → k < eavAt (shapeOf f) → getD (spanChars f a) k 0 ≡ getD parts k 0
-  unfolding spanChars charsFromSav parts
-  in-sav k past h =
-      let c = contentOf f (a .content) in
-      let x = bytes (wordsFromSav f a) in
-      getD-first (charsFromSav f a) (charsFromEav f a) (eavAt (shapeOf f)) k 0 (length-chars-sav f a some) h
-      ∙ from-fifth «K28_5» (c .sav1) (c .sav2) x k past
-      ∙ sym (getD-first x (bytes (wordsFromEav f a)) (eavAt (shapeOf f)) k 0 (length-bytes-sav f a) h)
-
-  in-eav :
-      (j : ℕ) → 4 ≤ j → getD (spanChars f a) (eavAt (shapeOf f) + j) 0 ≡ getD parts (eavAt (shapeOf f) + j) 0
-  unfolding charsFromEav parts
-  in-eav j past =
-      let c = contentOf f (a .content) in
-      let y = bytes (wordsFromEav f a) in
-      behind-chars j
-      ∙ from-fifth «K29_7» (c .eav1) (c .eav2) y j past
-      ∙ sym (getD-second (bytes (wordsFromSav f a)) y (eavAt (shapeOf f)) j 0 (length-bytes-sav f a))
 
   -- every other character k is byte k of the words
   pub char-is-byte :
@@ -217,12 +193,9 @@ module _ (f : Format) (a : Asked) (some : 1 ≤ shapeOf f .half) where
       → 4 ≤ k
       → (eavAt (shapeOf f) ≤ k → eavAt (shapeOf f) + 4 ≤ k)
       → getD (spanChars f a) k 0 ≡ getD (bytes (spanWords f a)) k 0
+  unfolding spanChars charsFromSav charsFromEav
   char-is-byte k p q =
-      on-test (ltb k (eavAt (shapeOf f))) (λ t. in-sav k p (ltb-true k (eavAt (shapeOf f)) t))
-      (λ t.
-      let past = q (ltb-false k (eavAt (shapeOf f)) t) in
-      let e : k ≡ eavAt (shapeOf f) + (k - eavAt (shapeOf f)) = omega arith in
-      rw e (in-eav (k - eavAt (shapeOf f)) (omega arith)))
+      kept-byte content savBytes eavBytes (eavAt (shapeOf f)) (length-bytes-sav f a) (omega arith) k p q
       ∙ ap (λ (l : List ℕ). getD l k 0) (sym bytes-parts)
 
   -- byte i of pair q

@@ -43,6 +43,13 @@ pub(crate) fn is_ten_bits(f: Format) -> bool
     f.depth == 10
 }
 
+// The bits of a sample.
+pub fn depth_of(f: Format) -> u8
+    ensures { λ r. ⌜ r ≡ f .depth ⌝ }
+{
+    f.depth
+}
+
 // What it means; nothing of everything where it is unknown.
 pub fn shape_of(f: Format) -> Shape
     ensures { λ r. ⌜ r ≡ shapeOf f ⌝ }

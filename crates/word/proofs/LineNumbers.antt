@@ -95,12 +95,16 @@ module _ (n : ℕ) (p : 1 ≤ n) (q : n ≤ 1125) where
   sent-named : names (ln0 n) (ln1 n) n ≡ true
   sent-named = simp (is-within 1 1125 n p q, eq-eqb (ln0 n) (ln0 n) refl, eq-eqb (ln1 n) (ln1 n) refl)
 
+  -- the words of a line name it
+  pub line-again : lineOf (ln0 n) (ln1 n) ≡ some n
+  line-again =
+      let e : numberIn (ln0 n) (ln1 n) ≡ n = number-again n (omega arith) in
+      names-line (ln0 n) (ln1 n) (rw e sent-named) ∙ ap some e
+
   -- reading what is sent gives the line
   pub read-sent : namedOf (ln0 n) (ln1 n) ≡ given (record { 0 = n })
   read-sent =
-      let e : numberIn (ln0 n) (ln1 n) ≡ n = number-again n (omega arith) in
-      let s : lineOf (ln0 n) (ln1 n) ≡ some n = names-line (ln0 n) (ln1 n) (rw e sent-named) ∙ ap some e in
-      simp (both-words (ln0 n) (ln1 n) (omega (arith, ln0-below n)) (omega (arith, ln1-below n)), s)
+      simp (both-words (ln0 n) (ln1 n) (omega (arith, ln0-below n)) (omega (arith, ln1-below n)), line-again)
 
 pub no-line-0 : numberedOf 0 ≡ refused 2 0
 unfolding within

@@ -1,16 +1,16 @@
 -- Repair of a timing word: what the search for the nearest legal word finds, and how far the legal words are apart.
 -- Assumes nothing.
-use mathlib.Core.Path.{_≡_, refl, ap, _∙_}
+use mathlib.Core.Path.{_≡_, refl, sym, ap, _∙_}
 use mathlib.Core.Bool.{Bool, true, false, cond}
 use mathlib.Core.Logic.{⊎-elim}
-use mathlib.Core.Option.{some}
+use mathlib.Core.Option.{none, some}
 use Prim.Native.Nat.{ℕ, zero, suc, _+_, _-_, _/_, _%_, _^_, _≤_, _<_, min}
 use native.Mathlib.Nat.{zero-add, eq-or-lt-of-le, pow-suc}
 use native.Mathlib.Omega.{arith}
 use lib.Bits.{bitAnd, bitXor, and-step, and-self, and-le-l, and-shr}
 use lib.Count.{onesIn}
-use lib.Dec.{eqb, ltb}
-use borrow.Author.Tests.{eqb-true, eqb-false, eq-eqb, ne-eqb, ltb-true, lt-ltb, le-ltb, le-leb, lt-leb, leb-true}
+use lib.Dec.{eqb}
+use borrow.Author.Tests.{eqb-true, eqb-false, ne-eqb, lt-ltb, le-ltb, le-leb, lt-leb, leb-true}
 use Rattle.ground.specs.Answer.{refused, given}
 use Rattle.ground.specs.Bit.{inverted}
 use Rattle.ground.specs.Search.{firstBelow}
@@ -18,11 +18,12 @@ use Rattle.ground.specs.Test.{everyBelow}
 use Rattle.ground.specs.Xor.{_⊕_}
 use Rattle.ground.proofs.Bits.{inverted-below, ones-low}
 use Rattle.ground.proofs.Cases.{on-test}
-use Rattle.ground.proofs.Searches.{Nowhere, is-hit, is-miss}
+use Rattle.ground.proofs.Searches.{Nowhere, is-hit, is-miss, is-only}
 use Rattle.ground.proofs.Tests.{at-number}
-use Rattle.ground.proofs.Xors.{⊕-self, ⊕-middle, zero-⊕, ones-⊕, one-inverted, two-inverted}
+use Rattle.ground.proofs.Xors.{⊕-self, ⊕-below, ⊕-cancel, ⊕-middle, zero-⊕, ones-⊕, one-inverted, two-inverted}
 use Rattle.word.specs.Repair.{distance, legalWord, near, nearest, repairOf}
 use Rattle.word.specs.Timing.{timing}
+use Rattle.word.proofs.Timings.{timing-below}
 
 -- ---- a number without its lowest one
 
@@ -118,6 +119,17 @@ apart i j h l =
     eqb-true (distance (legalWord i) (legalWord j)) (cond (eqb i j) 0 4)
     (at-number 4 (test i) (at-number 4 (λ i. everyBelow 4 (test i)) refl i h) j l)
 
+-- a word is at no distance from itself, and from no other
+pub no-distance : (w : ℕ) → distance w w ≡ 0
+unfolding distance
+no-distance w = ap (onesIn 12) (⊕-self w) ∙ sym no-ones
+
+pub same-word : (a b : ℕ) → a < 4096 → b < 4096 → distance a b ≡ 0 → a ≡ b
+unfolding distance
+same-word a b h l e =
+    on-test (eqb (a ⊕ b) 0) (λ t. sym (⊕-cancel a b a (eqb-true (a ⊕ b) 0 t ∙ sym (⊕-self a))))
+    (λ t. let n = eqb-false (a ⊕ b) 0 t in absurd (omega (arith, some-one 12 (a ⊕ b) (⊕-below 12 a b h l) (omega arith), e)))
+
 -- a distance is no longer than two that lead there
 between : (a b w : ℕ) → distance a b ≤ distance w a + distance w b
 unfolding distance
@@ -132,6 +144,25 @@ one-near w i j h l p q =
     (λ t.
     let d : distance (legalWord i) (legalWord j) ≡ 4 = apart i j h l ∙ simp t in
     absurd (omega (arith, d, between (legalWord i) (legalWord j) w, leb-true (distance w (legalWord i)) 1 p, leb-true (distance w (legalWord j)) 1 q)))
+
+-- one that is near a legal word has it as its nearest
+pub nearest-is : (w vh : ℕ) → vh < 4 → distance w (legalWord vh) ≤ 1 → nearest w ≡ some vh
+unfolding nearest
+nearest-is w vh h d =
+    let t : near w vh ≡ true = le-leb (distance w (legalWord vh)) 1 d in
+    is-only (near w) 4 vh h t (λ j l u. one-near w j vh l h u t)
+
+-- one that is two bits from a legal word is near none
+pub nearest-none : (w vh : ℕ) → vh < 4 → distance w (legalWord vh) ≡ 2 → nearest w ≡ none
+unfolding nearest
+nearest-none w vh h e = is-miss (near w) 4 (record { never = λ i _ l. lt-leb (distance w (legalWord i)) 1 (far i l) })
+  where
+    far : (i : ℕ) → i < 4 → 1 < distance w (legalWord i)
+    far i l =
+        on-test (eqb vh i) (λ t. omega (arith, ap (λ (x : ℕ). distance w (legalWord x)) (eqb-true vh i t), e))
+        (λ t.
+        let d : distance (legalWord vh) (legalWord i) ≡ 4 = apart vh i h l ∙ simp t in
+        omega (arith, d, between (legalWord vh) (legalWord i) w, e))
 
 -- ---- wrong bits (004, 6.2)
 
@@ -155,25 +186,15 @@ module _ (vh : ℕ) (h : vh < 4) where
   legal = legalWord vh
 
   legal-below : legal < 2 ^ 12
-  unfolding timing
-  legal-below = ltb-true legal 4096 (at-number 4 (λ vh. ltb (legalWord vh) 4096) refl vh h)
+  legal-below = timing-below (eqb (vh / 2) 1) (eqb (vh % 2) 1)
 
   near-legal : (w : ℕ) → w < 4096 → distance w legal ≤ 1 → repairOf w ≡ given (record { word = legal; distance = distance w legal })
-  near-legal w l d =
-      found w l vh h
-      (record {
-        never =
-            λ j p q.
-            on-test (near w j)
-            (λ t. absurd (omega (arith, one-near w j vh (omega arith) h t (le-leb (distance w legal) 1 d))))
-            (λ t. t);
-      })
-      d
+  near-legal w l d = simp (lt-ltb w 4096 l, nearest-is w vh h d)
 
   -- none wrong: the word itself; one wrong: the word that it was
   pub none-wrong : repairOf legal ≡ given (record { word = legal; distance = 0 })
   none-wrong =
-      let e : distance legal legal ≡ 0 = apart vh vh h h ∙ simp (eq-eqb vh vh refl) in
+      let e = no-distance legal in
       rw e at (near-legal legal legal-below (omega (arith, e)))
 
   pub one-wrong : (k : ℕ) → k < 12 → repairOf (inverted k legal) ≡ given (record { word = legal; distance = 1 })
@@ -188,15 +209,8 @@ module _ (vh : ℕ) (h : vh < 4) where
       let n : j ≡ k → ⊥ = λ e. omega arith in
       let w = inverted j (inverted k legal) in
       let e : distance w legal ≡ 2 = two-off j k legal l q ∙ simp (ne-eqb j k n) in
-      lost w (inverted-below 12 j (inverted k legal) l (inverted-below 12 k legal q legal-below))
-      (record { never = λ i u v. lt-leb (distance w (legalWord i)) 1 (far i v w e) })
-    where
-      far : (i : ℕ) → i < 4 → (w : ℕ) → distance w legal ≡ 2 → 1 < distance w (legalWord i)
-      far i v w e =
-          on-test (eqb vh i) (λ t. omega (arith, ap (λ (x : ℕ). distance w (legalWord x)) (eqb-true vh i t), e))
-          (λ t.
-          let d : distance legal (legalWord i) ≡ 4 = apart vh i h v ∙ simp t in
-          omega (arith, d, between legal (legalWord i) w, e))
+      let small : w < 4096 = inverted-below 12 j (inverted k legal) l (inverted-below 12 k legal q legal-below) in
+      simp (lt-ltb w 4096 small, nearest-none w vh h e)
 
 -- the word of any V and H, as it is sent
 pub sent-whole : (v h : Bool) → repairOf (timing v h) ≡ given (record { word = timing v h; distance = 0 })

@@ -1,0 +1,46 @@
+-- What the calls answer: of what is no window of a known format, nothing.
+-- Assumes nothing.
+use Prim.Native.Nat.{ℕ, _+_, _*_}
+use mathlib.Core.Bool.{Bool, cond, _&&_}
+use mathlib.Core.List.{List}
+use lib.Dec.{eqb}
+use lib.ListN.{length}
+use Rattle.span.specs.declared.format.Format.{Format}
+use Rattle.span.specs.Format.{isKnown, shapeOf, streams, symbolsIn}
+use Rattle.window.specs.declared.sums.Sums.{Sums}
+use Rattle.window.specs.Read.{placed}
+use Rattle.window.specs.Tests.{lineRead, repairs}
+use Rattle.window.specs.Words.{wordAt}
+use Rattle.judge.specs.declared.service.Verdict.{Verdict}
+use Rattle.judge.specs.Holds.{picture25, fill26, firstWrong}
+use Rattle.judge.specs.Verdict.{passed, firstRow, serviceTests}
+
+abbrev pub isWindow : Format → ℕ → Bool
+isWindow f symbols = isKnown f && eqb symbols (symbolsIn (shapeOf f))
+
+-- tests 21 to 24
+abbrev pub serviceIf : Format → List ℕ → Sums → Verdict
+serviceIf f w c = cond (isWindow f (length w)) (firstRow (serviceTests (shapeOf f) w c)) passed
+
+-- the lowest place of test 25 among the picture words, and of test 26 among the fill
+unfoldable pub place25 : Format → List ℕ → ℕ
+place25 f w =
+    let s = streams (shapeOf f) in
+    firstWrong (placed s (picture25 f s (wordAt (shapeOf f) w))) (4 * s) (1924 * s)
+
+unfoldable pub place26 : Format → List ℕ → ℕ
+place26 f w =
+    let s = streams (shapeOf f) in
+    let from = s * (1932 + shapeOf f .ancillary) in
+    firstWrong (placed s (fill26 s (wordAt (shapeOf f) w))) from (from + 2 * shapeOf f .fill)
+
+abbrev pub placeIf : ℕ → Format → List ℕ → ℕ
+placeIf number f w = cond (isWindow f (length w)) (cond (eqb number 25) (place25 f w) (place26 f w)) 0
+
+-- the line
+abbrev pub lineIf : Format → List ℕ → ℕ
+lineIf f w = cond (isWindow f (length w)) (lineRead (streams (shapeOf f)) (wordAt (shapeOf f) w)) 0
+
+-- the wrong bits
+abbrev pub repairsIf : Format → List ℕ → ℕ
+repairsIf f w = cond (isWindow f (length w)) (repairs (streams (shapeOf f)) (wordAt (shapeOf f) w)) 0

@@ -1,0 +1,4 @@
+pub mod Call
+pub mod Given
+pub mod Holds
+pub mod Verdict

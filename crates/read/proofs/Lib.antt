@@ -1,0 +1,5 @@
+pub mod OneToOne
+pub mod Picturing
+pub mod Summing
+pub mod Verdicts
+pub mod Windows

@@ -1,0 +1,266 @@
+-- Tests 25 and 26: where the picture and the fill are right they hold, and else they fail at the lowest place.
+-- Assumes nothing.
+use mathlib.Core.Path.{_≡_, refl, sym, ap, _∙_, fun-ext}
+use mathlib.Core.Bool.{Bool, true, false, true≢false, not}
+use mathlib.Core.List.{List, [], _∷_}
+use mathlib.Core.Option.{Option, none, some, Option·getD}
+use Prim.Native.Nat.{ℕ, zero, suc, _+_, _-_, _*_, _/_, _%_, _≤_, _<_}
+use native.Mathlib.Nat.{le-of-suc-le-suc, not-suc-le-zero, mul-le-mul-left, div-add-mod}
+use native.Mathlib.Omega.{arith}
+use lib.Dec.{eqb, ltb}
+use lib.ListN.{length, getD}
+use borrow.Author.Tests.{not-true, not-false, lt-ltb, le-ltb, ltb-true, ltb-false}
+use Rattle.ground.specs.Range.{within}
+use Rattle.ground.specs.Search.{firstFrom, firstBelow, isSome}
+use Rattle.ground.proofs.Cases.{on-test}
+use Rattle.ground.proofs.Ranges.{is-within, not-within}
+use Rattle.ground.proofs.Tests.{both-left, both-right}
+use Rattle.ground.proofs.Writing.{length-upto, getD-upto, length-table, getD-table}
+use Rattle.line.specs.Stream.{isActive}
+use Rattle.span.specs.declared.format.Format.{Format}
+use Rattle.span.specs.Format.{shapeOf, streams, pairsIn}
+use Rattle.span.specs.Span.{fillWord}
+use Rattle.span.proofs.Lengths.{known-has-streams}
+use Rattle.word.specs.Sample.{allowedWord}
+use Rattle.rows.specs.Fill.{fillRight}
+use Rattle.rows.specs.Picture.{allAllowed}
+use Rattle.judge.specs.Call.{place25, place26}
+use Rattle.judge.specs.Holds.{picture25, fill26, wrongIn}
+use Rattle.judge.specs.Verdict.{firstRow}
+use Rattle.judge.proofs.Regions.{from-word, before-word}
+use Rattle.judge.proofs.Searching.{hit-in, miss-in, is-miss-in}
+use Rattle.window.specs.Read.{placed, pictureOf}
+use Rattle.window.specs.Tests.{wordOf, column, rows, lineRead, holds25, holds26}
+use Rattle.window.specs.Words.{wordAt}
+use Rattle.window.proofs.Accepting.{none-fails, fails-at}
+use Rattle.window.proofs.Placing.{place-again, stream-below, placed-at}
+use Rattle.read.specs.Window.{IsWindow, pictureTests, rightPicture}
+
+-- ---- a test of all places that asks something in one run alone is another test of that run
+module _ (n from to : ℕ) (holds asked : ℕ → Bool) (up : from ≤ to) (most : to ≤ n)
+    (outside : (k : ℕ) → k < n → (from ≤ k → to ≤ k) → holds k ≡ true) (same : (k : ℕ) → from ≤ k → k < to → holds k ≡ asked k) where
+  pub one-run : firstBelow n (λ k. not (holds k)) ≡ wrongIn asked from to
+  one-run = go (wrongIn asked from to) refl
+    where
+      go : (o : Option ℕ) → wrongIn asked from to ≡ o → firstBelow n (λ k. not (holds k)) ≡ wrongIn asked from to
+      go none e =
+          let never = miss-in asked up e in
+          none-fails n holds
+          (λ k b.
+          on-test (ltb k from) (λ t. let l = ltb-true k from t in outside k b (λ h. absurd (omega arith)))
+          (λ t.
+          let h = ltb-false k from t in
+          on-test (ltb k to) (λ u. let l = ltb-true k to u in same k h l ∙ not-false (asked k) (never .never k h l))
+          (λ u. outside k b (λ _. ltb-false k to u))))
+          ∙ sym e
+      go (some k) e =
+          let l = hit-in asked up e in
+          fails-at n holds k (omega (arith, l .below)) (same k (l .from) (l .below) ∙ not-true (asked k) (l .holds))
+          (λ j b.
+          on-test (ltb j from)
+          (λ t. let m = ltb-true j from t in outside j (omega (arith, l .below)) (λ h. absurd (omega arith)))
+          (λ t.
+          let h = ltb-false j from t in
+          let m : j < to = omega (arith, l .below) in
+          same j h m ∙ not-false (asked j) (l .least j h b)))
+          ∙ sym e
+
+-- ---- the words of the picture
+each-allowed : (depth : ℕ) (xs : List ℕ) → allAllowed depth xs ≡ true → (i : ℕ) → i < length xs → allowedWord depth (getD xs i 0) ≡ true
+unfolding allAllowed
+each-allowed depth [] t i h = absurd (not-suc-le-zero h)
+each-allowed depth (x ∷ xs) t zero h = both-left (allowedWord depth x) (allAllowed depth xs) t
+each-allowed depth (x ∷ xs) t (suc i) h =
+    each-allowed depth xs (both-right (allowedWord depth x) (allAllowed depth xs) t) i (le-of-suc-le-suc h)
+
+all-allowed : (depth : ℕ) (xs : List ℕ) → ((i : ℕ) → i < length xs → allowedWord depth (getD xs i 0) ≡ true) → allAllowed depth xs ≡ true
+unfolding allAllowed
+all-allowed depth [] f = refl
+all-allowed depth (x ∷ xs) f = rw (f 0 (omega arith)) (all-allowed depth xs (λ i h. f (suc i) (omega arith)))
+
+module _ (s : ℕ) (word : ℕ → ℕ) where
+  sized : (t : ℕ) → length (column s word 4 1920 t) ≡ 1920
+  sized t = length-table 1920 _
+
+  pub length-rows : length (rows s word) ≡ 1920 * s
+  unfolding rows
+  length-rows = length-upto 1920 (column s word 4 1920) sized s
+
+  -- word 4 + i of stream t stands at i of its row
+  row-word : (t i : ℕ) → t < s → i < 1920 → getD (rows s word) (1920 * t + i) 0 ≡ wordOf s word (4 + i) t
+  unfolding rows
+  row-word t i h l = getD-upto 1920 (column s word 4 1920) sized s t i 0 h l ∙ getD-table 1920 _ i 0 l
+
+-- ---- a window
+module _ (f : Format) (w : List ℕ) (is : IsWindow f w) where
+  abbrev s : ℕ
+  s = streams (shapeOf f)
+
+  abbrev word : ℕ → ℕ
+  word = wordAt (shapeOf f) w
+
+  abbrev n : ℕ
+  n = 2 * pairsIn (shapeOf f)
+
+  some-streams : 1 ≤ s
+  some-streams = omega (arith, known-has-streams f (is .known))
+
+  -- ---- 25
+  abbrev asked25 : ℕ → Bool
+  asked25 = placed s (picture25 f s word)
+
+  abbrev fails25 : Option ℕ
+  fails25 = firstBelow n (λ k. not (placed s (holds25 s word f) k))
+
+  -- all words are allowed where none of them fails
+  words-allowed : allAllowed (f .depth) (rows s word) ≡ true → wrongIn asked25 (4 * s) (1924 * s) ≡ none
+  words-allowed t =
+      is-miss-in asked25 (omega arith)
+      (record {
+        never =
+            λ k h l.
+            let j = k / s in
+            let low : 4 ≤ j = from-word s some-streams (omega arith) in
+            let high : j < 1924 = before-word s some-streams (omega arith) in
+            let i = j - 4 in
+            let back : 4 + i ≡ j = omega arith in
+            let b : k % s < s = stream-below s some-streams k in
+            let m : 1920 * (k % s) + i < length (rows s word) = rw length-rows-is (omega (arith, row-end (k % s) b)) in
+            ap not
+            (ap (λ (x : ℕ). allowedWord (f .depth) (wordOf s word x (k % s))) (sym back)
+            ∙ ap (allowedWord (f .depth)) (sym (row-word s word (k % s) i b (omega arith)))
+            ∙ each-allowed (f .depth) (rows s word) t (1920 * (k % s) + i) m);
+      })
+    where
+      length-rows-is : length (rows s word) ≡ 1920 * s
+      length-rows-is = length-rows s word
+
+      row-end : (t : ℕ) → t < s → 1920 * t + 1920 ≤ 1920 * s
+      row-end t h = omega arith
+
+  none-wrong : wrongIn asked25 (4 * s) (1924 * s) ≡ none → allAllowed (f .depth) (rows s word) ≡ true
+  none-wrong e =
+      all-allowed (f .depth) (rows s word)
+      (λ x h.
+      let t = x / 1920 in
+      let i = x % 1920 in
+      let inside : x < 1920 * s = rw (length-rows s word) at h in
+      let b : t < s = omega arith in
+      let l : i < 1920 = omega arith in
+      let at : 1920 * t + i ≡ x = div-add-mod x 1920 in
+      let never = miss-in asked25 (omega arith) e .never (s * (4 + i) + t) (omega (arith, low-place i)) (omega (arith, high-place i t l b)) in
+      ap (λ (y : ℕ). allowedWord (f .depth) (getD (rows s word) y 0)) (sym at)
+      ∙ ap (allowedWord (f .depth)) (row-word s word t i b l)
+      ∙ sym (placed-at s some-streams (4 + i) t b (picture25 f s word))
+      ∙ not-false (asked25 (s * (4 + i) + t)) never)
+    where
+      low-place : (i : ℕ) → 4 * s ≤ s * (4 + i)
+      low-place i = omega arith
+
+      high-place : (i t : ℕ) → i < 1920 → t < s → s * (4 + i) + t < 1924 * s
+      high-place i t l b =
+          let m : s * (5 + i) ≤ s * 1924 = mul-le-mul-left s (let h : 5 + i ≤ 1924 = omega arith in h) in omega (arith, m)
+
+  -- what a search that finds something answers
+  found-some : (o : Option ℕ) (to : ℕ) → (o ≡ none → ⊥) → o ≡ some (Option·getD o to)
+  found-some none to x = absurd (x refl)
+  found-some (some k) to x = refl
+
+  -- a word of the picture stands among its places, and the other way round
+  outside-25 : (k : ℕ) → (4 * s ≤ k → 1924 * s ≤ k) → placed s (holds25 s word f) k ≡ true
+  unfolding holds25
+  outside-25 k far =
+      rw (not-within 4 1923 (k / s)
+      (λ a b.
+      let m : s * 4 ≤ s * (k / s) = mul-le-mul-left s a in
+      let low : 4 * s ≤ k = omega (arith, m, place-again s some-streams k) in
+      let j : 1924 ≤ k / s = from-word s some-streams (omega (arith, far low)) in
+      omega arith))
+
+  inside-25 : isActive (lineRead s word) ≡ true → (k : ℕ) → 4 * s ≤ k → k < 1924 * s → placed s (holds25 s word f) k ≡ asked25 k
+  unfolding holds25
+  inside-25 a k low high =
+      let first : 4 ≤ k / s = from-word s some-streams (omega arith) in
+      let last : k / s < 1924 = before-word s some-streams (omega arith) in
+      rw (is-within 4 1923 (k / s) first (omega arith), a)
+
+  active-25 : isActive (lineRead s word) ≡ true → fails25 ≡ wrongIn asked25 (4 * s) (1924 * s)
+  active-25 a =
+      one-run n (4 * s) (1924 * s) (placed s (holds25 s word f)) asked25 (omega arith) (omega arith) (λ k _. outside-25 k) (inside-25 a)
+
+  blank-25 : isActive (lineRead s word) ≡ false → fails25 ≡ none
+  unfolding holds25
+  blank-25 a = none-fails n (placed s (holds25 s word f)) (λ k _. on-test (within 4 1923 (k / s)) (λ t. rw (t, a)) (λ t. rw t))
+
+  pub right-25 : rightPicture f (lineRead s word) (pictureOf f w) ≡ true → fails25 ≡ none
+  unfolding pictureOf
+  right-25 t = on-test (isActive (lineRead s word)) (λ a. active-25 a ∙ words-allowed (rw a at t)) blank-25
+
+  pub wrong-25 : rightPicture f (lineRead s word) (pictureOf f w) ≡ false → fails25 ≡ some (place25 f w)
+  unfolding pictureOf place25
+  wrong-25 t =
+      on-test (isActive (lineRead s word))
+      (λ a.
+      active-25 a
+      ∙ found-some (wrongIn asked25 (4 * s) (1924 * s)) (1924 * s) (λ e. true≢false (sym (none-wrong e) ∙ rw a at t)))
+      (λ a. absurd (true≢false (rw a at t)))
+
+  -- ---- 26
+  abbrev from : ℕ
+  from = s * (1932 + shapeOf f .ancillary)
+
+  abbrev asked26 : ℕ → Bool
+  asked26 = placed s (fill26 s word)
+
+  abbrev fails26 : Option ℕ
+  fails26 = firstBelow n (λ k. not (placed s (holds26 s word f) k))
+
+  fill-26 : fails26 ≡ wrongIn asked26 from (from + 2 * shapeOf f .fill)
+  unfolding holds26
+  fill-26 =
+      one-run n from (from + 2 * shapeOf f .fill) (placed s (holds26 s word f)) asked26 (omega arith) (omega arith)
+      (λ k b far.
+      on-test (ltb k from)
+      (λ t.
+      let l : k / s < 1932 + shapeOf f .ancillary = before-word s some-streams (ltb-true k from t) in
+      rw (lt-ltb (k / s) (1932 + shapeOf f .ancillary) l))
+      (λ t. absurd (let h = far (ltb-false k from t) in omega arith)))
+      (λ k low high.
+      let l : 1932 + shapeOf f .ancillary ≤ k / s = from-word s some-streams low in
+      rw (le-ltb (k / s) (1932 + shapeOf f .ancillary) l))
+
+  -- the look at the fill is that search
+  looked-26 : fillRight (shapeOf f) w ≡ not (isSome (wrongIn asked26 from (from + 2 * shapeOf f .fill)))
+  unfolding fillRight wrongIn
+  looked-26 =
+      let size : from + 2 * shapeOf f .fill - from ≡ 2 * shapeOf f .fill = omega arith in
+      rw size
+      (ap (λ (test : ℕ → Bool). not (isSome (firstFrom from (2 * shapeOf f .fill) test)))
+      (fun-ext (λ k. ap (λ (x : ℕ). not (eqb (word x) fillWord)) (sym (place-again s some-streams k)))))
+
+  is-none : (o : Option ℕ) → not (isSome o) ≡ true → o ≡ none
+  is-none none t = refl
+  is-none (some k) t = absurd (true≢false (sym t))
+
+  pub right-26 : fillRight (shapeOf f) w ≡ true → fails26 ≡ none
+  right-26 t = fill-26 ∙ is-none _ (sym looked-26 ∙ t)
+
+  pub wrong-26 : fillRight (shapeOf f) w ≡ false → fails26 ≡ some (place26 f w)
+  unfolding place26
+  wrong-26 t =
+      fill-26
+      ∙ found-some (wrongIn asked26 from (from + 2 * shapeOf f .fill)) (from + 2 * shapeOf f .fill)
+      (λ e. true≢false (sym (looked-26 ∙ rw e) ∙ t))
+
+  -- ---- the verdict over both
+  pub both-hold : rightPicture f (lineRead s word) (pictureOf f w) ≡ true → fillRight (shapeOf f) w ≡ true
+      → record { number = 0; place = 0 } ≡ firstRow (pictureTests f w)
+  both-hold t u = rw (right-25 t, right-26 u)
+
+  pub fill-fails : {k : ℕ} → rightPicture f (lineRead s word) (pictureOf f w) ≡ true → fillRight (shapeOf f) w ≡ false → k ≡ place26 f w
+      → record { number = 26; place = k } ≡ firstRow (pictureTests f w)
+  fill-fails t u e = rw (right-25 t, wrong-26 u, e)
+
+  pub picture-fails : {k : ℕ} → rightPicture f (lineRead s word) (pictureOf f w) ≡ false → k ≡ place25 f w
+      → record { number = 25; place = k } ≡ firstRow (pictureTests f w)
+  picture-fails t e = rw (wrong-25 t, e)

@@ -1,0 +1,184 @@
+-- What the parts answer of a window, and what its reading answers.
+-- Assumes nothing.
+use mathlib.Core.Path.{_≡_, refl, sym, ap, _∙_}
+use mathlib.Core.Bool.{Bool, true, false, not}
+use mathlib.Core.List.{List}
+use mathlib.Core.Option.{Option, none, some, Option·getD}
+use Prim.Native.Nat.{ℕ, _+_, _*_, _≤_, _<_}
+use native.Mathlib.Omega.{arith}
+use lib.Dec.{eqb}
+use lib.ListN.{length, take, replicate}
+use borrow.Author.Tests.{eq-eqb, ne-eqb, lt-ltb, le-ltb}
+use Rattle.ground.specs.Answer.{Answer, refused, given}
+use Rattle.ground.specs.Search.{firstBelow}
+use Rattle.ground.proofs.Searches.{hit}
+use Rattle.span.specs.declared.format.Format.{Format}
+use Rattle.span.specs.declared.format.Shape.{Shape}
+use Rattle.span.specs.Format.{isKnown, shapeOf, streams, samplesIn, symbolsIn, eavAt}
+use Rattle.span.proofs.Formats.{small}
+use Rattle.span.proofs.Lengths.{known-has-streams}
+use Rattle.rows.specs.Fill.{fillRight, fillIf}
+use Rattle.rows.specs.Picture.{sumsIf, rowsIf}
+use Rattle.judge.specs.declared.service.Verdict.{Verdict}
+use Rattle.judge.specs.Call.{place25, place26, serviceIf, placeIf, lineIf, repairsIf}
+use Rattle.judge.specs.Verdict.{firstRow}
+use Rattle.line.specs.declared.stream.StreamLine.{StreamLine}
+use Rattle.scan.specs.declared.scan.Scanned.{Scanned}
+use Rattle.scan.specs.Run.{place20, scannedOf}
+use Rattle.window.specs.declared.delivery.Delivery.{Delivery}
+use Rattle.window.specs.declared.sums.Sums.{Sums}
+use Rattle.window.specs.Read.{wordTests, contentIn, deliveryOf, pictureOf, readSpan, judgeOf, readOf, rowsLeft, rowsRead}
+use Rattle.window.specs.Scan.{byteOf, symbolAt, startOf, runningAt, holds20}
+use Rattle.window.specs.Tests.{lineRead, repairs}
+use Rattle.window.specs.Words.{wordAt}
+use Rattle.read.specs.Window.{IsWindow}
+use Rattle.read.proofs.Picturing.{length-rows}
+use Rattle.read.proofs.Summing.{sums-right}
+use Rattle.read.proofs.Verdicts.{given-by, refused-by}
+
+module _ (f : Format) (w : List ℕ) (is : IsWindow f w) where
+  abbrev word : ℕ → ℕ
+  word = wordAt (shapeOf f) w
+
+  long : eqb (length w) (symbolsIn (shapeOf f)) ≡ true
+  long = eq-eqb (length w) (symbolsIn (shapeOf f)) (is .long)
+
+  -- ---- the parts
+  pub rows-are : {l : List ℕ} (entry : List ℕ) → length entry ≡ samplesIn (shapeOf f) → l ≡ rowsIf f w entry → l ≡ pictureOf f w
+  rows-are entry n e = e ∙ rw (is .known, long, eq-eqb (length entry) (samplesIn (shapeOf f)) n)
+
+  pub service-is : {r : Verdict} {c : Sums} (n : ℕ) → n ≡ samplesIn (shapeOf f) → c ≡ sumsIf f w n → r ≡ serviceIf f w c
+      → r ≡ firstRow (take 4 (wordTests f word))
+  service-is n e sums answer =
+      let p = shapeOf f in
+      answer
+      ∙ rw (sums, is .known, long, eq-eqb n (samplesIn p) e)
+      (ap firstRow (sums-right p w (known-has-streams f (is .known)) (small f refl .half) f refl))
+
+  pub line-is : lineIf f w ≡ lineRead (streams (shapeOf f)) word
+  line-is = rw (is .known, long)
+
+  pub repairs-are : repairsIf f w ≡ repairs (streams (shapeOf f)) word
+  repairs-are = rw (is .known, long)
+
+  pub place-25 : placeIf 25 f w ≡ place25 f w
+  place-25 = rw (is .known, long)
+
+  pub place-26 : placeIf 26 f w ≡ place26 f w
+  place-26 = rw (is .known, long)
+
+  pub fill-is : fillIf f w ≡ fillRight (shapeOf f) w
+  fill-is = rw (is .known, long)
+
+  pub length-picture : length (pictureOf f w) ≡ samplesIn (shapeOf f)
+  unfolding pictureOf
+  length-picture = length-rows (streams (shapeOf f)) word
+
+  -- ---- test 20
+  abbrev wrong20 : ℕ → Bool
+  wrong20 i = not (holds20 (shapeOf f) w i)
+
+  same-20 : firstBelow (symbolsIn (shapeOf f)) wrong20 ≡ firstBelow (length w) wrong20
+  same-20 = ap (λ (n : ℕ). firstBelow n wrong20) (sym (is .long))
+
+  pub none-20 : place20 (shapeOf f) w ≡ length w → firstBelow (symbolsIn (shapeOf f)) wrong20 ≡ none
+  unfolding place20
+  none-20 e = same-20 ∙ go (firstBelow (length w) wrong20) refl
+    where
+      go : (o : Option ℕ) → firstBelow (length w) wrong20 ≡ o → firstBelow (length w) wrong20 ≡ none
+      go none q = q
+      go (some k) q = let z : k ≡ length w = rw q at e in absurd (omega (arith, hit wrong20 (length w) k q .below))
+
+  pub some-20 : place20 (shapeOf f) w < length w → firstBelow (symbolsIn (shapeOf f)) wrong20 ≡ some (place20 (shapeOf f) w)
+  unfolding place20
+  some-20 h = same-20 ∙ go (firstBelow (length w) wrong20) refl
+    where
+      go : (o : Option ℕ) → firstBelow (length w) wrong20 ≡ o
+          → firstBelow (length w) wrong20 ≡ some (Option·getD (firstBelow (length w) wrong20) (length w))
+      go none q = let z : length w < length w = rw q at h in absurd (omega arith)
+      go (some k) q = rw q
+
+  -- ---- the reading
+  pub read-20 : place20 (shapeOf f) w < length w → readSpan f w ≡ refused 20 (place20 (shapeOf f) w)
+  unfolding readSpan
+  read-20 h = rw (some-20 h)
+
+  module _ {v : Verdict} (all : place20 (shapeOf f) w ≡ length w) (e : v ≡ firstRow (wordTests f word)) where
+    pub read-refused : (v .number ≡ 0 → ⊥) → readSpan f w ≡ refused (v .number) (v .place)
+    unfolding readSpan
+    read-refused x = rw (none-20 all, e) (refused-by (deliveryOf f w) (wordTests f word) (rw e at x))
+
+    pub read-given : v .number ≡ 0 → readSpan f w ≡ given (deliveryOf f w)
+    unfolding readSpan
+    read-given q = rw (none-20 all) (given-by 21 26 (deliveryOf f w) (wordTests f word) (omega arith) refl (rw e at q))
+
+  -- ---- the calls
+  pub judge-is : judgeOf f w ≡ readSpan f w
+  unfolding readSpan
+  judge-is = rw (is .known, long)
+
+  pub read-is : (room : ℕ) → room ≡ samplesIn (shapeOf f) → readOf f w room ≡ readSpan f w
+  unfolding readSpan
+  read-is room e = rw (is .known, long, eq-eqb room (samplesIn (shapeOf f)) e)
+
+  pub no-room : (room : ℕ) → (room ≡ samplesIn (shapeOf f) → ⊥) → readOf f w room ≡ refused 4 0
+  no-room room x = rw (is .known, long, ne-eqb room (samplesIn (shapeOf f)) x)
+
+module _ (f : Format) (w : List ℕ) (room : ℕ) where
+  pub unknown : isKnown f ≡ false → (readOf f w room ≡ refused 1 0) × (judgeOf f w ≡ refused 1 0)
+  unknown k = (rw k, rw k)
+
+  pub no-window : isKnown f ≡ true → (length w ≡ symbolsIn (shapeOf f) → ⊥) → (readOf f w room ≡ refused 3 0) × (judgeOf f w ≡ refused 3 0)
+  no-window k x =
+      let n = ne-eqb (length w) (symbolsIn (shapeOf f)) x in (rw (k, n), rw (k, n))
+
+-- the place of test 20 is no further than the end
+pub place-most : (p : Shape) (w : List ℕ) → place20 p w ≤ length w
+unfolding place20
+place-most p w = go (firstBelow (length w) (λ i. not (holds20 p w i))) refl
+  where
+    go : (o : Option ℕ) → firstBelow (length w) (λ i. not (holds20 p w i)) ≡ o
+        → Option·getD (firstBelow (length w) (λ i. not (holds20 p w i))) (length w) ≤ length w
+    go none e = rw e (omega arith)
+    go (some k) e = rw e (omega (arith, hit (λ i. not (holds20 p w i)) (length w) k e .below))
+
+-- ---- the rows afterwards
+module _ {number place : ℕ} (f : Format) (w entry made : List ℕ) (e : readSpan f w ≡ refused number place) where
+  pub rows-zero : {l : List ℕ} (n : ℕ) → 20 ≤ number → n ≡ length entry → l ≡ replicate n 0 → l ≡ rowsLeft (readSpan f w) entry made
+  rows-zero n h q zero = zero ∙ rw (e, le-ltb number 20 h, q)
+
+-- ---- the values of a delivery
+module _ (p : Shape) (w : List ℕ) {h x1 x2 x3 x4 : ℕ} (half : h ≡ p .half) where
+  pub content-is : x1 ≡ byteOf (symbolAt w 2) → x2 ≡ byteOf (symbolAt w 3) → x3 ≡ byteOf (symbolAt w (5772 * h + 2)) → x4 ≡ byteOf (symbolAt w (5772 * h + 3))
+      → record { sav1 = x1; sav2 = x2; eav1 = x3; eav2 = x4 } ≡ contentIn p w
+  content-is e1 e2 e3 e4 =
+      let at : 5772 * h ≡ eavAt p = omega arith in rw (e1, e2, e3, e4, at)
+
+module _ (f : Format) (w : List ℕ) (is : IsWindow f w) (scanned : Scanned) (done : scanned ≡ scannedOf (shapeOf f) w)
+    (all : scanned .place ≡ length w) (line : StreamLine) (l : line .0 ≡ lineRead (streams (shapeOf f)) (wordAt (shapeOf f) w)) where
+  pub held-20 : place20 (shapeOf f) w ≡ length w
+  held-20 = sym (ap (λ (s : Scanned). s .place) done) ∙ all
+
+  pub delivery-is : record {
+    line = line;
+    content = contentIn (shapeOf f) w;
+    before = scanned .before;
+    after = scanned .after;
+    repairs = repairs (streams (shapeOf f)) (wordAt (shapeOf f) w);
+  } ≡ deliveryOf f w
+  unfolding deliveryOf
+  delivery-is =
+      let before : scanned .before ≡ startOf w = ap (λ (s : Scanned). s .before) done in
+      let after : scanned .after ≡ runningAt w (symbolsIn (shapeOf f)) =
+      ap (λ (s : Scanned). s .after) done ∙ ap (runningAt w) (held-20 ∙ is .long) in
+      rw (before, after, ← l)
+
+-- a call that is refused by a number below 20 leaves the rows as they were
+pub rows-kept : {number place : ℕ} (f : Format) (w entry : List ℕ) → readOf f w (length entry) ≡ refused number place → number < 20
+    → entry ≡ rowsRead f w entry
+rows-kept {number} {place} f w entry e h = rw (e, lt-ltb number 20 h)
+
+-- a call that is not, reads the window
+module _ (f : Format) (w : List ℕ) (is : IsWindow f w) (entry : List ℕ) (room : length entry ≡ samplesIn (shapeOf f)) where
+  pub rows-read : rowsLeft (readSpan f w) entry (pictureOf f w) ≡ rowsRead f w entry
+  rows-read = ap (λ (r : Answer Delivery). rowsLeft r entry (pictureOf f w)) (sym (read-is f w is (length entry) room))

@@ -1,0 +1,5 @@
+// Reading a span: the answer and the rows.
+pub mod answer;
+mod delivery;
+mod picture;
+pub mod read;

@@ -1,0 +1,46 @@
+// Tests 25 and 26. The lowest place is looked for only where there is one.
+use judge::service::Verdict;
+use line::stream::StreamLine;
+use span::format::Format;
+ghost use mathlib.Core.Path.{_≡_};
+ghost use Rattle.judge.specs.Verdict.{firstRow};
+ghost use Rattle.span.specs.Format.{shapeOf, streams};
+ghost use Rattle.window.specs.Read.{pictureOf};
+ghost use Rattle.window.specs.Tests.{lineRead};
+ghost use Rattle.window.specs.Words.{wordAt};
+ghost use Rattle.read.specs.Window.{IsWindow, pictureTests, rightPicture};
+
+// Whether the words of the picture may be those of samples: on a blanking line any may.
+fn picture_is_right(f: Format, line: StreamLine, rows: &[u16]) -> bool
+    ensures { λ r. ⌜ r ≡ rightPicture f (line .0) (now (rows .entry)) ⌝ }
+{
+    if line::stream::is_active(line) {
+        return rows::picture::all_allowed(span::format::depth_of(f), rows);
+    }
+    true
+}
+
+// The first of the two that does not hold.
+pub(crate) fn judge_picture(f: Format, symbols: &[u16], line: StreamLine, rows: &[u16]) -> Verdict
+    requires { ⌜ IsWindow f (now symbols) ⌝ }
+    requires { ⌜ line .0 ≡ lineRead (streams (shapeOf f)) (wordAt (shapeOf f) (now symbols)) ⌝ }
+    requires { ⌜ now rows ≡ pictureOf f (now symbols) ⌝ }
+    ensures { λ r. ⌜ r ≡ firstRow (pictureTests f (now (symbols .entry))) ⌝ }
+{
+    if picture_is_right(f, line, rows) {
+        if rows::fill::fill_is_right(f, symbols) {
+            return Verdict {
+                number: 0,
+                place: 0,
+            };
+        }
+        return Verdict {
+            number: 26,
+            place: judge::call::lowest_place(26, f, symbols),
+        };
+    }
+    Verdict {
+        number: 25,
+        place: judge::call::lowest_place(25, f, symbols),
+    }
+}

@@ -1,0 +1,93 @@
+// The two calls (document 01, "Receiving and finding").
+use crate::answer::Read;
+use judge::service::Verdict;
+use line::stream::StreamLine;
+use scan::scan::Scanned;
+use span::format::Format;
+ghost use mathlib.Core.Path.{_≡_};
+ghost use lib.ListN.{length};
+ghost use Rattle.judge.specs.Verdict.{firstRow};
+ghost use Rattle.scan.specs.Run.{scannedOf};
+ghost use Rattle.span.specs.Format.{shapeOf, streams, samplesIn};
+ghost use Rattle.window.specs.Read.{wordTests, pictureOf, readSpan, judgeOf, readOf, rowsLeft, rowsRead};
+ghost use Rattle.window.specs.Tests.{lineRead};
+ghost use Rattle.window.specs.Words.{wordAt};
+ghost use Rattle.read.specs.Call.{paperRead};
+ghost use Rattle.read.specs.Window.{IsWindow};
+
+// Tests 21 to 26 of a window, whose picture goes into rows.
+fn judge_words(f: Format, symbols: &[u16], line: StreamLine, rows: &mut [u16]) -> Verdict
+    requires { ⌜ IsWindow f (now symbols) ⌝ }
+    requires { ⌜ line .0 ≡ lineRead (streams (shapeOf f)) (wordAt (shapeOf f) (now symbols)) ⌝ }
+    requires { ⌜ length (now rows) ≡ samplesIn (shapeOf f) ⌝ }
+    ensures verdict { λ r. ⌜ r ≡ firstRow (wordTests f (wordAt (shapeOf f) (now (symbols .entry)))) ⌝ }
+    ensures rows { λ _. ⌜ now (rows .exit) ≡ pictureOf f (now (symbols .entry)) ⌝ }
+{
+    let c = rows::picture::take_picture(f, symbols, rows);
+    let service = judge::call::judge_service(f, symbols, c);
+    if service.number != 0 {
+        return service;
+    }
+    crate::picture::judge_picture(f, symbols, line, rows)
+}
+
+// A window for which test 20 holds: what it delivers, and its rows, which are zero where another test does not hold.
+fn read_words(f: Format, symbols: &[u16], scanned: Scanned, rows: &mut [u16]) -> Read
+    requires { ⌜ IsWindow f (now symbols) ⌝ }
+    requires { ⌜ length (now rows) ≡ samplesIn (shapeOf f) ⌝ }
+    requires { ⌜ scanned ≡ scannedOf (shapeOf f) (now symbols) ⌝ }
+    requires { ⌜ scanned .place ≡ length (now symbols) ⌝ }
+    ensures answer { λ r. ⌜ paperRead r ≡ readSpan f (now (symbols .entry)) ⌝ }
+    ensures rows { λ _. ⌜ now (rows .exit) ≡ rowsLeft (readSpan f (now (symbols .entry))) (now (rows .entry)) (pictureOf f (now (symbols .entry))) ⌝ }
+{
+    let line = judge::call::line_read(f, symbols);
+    let verdict = judge_words(f, symbols, line, rows);
+    if verdict.number != 0 {
+        ground::fill::fill(rows, 0);
+        return crate::answer::refusal(verdict.number, verdict.place);
+    }
+    Read::Delivered(crate::delivery::delivery(f, symbols, scanned, line))
+}
+
+// Reads exactly one span, into s x 1920 words stream by stream.
+pub fn read(f: Format, symbols: &[u16], rows: &mut [u16]) -> Read
+    ensures answer { λ r. ⌜ paperRead r ≡ readOf f (now (symbols .entry)) (length (now (rows .entry))) ⌝ }
+    ensures rows { λ _. ⌜ now (rows .exit) ≡ rowsRead f (now (symbols .entry)) (now (rows .entry)) ⌝ }
+{
+    if span::format::is_known(f) {
+        let lengths = span::length::span_lengths(f);
+        if symbols.len() != lengths.symbols {
+            return Read::WrongInput;
+        }
+        if rows.len() != lengths.samples {
+            return Read::WrongOutput;
+        }
+        let scanned = scan::scan::scan(f, symbols);
+        if scanned.place < symbols.len() {
+            ground::fill::fill(rows, 0);
+            return Read::WrongSymbol(scanned.place);
+        }
+        return read_words(f, symbols, scanned, rows);
+    }
+    Read::UnknownFormat
+}
+
+// Judges exactly one span: what reading it would answer. The picture goes into rows of its own, and those only where test 20 holds.
+pub fn judge(f: Format, symbols: &[u16]) -> Read
+    ensures { λ r. ⌜ paperRead r ≡ judgeOf f (now (symbols .entry)) ⌝ }
+{
+    if span::format::is_known(f) {
+        let lengths = span::length::span_lengths(f);
+        if symbols.len() != lengths.symbols {
+            return Read::WrongInput;
+        }
+        let scanned = scan::scan::scan(f, symbols);
+        if scanned.place < symbols.len() {
+            return Read::WrongSymbol(scanned.place);
+        }
+        let mut rows = [0u16; 7680];
+        let n = lengths.samples;
+        return read_words(f, symbols, scanned, &mut rows[..n]);
+    }
+    Read::UnknownFormat
+}

@@ -1,0 +1,30 @@
+-- What loops over a window are given: the decoding table, a known shape and a window of its length; and when a call has that to give.
+-- Assumes nothing.
+use Prim.Native.Nat.{ℕ, _+_, _≤_}
+use mathlib.Core.Bool.{Bool, _&&_}
+use lib.Dec.{eqb}
+use mathlib.Core.Path.{_≡_}
+use mathlib.Core.List.{List}
+use lib.ListN.{length}
+use Rattle.decoder.specs.Decoder.{decodingTable}
+use Rattle.span.specs.declared.format.Format.{Format}
+use Rattle.span.specs.declared.format.Shape.{Shape}
+use Rattle.span.specs.Format.{isKnown, shapeOf, samplesIn, symbolsIn, Small}
+use Rattle.word.specs.declared.bytes.TwoWords.{TwoWords}
+use Rattle.word.specs.Bytes.{wordsOf}
+use Rattle.window.specs.Scan.{symbolAt, byteOf}
+
+pub record Given (p : Shape) (t w : List ℕ) : Type 0 where
+  pub table : t ≡ decodingTable
+  pub half : 1 ≤ p .half
+  pub small : Small p
+  pub long : length w ≡ symbolsIn p
+
+-- the two words of three symbols from o on, none of them replaced
+unfoldable pub plainPair : List ℕ → ℕ → TwoWords
+plainPair w o =
+    wordsOf (record { first = byteOf (symbolAt w o); second = byteOf (symbolAt w (o + 1)); third = byteOf (symbolAt w (o + 2)) })
+
+-- a known format with so many symbols and so many words of rows
+abbrev pub ready : Format → ℕ → ℕ → Bool
+ready f symbols rows = isKnown f && (eqb symbols (symbolsIn (shapeOf f)) && eqb rows (samplesIn (shapeOf f)))

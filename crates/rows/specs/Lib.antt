@@ -1,0 +1,3 @@
+pub mod Fill
+pub mod Given
+pub mod Picture

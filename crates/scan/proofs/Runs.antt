@@ -1,0 +1,105 @@
+-- A run of symbols through the table, and the four runs of a window.
+-- Assumes nothing.
+use mathlib.Core.Path.{_≡_, refl, sym, ap, ap₂, _∙_}
+use mathlib.Core.Bool.{Bool, true, false, not, _&&_}
+use mathlib.Core.List.{List, [], _∷_}
+use Prim.Native.Nat.{ℕ, _+_, _-_, _≤_, _<_}
+use native.Mathlib.Nat.{eq-or-lt-of-le}
+use native.Mathlib.Numerals.{add-one}
+use native.Mathlib.Omega.{arith}
+use mathlib.Core.Logic.{_⊎_, inl, inr, ⊎-elim}
+use lib.ListN.{length}
+use borrow.Author.Tests.{le-ltb, ne-eqb}
+use Rattle.ground.specs.Range.{within}
+use Rattle.ground.specs.Search.{isSome}
+use Rattle.ground.proofs.Searches.{is-hit-from, is-miss-from}
+use Rattle.ground.proofs.Tests.{both-left}
+use Rattle.symbol.specs.declared.disparity.Disparity.the-variants.{Negative, Positive}
+use Rattle.symbol.specs.Code.{symbolOf, charOf}
+use Rattle.decoder.specs.Decoder.{decodingTable, entryOf, entryIn, maskOf, afterBy}
+use Rattle.decoder.proofs.Masks.{legal-mask, after-mask}
+use Rattle.decoder.proofs.Reading.{legal-is, entry-in}
+use Rattle.window.specs.Scan.{meant, symbolAt, startOf, runningAt}
+use Rattle.window.proofs.Symbols.{meant-entry, some-meant, running-on}
+use Rattle.scan.specs.declared.scan.Run.{Run}
+use Rattle.scan.specs.Run.{suitsBy, suits, stop, ranOn}
+
+module _ (w : List ℕ) (low high : ℕ) where
+  -- what the table says of a symbol is so
+  suits-is : (i : ℕ) → suitsBy low high (maskOf (runningAt w i)) (entryOf (symbolAt w i)) ≡ suits w low high i
+  unfolding suits
+  suits-is i =
+      ap₂ _&&_ (legal-mask (runningAt w i) (entryOf (symbolAt w i)) ∙ legal-is (runningAt w i) (symbolAt w i))
+      (ap (within low high) (sym (meant-entry (symbolAt w i))))
+
+  -- the bit after a symbol that suits is that of the disparity before the next
+  after-suits : (i : ℕ) → suits w low high i ≡ true → afterBy (maskOf (runningAt w i)) (entryOf (symbolAt w i)) ≡ maskOf (runningAt w (i + 1))
+  unfolding suits
+  after-suits i t =
+      let d = runningAt w i in
+      let s = symbolAt w i in
+      let legal = some-meant d s (both-left (isSome (charOf d s)) (within low high (meant s)) t) in
+      after-mask d s (meant s) legal ∙ ap maskOf (sym (running-on w i)) ∙ ap (λ (k : ℕ). maskOf (runningAt w k)) (sym (add-one i))
+
+  -- a run that has come from one place to i
+  pub record Going (from i mask : ℕ) : Type 0 where
+    pub come : from ≤ i
+    pub bit : mask ≡ maskOf (runningAt w i)
+    pub suited : (j : ℕ) → from ≤ j → j < i → suits w low high j ≡ true
+
+  pub begin : (from mask : ℕ) → mask ≡ maskOf (runningAt w from) → Going from from mask
+  begin from mask e = record { come = omega arith; bit = e; suited = λ j h l. absurd (omega arith) }
+
+  module _ {from i mask e : ℕ} (g : Going from i mask) (is : e ≡ entryIn decodingTable (symbolAt w i)) where
+    asked : suitsBy low high mask e ≡ suits w low high i
+    asked = rw (is, entry-in (symbolAt w i), g .bit) (suits-is i)
+
+    pub turn : suitsBy low high mask e ≡ true → Going from (i + 1) (afterBy mask e)
+    turn t =
+        let here : suits w low high i ≡ true = sym asked ∙ t in
+        record {
+          come = omega (arith, g .come);
+          bit = rw (is, entry-in (symbolAt w i), g .bit) (after-suits i here);
+          suited = λ j h l. ⊎-elim (λ q. rw q at here) (λ q. g .suited j h q) (sooner j l);
+        }
+      where
+        sooner : (j : ℕ) → j < i + 1 → (i ≡ j) ⊎ (j < i)
+        sooner j l = ⊎-elim (λ q. inl (sym q)) (λ q. inr q) (eq-or-lt-of-le (let b : j ≤ i = omega arith in b))
+
+    -- it stops at the first symbol that does not suit
+    pub stops : (to : ℕ) → i < to → suitsBy low high mask e ≡ false → stop w low high from to ≡ i
+    unfolding stop
+    stops to h t =
+        let test : ℕ → Bool = λ (k : ℕ). not (suits w low high k) in
+        let end : from + (to - from) ≡ to = omega (arith, g .come) in
+        rw (is-hit-from test (to - from) from i
+        (rw end (record { from = g .come; below = h; holds = ap not (sym asked ∙ t); least = λ j p q. ap not (g .suited j p q) })))
+
+  -- or comes to the end
+  pub ends : {from to mask : ℕ} → Going from to mask → stop w low high from to ≡ to
+  unfolding stop
+  ends {from} {to} {mask} g =
+      let test : ℕ → Bool = λ (k : ℕ). not (suits w low high k) in
+      let end : from + (to - from) ≡ to = omega (arith, g .come) in
+      rw (is-miss-from test (to - from) from (rw end (record { never = λ j p q. ap not (g .suited j p q) })))
+
+  -- what a run answers where the one before it came to its end
+  pub ran : {place mask : ℕ} (from to : ℕ) (r : Run) → from ≤ r .place → mask ≡ maskOf (runningAt w place) → stop w low high from to ≡ place
+      → record { place = place; mask = mask } ≡ ranOn w low high from to r
+  ran {place} {mask} from to r h m e =
+      rw (le-ltb (r .place) from h, e, m)
+
+-- where there is no symbol, 0 is read
+pub no-symbol : (w : List ℕ) → length w ≤ 0 → symbolAt w 0 ≡ 0
+no-symbol [] h = refl
+no-symbol (s ∷ w) h = absurd (omega arith)
+
+-- the disparity at which symbol 0 is K28.5
+module _ (w : List ℕ) where
+  pub starts-negative : symbolAt w 0 ≡ 0x17C → startOf w ≡ Negative
+  unfolding startOf symbolOf
+  starts-negative e = rw e
+
+  pub starts-positive : (symbolAt w 0 ≡ 0x17C → ⊥) → startOf w ≡ Positive
+  unfolding startOf symbolOf
+  starts-positive x = rw (ne-eqb (symbolAt w 0) 0x17C x)

@@ -1,0 +1,43 @@
+-- What the scan's loop and its call answer. That the runs together are test 20 over the whole window is the law `scanned-is`.
+-- Assumes nothing.
+use Prim.Native.Nat.{ℕ, _-_, _%_}
+use mathlib.Core.Bool.{Bool, not, cond, _&&_}
+use mathlib.Core.List.{List}
+use mathlib.Core.Option.{Option·getD}
+use lib.Dec.{ltb}
+use lib.ListN.{length}
+use Rattle.ground.specs.Range.{within}
+use Rattle.ground.specs.Search.{firstFrom, firstBelow, isSome}
+use Rattle.symbol.specs.Code.{charOf}
+use Rattle.decoder.specs.Decoder.{legalBy, maskOf}
+use Rattle.span.specs.declared.format.Shape.{Shape}
+use Rattle.window.specs.Scan.{meant, symbolAt, startOf, runningAt, holds20}
+use Rattle.scan.specs.declared.scan.Run.{Run}
+use Rattle.scan.specs.declared.scan.Scanned.{Scanned}
+
+-- an entry that is legal at the disparity of a bit, with a character whose number is from low to high
+abbrev pub suitsBy : ℕ → ℕ → ℕ → ℕ → Bool
+suitsBy low high mask e = legalBy mask e && within low high (e % 512)
+
+-- symbol i is legal at the running disparity, with such a character
+unfoldable pub suits : List ℕ → ℕ → ℕ → ℕ → Bool
+suits w low high i = isSome (charOf (runningAt w i) (symbolAt w i)) && within low high (meant (symbolAt w i))
+
+-- the first symbol from one place to another at which that is not so; the end where there is none
+unfoldable pub stop : List ℕ → ℕ → ℕ → ℕ → ℕ → ℕ
+stop w low high from to = Option·getD (firstFrom from (to - from) (λ i. not (suits w low high i))) to
+
+-- a run that has come to a place
+abbrev pub runTo : List ℕ → ℕ → Run
+runTo w place = record { place = place; mask = maskOf (runningAt w place) }
+
+-- a run goes on where the one before it came to its end
+abbrev pub ranOn : List ℕ → ℕ → ℕ → ℕ → ℕ → Run → Run
+ranOn w low high from to r = cond (ltb (r .place) from) r (runTo w (stop w low high from to))
+
+-- the scan: the lowest symbol at which test 20 does not hold, or the number of symbols, and the disparities before the window and there
+unfoldable pub place20 : Shape → List ℕ → ℕ
+place20 p w = Option·getD (firstBelow (length w) (λ i. not (holds20 p w i))) (length w)
+
+abbrev pub scannedOf : Shape → List ℕ → Scanned
+scannedOf p w = record { place = place20 p w; before = startOf w; after = runningAt w (place20 p w) }

@@ -1,0 +1,2 @@
+// Test 20 over a window of symbols.
+pub mod scan;

@@ -1,0 +1,2 @@
+// One timing word as received (document 01, "Words of a stream").
+pub mod timing;

@@ -1,0 +1,131 @@
+-- Which calls are judged and read, which number each other call meets, and what stands in the rows afterwards, in document 01's own
+-- numbers.
+-- Assumes nothing.
+use mathlib.Core.Path.{_≡_, refl, sym, ap, _∙_}
+use mathlib.Core.Bool.{true, false}
+use mathlib.Core.List.{List}
+use mathlib.Core.Logic.{_⊎_, inl, inr, ⊎-elim}
+use Prim.Native.Nat.{ℕ, zero, suc, _≤_}
+use native.Mathlib.Omega.{arith}
+use lib.Dec.{eqb}
+use lib.ListN.{length, replicate}
+use borrow.Author.Tests.{eq-eqb, ne-eqb, le-ltb}
+use Rattle.ground.specs.Answer.{Answer, refused, given}
+use Rattle.span.specs.declared.format.Format.{Format}
+use Rattle.span.specs.Format.{numbered, shapeOf, samplesIn, symbolsIn}
+use Rattle.span.proofs.Formats.{Known, is-known, unknown}
+use Rattle.window.specs.declared.delivery.Delivery.{Delivery}
+use Rattle.window.specs.Read.{pictureOf, readSpan, judgeOf, readOf, rowsLeft, rowsRead}
+use Rattle.window.proofs.Refusals.{numbers}
+
+-- format 1, 2 or 3, and its number of three
+abbrev pub Of : ℕ → ℕ → ℕ → ℕ → ℕ → Type 0
+Of a b c number x = ((number ≡ 1) × (x ≡ a)) ⊎ (((number ≡ 2) × (x ≡ b)) ⊎ ((number ≡ 3) × (x ≡ c)))
+
+-- the symbols of a span, and the words of its rows
+abbrev pub Symbols : ℕ → ℕ → Type 0
+Symbols = Of 7920 9504 19008
+
+abbrev pub Room : ℕ → ℕ → Type 0
+Room = Of 3840 3840 7680
+
+-- ---- the table of formats, in those numbers
+
+module _ (g : ℕ → ℕ) where
+  is-of : (n x : ℕ) → Of (g 1) (g 2) (g 3) n x → x ≡ g n
+  is-of n x =
+      ⊎-elim (λ t. t .1 ∙ ap g (sym (t .0))) (⊎-elim (λ t. t .1 ∙ ap g (sym (t .0))) (λ t. t .1 ∙ ap g (sym (t .0))))
+
+  of-is : (n x : ℕ) → 1 ≤ n → n ≤ 3 → x ≡ g n → Of (g 1) (g 2) (g 3) n x
+  of-is zero x p q e = absurd (omega arith)
+  of-is (suc zero) x p q e = inl (refl, e)
+  of-is (suc (suc zero)) x p q e = inr (inl (refl, e))
+  of-is (suc (suc (suc zero))) x p q e = inr (inr (refl, e))
+  of-is (suc (suc (suc (suc n)))) x p q e = absurd (omega arith)
+
+module _ (f : Format) (x : ℕ) where
+  is-long : Symbols (f .number) x → eqb x (symbolsIn (shapeOf f)) ≡ true
+  unfolding shapeOf
+  is-long h = eq-eqb x (symbolsIn (shapeOf f)) (is-of (λ n. symbolsIn (numbered n)) (f .number) x h)
+
+  is-room : Room (f .number) x → eqb x (samplesIn (shapeOf f)) ≡ true
+  unfolding shapeOf
+  is-room h = eq-eqb x (samplesIn (shapeOf f)) (is-of (λ n. samplesIn (numbered n)) (f .number) x h)
+
+  module _ (known : Known f) where
+    not-long : (Symbols (f .number) x → ⊥) → eqb x (symbolsIn (shapeOf f)) ≡ false
+    unfolding shapeOf
+    not-long h =
+        ne-eqb x (symbolsIn (shapeOf f))
+        (λ e. h (of-is (λ n. symbolsIn (numbered n)) (f .number) x (known .from) (known .to) e))
+
+    not-room : (Room (f .number) x → ⊥) → eqb x (samplesIn (shapeOf f)) ≡ false
+    unfolding shapeOf
+    not-room h =
+        ne-eqb x (samplesIn (shapeOf f))
+        (λ e. h (of-is (λ n. samplesIn (numbered n)) (f .number) x (known .from) (known .to) e))
+
+-- ---- the answers
+
+module _ (f : Format) (w : List ℕ) where
+  -- judging
+  pub judge-meets-1 : (Known f → ⊥) → judgeOf f w ≡ refused 1 0
+  judge-meets-1 x = simp (unknown f x)
+
+  module _ (known : Known f) where
+    pub judge-meets-3 : (Symbols (f .number) (length w) → ⊥) → judgeOf f w ≡ refused 3 0
+    judge-meets-3 x = simp (is-known f known, not-long f (length w) known x)
+
+    pub judged : Symbols (f .number) (length w) → judgeOf f w ≡ readSpan f w
+    unfolding readSpan
+    judged x = simp (is-known f known, is-long f (length w) x)
+
+  -- reading, into rows that have so much room
+  module _ (room : ℕ) where
+    pub read-meets-1 : (Known f → ⊥) → readOf f w room ≡ refused 1 0
+    read-meets-1 x = simp (unknown f x)
+
+    module _ (known : Known f) where
+      pub read-meets-3 : (Symbols (f .number) (length w) → ⊥) → readOf f w room ≡ refused 3 0
+      read-meets-3 x = simp (is-known f known, not-long f (length w) known x)
+
+      module _ (long : Symbols (f .number) (length w)) where
+        pub read-meets-4 : (Room (f .number) room → ⊥) → readOf f w room ≡ refused 4 0
+        read-meets-4 x = simp (is-known f known, is-long f (length w) long, not-room f room known x)
+
+        pub read : Room (f .number) room → readOf f w room ≡ readSpan f w
+        unfolding readSpan
+        read x = simp (is-known f known, is-long f (length w) long, is-room f room x)
+
+    -- into rows of the right length it is read as it is judged
+    pub read-as-judged : Room (f .number) room → readOf f w room ≡ judgeOf f w
+    read-as-judged x = simp (is-room f room x)
+
+-- ---- the rows
+
+module _ (f : Format) (w entry : List ℕ) where
+  left : (r : Answer Delivery) → readOf f w (length entry) ≡ r → rowsRead f w entry ≡ rowsLeft r entry (pictureOf f w)
+  left r e = ap (λ (x : Answer Delivery). rowsLeft x entry (pictureOf f w)) e
+
+  -- a call that meets 1, 3 or 4 leaves them as they were
+  pub rows-after-1 : (Known f → ⊥) → rowsRead f w entry ≡ entry
+  rows-after-1 x = left (refused 1 0) (read-meets-1 f w (length entry) x)
+
+  module _ (known : Known f) where
+    pub rows-after-3 : (Symbols (f .number) (length w) → ⊥) → rowsRead f w entry ≡ entry
+    rows-after-3 x = left (refused 3 0) (read-meets-3 f w (length entry) known x)
+
+    module _ (long : Symbols (f .number) (length w)) where
+      pub rows-after-4 : (Room (f .number) (length entry) → ⊥) → rowsRead f w entry ≡ entry
+      rows-after-4 x = left (refused 4 0) (read-meets-4 f w (length entry) known long x)
+
+      module _ (room : Room (f .number) (length entry)) where
+        -- one that meets 20 to 26 leaves nothing in them
+        pub rows-after-refusal : {number place : ℕ} → readSpan f w ≡ refused number place → rowsRead f w entry ≡ replicate (length entry) 0
+        rows-after-refusal {number} {place} e =
+            let from : 20 ≤ number = numbers f w number place e .0 in
+            left (refused number place) (read f w (length entry) known long room ∙ e) ∙ simp (le-ltb number 20 from)
+
+        -- and a span that is delivered its picture
+        pub rows-delivered : {r : Delivery} → readSpan f w ≡ given r → rowsRead f w entry ≡ pictureOf f w
+        rows-delivered {r} e = left (given r) (read f w (length entry) known long room ∙ e)

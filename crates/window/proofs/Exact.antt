@@ -1,0 +1,156 @@
+-- A window is read if and only if it is the encoding of words that meet the tests, and then it is the encoding of the words and content
+-- bytes read from it, and of nothing else.
+-- Assumes nothing.
+use mathlib.Core.Path.{_≡_, sym, _∙_}
+use mathlib.Core.Bool.{true}
+use mathlib.Core.List.{List}
+use Prim.Native.Nat.{ℕ, _+_, _*_, _≤_, _<_}
+use native.Mathlib.Omega.{arith}
+use lib.ListN.{length, getD}
+use lib.Seq.{ext-getD}
+use Rattle.ground.specs.Answer.{given}
+use Rattle.ground.specs.Written.{table}
+use Rattle.ground.proofs.Writing.{length-table, getD-table}
+use Rattle.symbol.specs.declared.disparity.Disparity.{Disparity}
+use Rattle.symbol.specs.declared.special.Special.the-variants.{«K28_5», «K29_7»}
+use Rattle.span.specs.declared.content.ContentBytes.{ContentBytes}
+use Rattle.span.specs.declared.format.Format.{Format}
+use Rattle.span.specs.declared.format.Shape.{Shape}
+use Rattle.span.specs.Encoding.{symbolsFrom}
+use Rattle.span.specs.Format.{isKnown, shapeOf, pairsIn, symbolsIn, eavAt}
+use Rattle.span.proofs.Encoding.{length-symbols, symbol-at}
+use Rattle.span.proofs.Lengths.{known-has-streams}
+use Rattle.window.specs.declared.delivery.Delivery.{Delivery}
+use Rattle.window.specs.Encoded.{charsOf, Encodes, wordIn, Meets, Restored}
+use Rattle.window.specs.Read.{contentIn, deliveryOf, readSpan}
+use Rattle.window.specs.Scan.{meant, byteOf, symbolAt, startOf}
+use Rattle.window.specs.Words.{wordAt}
+use Rattle.window.proofs.Accepting.{Accepted, is-accepted, accepted-told}
+use Rattle.window.proofs.Bytes.{byte-sav, byte-eav, byte-else, word-below, byte-again}
+use Rattle.window.proofs.Characters.{replacing, length-chars, char-sav, char-eav, char-byte}
+use Rattle.window.proofs.Encoded.{encoded-word, meets-accepted}
+use Rattle.window.proofs.Placing.{four, each-place}
+use Rattle.window.proofs.Specials.{symbol-read, k28-5-read, k29-7-read, byte-read}
+use Rattle.window.proofs.Symbols.{running-chars}
+
+module _ (f : Format) (w : List ℕ) (known : isKnown f ≡ true) (long : length w ≡ symbolsIn (shapeOf f)) (acc : Accepted f w) where
+  abbrev p : Shape
+  p = shapeOf f
+
+  -- all words of the window, and the characters of these words and of its content bytes
+  abbrev words : List ℕ
+  words = table (2 * pairsIn p) (wordAt p w)
+
+  abbrev c : ContentBytes
+  c = contentIn p w
+
+  abbrev chars : List ℕ
+  chars = charsOf p c words
+
+  some-streams : 1 ≤ p .half
+  some-streams = known-has-streams f known
+
+  length-words : length words ≡ 2 * pairsIn p
+  length-words = length-table (2 * pairsIn p) (wordAt p w)
+
+  all-chars : length chars ≡ symbolsIn p
+  all-chars = length-chars p some-streams c words length-words
+
+  -- ---- the characters are those that the symbols stand for
+
+  -- where a byte stands, the symbol stands for one
+  is-byte : (i : ℕ) → i < symbolsIn p → 2 ≤ i → (eavAt p ≤ i → eavAt p + 2 ≤ i) → meant (symbolAt w i) ≡ byteOf (symbolAt w i)
+  is-byte i h past q = omega (arith, byte-read f w known acc i h past q)
+
+  -- in place of the first four bytes of SAV and EAV
+  in-sav : (i : ℕ) → i < 4 → meant (symbolAt w i) ≡ getD (replacing «K28_5» (c .sav1) (c .sav2)) i 0
+  in-sav =
+      four (λ i. meant (symbolAt w i) ≡ getD (replacing «K28_5» (c .sav1) (c .sav2)) i 0)
+      (k28-5-read f w known acc 0 (omega arith))
+      (k28-5-read f w known acc 1 (omega arith))
+      (is-byte 2 (omega (arith, some-streams)) (omega arith) (λ l. omega (arith, some-streams)))
+      (is-byte 3 (omega (arith, some-streams)) (omega arith) (λ l. omega (arith, some-streams)))
+
+  in-eav : (i : ℕ) → i < 4 → meant (symbolAt w (eavAt p + i)) ≡ getD (replacing «K29_7» (c .eav1) (c .eav2)) i 0
+  in-eav =
+      four (λ i. meant (symbolAt w (eavAt p + i)) ≡ getD (replacing «K29_7» (c .eav1) (c .eav2)) i 0)
+      (k29-7-read f w known acc (eavAt p + 0) (omega arith) (omega arith))
+      (k29-7-read f w known acc (eavAt p + 1) (omega arith) (omega arith))
+      (is-byte (eavAt p + 2) (omega (arith, some-streams)) (omega arith) (λ l. omega arith))
+      (is-byte (eavAt p + 3) (omega (arith, some-streams)) (omega arith) (λ l. omega arith))
+
+  char-is : (i : ℕ) → i < symbolsIn p → meant (symbolAt w i) ≡ getD chars i 0
+  char-is =
+      each-place (eavAt p)
+      (λ i l h. in-sav i l ∙ sym (char-sav p some-streams c words length-words i l))
+      (λ i l h. in-eav i l ∙ sym (char-eav p some-streams c words length-words i l))
+      (λ i past q h.
+      is-byte i h (omega arith) (λ l. omega (arith, q l))
+      ∙ sym (byte-else p w i past q)
+      ∙ sym (byte-again p w i h)
+      ∙ sym (char-byte p some-streams c words length-words i past q))
+
+  each-char : (i : ℕ) → i < length chars → meant (symbolAt w i) ≡ getD chars i 0
+  each-char i l = char-is i (rw all-chars at l)
+
+  -- ---- so the window is the encoding of its words and content bytes
+
+  pub encoded-again :
+      w
+      ≡ symbolsFrom (startOf w)
+      (charsOf (shapeOf f) (contentIn (shapeOf f) w) (table (2 * pairsIn (shapeOf f)) (wordAt (shapeOf f) w)))
+  encoded-again =
+      ext-getD 0 w (symbolsFrom (startOf w) chars) (long ∙ sym all-chars ∙ sym (length-symbols (startOf w) chars))
+      (λ i h.
+      let l : i < length chars = omega (arith, long, all-chars) in
+      symbol-read f w acc i (rw long at h)
+      ∙ rw (running-chars w chars each-char i (omega arith), each-char i l) (sym (symbol-at (startOf w) chars i l)))
+
+  -- word k of the list is word k of the window
+  word-again : (k : ℕ) → k < 2 * pairsIn p → wordIn words k ≡ wordAt p w k
+  word-again k h = getD-table (2 * pairsIn p) (wordAt p w) k 0 h
+
+  -- all of it: content bytes that are bytes, as many words as there are, of twelve bits
+  pub accepted-encodes :
+      Encodes f w (startOf w) (contentIn (shapeOf f) w) (table (2 * pairsIn (shapeOf f)) (wordAt (shapeOf f) w))
+  accepted-encodes =
+      record {
+        symbols = encoded-again;
+        content = record { sav1 = omega arith; sav2 = omega arith; eav1 = omega arith; eav2 = omega arith };
+        long = length-words;
+        small = λ k h. rw (word-again k (omega (arith, length-words))) (word-below p w k);
+      }
+
+  -- the replaced bytes of its words are the fixed ones, as they were taken to be
+  restored : Restored p words
+  restored =
+      record {
+        sav = λ i h. byte-again p w i (omega (arith, some-streams)) ∙ byte-sav p w i h;
+        eav = λ i h. byte-again p w (eavAt p + i) (omega (arith, some-streams)) ∙ byte-eav p w some-streams i h;
+      }
+
+  -- so the list has the words that are read, at every place, also behind the window
+  pub words-again : wordIn (table (2 * pairsIn (shapeOf f)) (wordAt (shapeOf f) w)) ≡ wordAt (shapeOf f) w
+  words-again = sym (encoded-word f known w (startOf w) c words accepted-encodes restored)
+
+  -- and meets the tests that they meet
+  pub accepted-meets : Meets f (wordIn (table (2 * pairsIn (shapeOf f)) (wordAt (shapeOf f) w)))
+  accepted-meets = rw words-again (acc .words)
+
+-- ---- exactly the encodings of words that meet the tests are read
+
+module _ (f : Format) (w : List ℕ) (known : isKnown f ≡ true) where
+  pub exact-if : {d : Disparity} {c : ContentBytes} {words : List ℕ} → Encodes f w d c words → Meets f (wordIn words)
+      → (r : Delivery) × (readSpan f w ≡ given r)
+  exact-if {d} {c} {words} e m = (deliveryOf f w, is-accepted f w (meets-accepted f known w d c words e m))
+
+  pub exact-only-if : {r : Delivery} → length w ≡ symbolsIn (shapeOf f) → readSpan f w ≡ given r
+      → (d : Disparity) × (c : ContentBytes) × (words : List ℕ) × Encodes f w d c words × Meets f (wordIn words)
+  exact-only-if {r} long e =
+      let acc = accepted-told f w r e in (
+        startOf w,
+        contentIn (shapeOf f) w,
+        table (2 * pairsIn (shapeOf f)) (wordAt (shapeOf f) w),
+        accepted-encodes f w known long acc,
+        accepted-meets f w known long acc,
+      )

@@ -1,0 +1,81 @@
+-- An XYZ word as it is received: with at most one wrong bit it is taken for the word that was sent, and with two for none.
+-- Assumes nothing.
+use mathlib.Core.Path.{_≡_, refl, sym, ap, ap₂, _∙_}
+use mathlib.Core.Bool.{Bool, true, false, true≢false}
+use mathlib.Core.Option.{Option, none, some, Option·getD}
+use Prim.Native.Nat.{ℕ, _+_, _*_, _/_, _%_, _≤_, _<_}
+use native.Mathlib.Omega.{arith}
+use lib.Dec.{eqb}
+use borrow.Author.Tests.{eqb-true, not-true}
+use Rattle.word.specs.Repair.{distance, legalWord, nearest}
+use Rattle.word.specs.Timing.{bit, timing}
+use Rattle.word.proofs.Repairs.{same-word, nearest-is, nearest-none}
+use Rattle.word.proofs.Timings.{timing-below}
+use Rattle.window.specs.Tests.{hasH, repaired, vIn, wrongBits, same}
+
+-- two tests that agree
+pub same-test : (a b : Bool) → a ≡ b → same a b ≡ true
+same-test true b e = sym e
+same-test false b e = rw (← e)
+
+same-told : (a b : Bool) → same a b ≡ true → a ≡ b
+same-told true b t = sym t
+same-told false b t = sym (not-true b t)
+
+-- ---- V and H, as they are sent
+
+-- as one number, by which the legal words are counted
+abbrev vh : Bool → Bool → ℕ
+vh v h = bit v * 2 + bit h
+
+-- and told again
+record Told (v h : Bool) : Type 0 where
+  below : vh v h < 4
+  v-again : eqb (vh v h / 2) 1 ≡ v
+  h-again : eqb (vh v h % 2) (bit h) ≡ true
+  legal : legalWord (vh v h) ≡ timing v h
+
+told : (v h : Bool) → Told v h
+told false false = record { below = omega arith; v-again = refl; h-again = refl; legal = refl }
+told false true = record { below = omega arith; v-again = refl; h-again = refl; legal = refl }
+told true false = record { below = omega arith; v-again = refl; h-again = refl; legal = refl }
+told true true = record { below = omega arith; v-again = refl; h-again = refl; legal = refl }
+
+module _ (w : ℕ) (v h : Bool) where
+  -- at most one wrong bit: the word sent is the one that is near
+  module _ (d : distance w (timing v h) ≤ 1) where
+    found : nearest w ≡ some (vh v h)
+    found = nearest-is w (vh v h) (told v h .below) (rw (told v h .legal) d)
+
+    -- so H and V are those sent, the repaired word too, and the wrong bits are counted
+    pub near-h : hasH h (nearest w) ≡ true
+    near-h = rw found (told v h .h-again)
+
+    pub near-v : vIn w ≡ v
+    near-v = rw found (told v h .v-again)
+
+    pub near-repaired : repaired w ≡ timing v h
+    near-repaired = rw found (told v h .legal)
+
+    pub near-wrong : wrongBits w ≡ distance w (timing v h)
+    near-wrong = ap (distance w) near-repaired
+
+  -- two wrong bits: none is
+  pub none-near : distance w (timing v h) ≡ 2 → nearest w ≡ none
+  none-near d = nearest-none w (vh v h) (told v h .below) (rw (told v h .legal) d)
+
+-- ---- V and H, as they are read
+
+h-read : (h : Bool) (o : Option ℕ) → hasH h o ≡ true → eqb (Option·getD o 0 % 2) 1 ≡ h
+h-read h none t = absurd (true≢false (sym t))
+h-read true (some vh) t = t
+h-read false (some vh) t = rw (eqb-true (vh % 2) 0 t)
+
+module _ (w : ℕ) (v h : Bool) (is-h : hasH h (nearest w) ≡ true) (is-v : same (vIn w) v ≡ true) where
+  -- as repaired, it is the word of its V and H
+  pub repaired-is : repaired w ≡ timing v h
+  repaired-is = ap₂ timing (same-told (vIn w) v is-v) (h-read h (nearest w) is-h)
+
+  -- and so it is as it stands, where no bit of it is wrong
+  pub whole-timing : w < 4096 → wrongBits w ≡ 0 → w ≡ timing v h
+  whole-timing small e = same-word w (repaired w) small (timing-below _ _) e ∙ repaired-is

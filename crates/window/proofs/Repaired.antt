@@ -1,0 +1,309 @@
+-- Words of a span that is sent, apart from its XYZ: with at most one wrong bit in each of these they meet tests 21 to 26, name the line and
+-- bring the picture.
+-- Assumes nothing.
+use mathlib.Core.Path.{_≡_, refl, sym, ap, ap₂, _∙_}
+use mathlib.Core.Bool.{true, false}
+use mathlib.Core.List.{List}
+use mathlib.Core.Logic.{inl, inr}
+use mathlib.Core.Option.{some}
+use Prim.Native.Nat.{ℕ, zero, suc, _+_, _-_, _*_, _/_, _≤_, _<_}
+use native.Mathlib.Nat.{mul-le-mul-left}
+use native.Mathlib.Omega.{arith}
+use lib.Dec.{eqb, ltb}
+use lib.ListN.{getD}
+use borrow.Author.Tests.{le-ltb, ltb-false, eq-eqb, ne-eqb, eqb-true, eqb-false}
+use Rattle.ground.specs.Range.{within}
+use Rattle.ground.specs.Written.{upto}
+use Rattle.ground.proofs.Cases.{on-test}
+use Rattle.ground.proofs.Ranges.{from-low, to-high, not-within}
+use Rattle.ground.proofs.Writing.{upto-same}
+use Rattle.line.specs.Stream.{vOf, lineAfter}
+use Rattle.line.proofs.Lines.{after-is-line, before-after}
+use Rattle.word.specs.Crcc.{crccWords}
+use Rattle.word.specs.LineNumber.{ln0, ln1, lineOf}
+use Rattle.word.specs.Repair.{distance}
+use Rattle.word.specs.Timing.{timing}
+use Rattle.word.proofs.LineNumbers.{line-again}
+use Rattle.span.specs.declared.format.Format.{Format}
+use Rattle.span.specs.Format.{shapeOf, streams, pairsIn}
+use Rattle.span.specs.Sample.{sampleWord}
+use Rattle.span.specs.Span.{spanWords, fillWord}
+use Rattle.span.specs.Stream.{Asked, picture, register}
+use Rattle.span.proofs.Lengths.{known-has-streams}
+use Rattle.span.proofs.Places.{wordAt as sentAt, fill-word, sav-words, picture-word, eav-words, line-number-words, crcc-words}
+use Rattle.window.specs.Encoded.{wordIn, Meets, Restored, Sendable, IsXyz, Disturbed, wrongAt}
+use Rattle.window.specs.Tests.{vIn, wrongBits, sumOf, column, holds21, named, nextLine, lineRead, holds22, holds23, registerOf, holds24, holds25, holds26, repairs, rows}
+use Rattle.window.proofs.Encoded.{restored-words}
+use Rattle.window.proofs.Nearest.{same-test, near-h, near-v, near-repaired, near-wrong}
+use Rattle.window.proofs.Placing.{word-of-place, at-place, in-span, four, each-place}
+use Rattle.window.proofs.Sent.{may-bring, picture-column, register-is}
+
+-- ---- test 21, word by word
+
+module _ (f : Format) (a : Asked) (word : ℕ → ℕ) (t : ℕ) (l : t < streams (shapeOf f)) where
+  abbrev st : ℕ
+  st = streams (shapeOf f)
+
+  -- a word that is not an XYZ is as sent, and an XYZ is near the one sent
+  abbrev Kept : ℕ → Type 0
+  Kept j = (j ≡ 3 → ⊥) → (j ≡ 1927 → ⊥) → word (st * j + t) ≡ sentAt f a j t
+
+  abbrev Near : ℕ → Type 0
+  Near j = IsXyz j → distance (word (st * j + t)) (sentAt f a j t) ≤ 1
+
+  kept-holds : (j x : ℕ) → (j ≡ 3 → ⊥) → (j ≡ 1927 → ⊥) → sentAt f a j t ≡ x → Kept j → eqb (word (st * j + t)) x ≡ true
+  kept-holds j x p q e kept = eq-eqb (word (st * j + t)) x (kept p q ∙ e)
+
+  pub timing-holds : (j : ℕ) → Kept j → Near j → holds21 st word j t ≡ true
+  unfolding holds21 within
+  timing-holds =
+      let sav = sav-words f a t l in
+      let eav = eav-words f a t l in
+      each-place 1924
+      (four (λ j. Kept j → Near j → holds21 st word j t ≡ true)
+      (λ kept near. kept-holds 0 0xFFF (λ e. omega arith) (λ e. omega arith) (sav .0) kept)
+      (λ kept near. kept-holds 1 0x000 (λ e. omega arith) (λ e. omega arith) (sav .1) kept)
+      (λ kept near. kept-holds 2 0x000 (λ e. omega arith) (λ e. omega arith) (sav .2) kept)
+      (λ kept near. near-h (word (st * 3 + t)) (vOf (a .line)) false (rw (sav .3) at (near (inl refl)))))
+      (four (λ i. Kept (1924 + i) → Near (1924 + i) → holds21 st word (1924 + i) t ≡ true)
+      (λ kept near. kept-holds 1924 0xFFF (λ e. omega arith) (λ e. omega arith) (eav .0) kept)
+      (λ kept near. kept-holds 1925 0x000 (λ e. omega arith) (λ e. omega arith) (eav .1) kept)
+      (λ kept near. kept-holds 1926 0x000 (λ e. omega arith) (λ e. omega arith) (eav .2) kept)
+      (λ kept near. near-h (word (st * 1927 + t)) (vOf (lineAfter (a .line))) true (rw (eav .3) at (near (inr refl)))))
+      (λ j past q kept near. simp (le-ltb j 4 past, not-within 1924 1927 j (λ x y. omega (arith, q x))))
+
+-- ---- all words
+
+-- a number is one of two, or another
+each-of-two : {C : ℕ → Type 0} (a b : ℕ) → C a → C b → ((j : ℕ) → (j ≡ a → ⊥) → (j ≡ b → ⊥) → C j) → (j : ℕ) → C j
+each-of-two a b x y other j =
+    on-test (eqb j a) (λ t. rw (eqb-true j a t) x)
+    (λ t. on-test (eqb j b) (λ u. rw (eqb-true j b u) y) (λ u. other j (eqb-false j a t) (eqb-false j b u)))
+
+-- sums of the same numbers
+sum-same : (n : ℕ) (f g : ℕ → ℕ) → ((i : ℕ) → i < n → f i ≡ g i) → sumOf n f ≡ sumOf n g
+unfolding sumOf
+sum-same zero f g e = refl
+sum-same (suc n) f g e = rw (sum-same n f g (λ i h. e i (omega arith)), e n (omega arith))
+
+module _ (f : Format) (a : Asked) (good : Sendable f a) (words : List ℕ) (disturbed : Disturbed f a words) where
+  abbrev s : ℕ
+  s = streams (shapeOf f)
+
+  abbrev n : ℕ
+  n = 2 * pairsIn (shapeOf f)
+
+  abbrev word : ℕ → ℕ
+  word = wordIn words
+
+  has-streams : 1 ≤ s
+  has-streams = omega (arith, known-has-streams f (good .known))
+
+  module _ (j t : ℕ) (l : t < s) where
+    -- word j of stream t is as sent, if it is not an XYZ
+    pub as-sent : s * j + t < n → (j ≡ 3 → ⊥) → (j ≡ 1927 → ⊥) → word (s * j + t) ≡ sentAt f a j t
+    as-sent h x y =
+        let e = word-of-place s has-streams j t l in
+        disturbed .same (s * j + t) h (λ q. x (sym e ∙ q)) (λ q. y (sym e ∙ q))
+
+    -- so are those before the ancillary area
+    early : j < 1932 → (j ≡ 3 → ⊥) → (j ≡ 1927 → ⊥) → word (s * j + t) ≡ sentAt f a j t
+    early h = as-sent (in-span (shapeOf f) j t (omega arith) l)
+
+    -- it is an XYZ at its place
+    pub is-xyz : IsXyz j → IsXyz ((s * j + t) / s)
+    is-xyz x = rw (word-of-place s has-streams j t l) x
+
+  -- the first three words of SAV and EAV
+  module _ (t : ℕ) (l : t < s) where
+    is-sav : (word (s * 0 + t) ≡ 0xFFF) × (word (s * 1 + t) ≡ 0x000) × (word (s * 2 + t) ≡ 0x000)
+    is-sav =
+        let sent = sav-words f a t l in (
+          early 0 t l (omega arith) (λ e. omega arith) (λ e. omega arith) ∙ sent .0,
+          early 1 t l (omega arith) (λ e. omega arith) (λ e. omega arith) ∙ sent .1,
+          early 2 t l (omega arith) (λ e. omega arith) (λ e. omega arith) ∙ sent .2,
+        )
+
+    is-eav : (word (s * 1924 + t) ≡ 0xFFF) × (word (s * 1925 + t) ≡ 0x000) × (word (s * 1926 + t) ≡ 0x000)
+    is-eav =
+        let sent = eav-words f a t l in (
+          early 1924 t l (omega arith) (λ e. omega arith) (λ e. omega arith) ∙ sent .0,
+          early 1925 t l (omega arith) (λ e. omega arith) (λ e. omega arith) ∙ sent .1,
+          early 1926 t l (omega arith) (λ e. omega arith) (λ e. omega arith) ∙ sent .2,
+        )
+
+  -- so the replaced bytes are known
+  pub disturbed-restored : Restored (shapeOf f) words
+  disturbed-restored =
+      restored-words f (good .known) words (disturbed .long)
+      (λ t l. let code = is-sav t l in (code .0, code .1))
+      (λ t l. let code = is-eav t l in (code .0, code .1))
+
+  -- ---- at most one wrong bit in each XYZ
+  module _ (near : (k : ℕ) → k < 2 * pairsIn (shapeOf f) → IsXyz (k / streams (shapeOf f)) → wrongAt f a words k ≤ 1) where
+    -- the line after, which is the one named
+    abbrev next : ℕ
+    next = lineAfter (a .line)
+
+    -- by word and stream
+    near-at : (j t : ℕ) → t < s → j < 1932 → IsXyz j → distance (word (s * j + t)) (sentAt f a j t) ≤ 1
+    near-at j t l h x = near (s * j + t) (in-span (shapeOf f) j t (omega arith) l) (is-xyz j t l x)
+
+    module _ (t : ℕ) (l : t < s) where
+      sav-near : distance (word (s * 3 + t)) (timing (vOf (a .line)) false) ≤ 1
+      sav-near = rw (sav-words f a t l .3) at (near-at 3 t l (omega arith) (inl refl))
+
+      eav-near : distance (word (s * 1927 + t)) (timing (vOf next) true) ≤ 1
+      eav-near = rw (eav-words f a t l .3) at (near-at 1927 t l (omega arith) (inr refl))
+
+      -- the line's number
+      is-ln0 : word (s * 1928 + t) ≡ ln0 next
+      is-ln0 = early 1928 t l (omega arith) (λ e. omega arith) (λ e. omega arith) ∙ line-number-words f a t l .0
+
+      is-ln1 : word (s * 1929 + t) ≡ ln1 next
+      is-ln1 = early 1929 t l (omega arith) (λ e. omega arith) (λ e. omega arith) ∙ line-number-words f a t l .1
+
+      -- the picture
+      is-picture : (i : ℕ) → i < 1920 → word (s * (4 + i) + t) ≡ sampleWord f (a .line) t (getD (a .samples) (1920 * t + i) 0)
+      is-picture i h = early (4 + i) t l (omega arith) (λ e. omega arith) (λ e. omega arith) ∙ picture-word f a t l i h
+
+      -- so the register is that of what was sent
+      same-register : registerOf s word t ≡ register f a t
+      same-register =
+          register-is f a word t is-picture (is-eav t l) (near-repaired (word (s * 1927 + t)) (vOf next) true eav-near) (is-ln0, is-ln1)
+
+    -- the line named
+    named-is : named s word ≡ some next
+    named-is =
+        let line = after-is-line (a .line) in
+        ap₂ lineOf (is-ln0 0 has-streams) (is-ln1 0 has-streams)
+        ∙ line-again next (from-low 1 1125 next line) (to-high 1 1125 next line)
+
+    -- as the next line
+    next-is : nextLine s word ≡ next
+    unfolding nextLine
+    next-is = rw named-is
+
+    -- the line before it is the one sent
+    pub near-line : lineRead s word ≡ a .line
+    unfolding lineRead
+    near-line =
+        rw next-is
+        (before-after (a .line) (from-low 1 1125 (a .line) (good .line)) (to-high 1 1125 (a .line) (good .line)))
+
+    -- the picture words are those sent
+    pub near-rows : rows s word ≡ upto s (picture f a)
+    unfolding rows
+    near-rows = upto-same s (column s word 4 1920) (picture f a) (λ t l. picture-column f a word t (is-picture t l))
+
+    -- each wrong bit is counted
+    pub near-repairs :
+        repairs s word
+        ≡ sumOf s (λ t. wrongAt f a words (s * 3 + t) + wrongAt f a words (s * 1927 + t))
+    unfolding repairs
+    near-repairs =
+        sum-same s (λ t. wrongBits (word (s * 3 + t)) + wrongBits (word (s * 1927 + t)))
+        (λ t. wrongAt f a words (s * 3 + t) + wrongAt f a words (s * 1927 + t))
+        (λ t l.
+        ap₂ (λ (x y : ℕ). x + y)
+        (near-wrong (word (s * 3 + t)) (vOf (a .line)) false (sav-near t l) ∙ ap (distance (word (s * 3 + t))) (sym (sav-words f a t l .3)))
+        (near-wrong (word (s * 1927 + t)) (vOf next) true (eav-near t l)
+        ∙ ap (distance (word (s * 1927 + t))) (sym (eav-words f a t l .3))))
+
+    -- ---- tests 22 to 26
+    module _ (t : ℕ) (l : t < s) where
+      -- 22: every stream has the words of stream 1
+      same-ln0 : holds22 s word 1928 t ≡ true
+      unfolding holds22 within
+      same-ln0 =
+          on-test (eqb t 0) (λ u. simp (u, named-is))
+          (λ u. simp (u, is-ln0 t l, is-ln0 0 has-streams, eq-eqb (ln0 next) (ln0 next) refl))
+
+      same-ln1 : holds22 s word 1929 t ≡ true
+      unfolding holds22 within
+      same-ln1 = eq-eqb (word (s * 1929 + t)) (word (s * 1929 + 0)) (is-ln1 t l ∙ sym (is-ln1 0 has-streams))
+
+      line-number-holds : (j : ℕ) → holds22 s word j t ≡ true
+      unfolding holds22
+      line-number-holds =
+          each-of-two 1928 1929 same-ln0 same-ln1
+          (λ j x y. simp (not-within 1928 1929 j (λ p q. x (omega arith))))
+
+      -- 23: V is that of the line, and that of the line named
+      v-of-sav : holds23 s word 3 t ≡ true
+      unfolding holds23
+      v-of-sav =
+          same-test (vIn (word (s * 3 + t))) (vOf (lineRead s word))
+          (near-v (word (s * 3 + t)) (vOf (a .line)) false (sav-near t l) ∙ ap vOf (sym near-line))
+
+      v-of-eav : holds23 s word 1927 t ≡ true
+      unfolding holds23
+      v-of-eav =
+          same-test (vIn (word (s * 1927 + t))) (vOf (nextLine s word))
+          (near-v (word (s * 1927 + t)) (vOf next) true (eav-near t l) ∙ ap vOf (sym next-is))
+
+      v-holds : (j : ℕ) → holds23 s word j t ≡ true
+      unfolding holds23
+      v-holds = each-of-two 3 1927 v-of-sav v-of-eav (λ j x y. simp (ne-eqb j 3 x, ne-eqb j 1927 y))
+
+      -- 24: the CRCC
+      crcc0-holds : holds24 s word 1930 t ≡ true
+      unfolding holds24
+      crcc0-holds =
+          eq-eqb (word (s * 1930 + t)) (crccWords (registerOf s word t) .crcc0)
+          (early 1930 t l (omega arith) (λ e. omega arith) (λ e. omega arith)
+          ∙ crcc-words f a t l .0 ∙ ap (λ (r : ℕ). crccWords r .crcc0) (sym (same-register t l)))
+
+      crcc1-holds : holds24 s word 1931 t ≡ true
+      unfolding holds24
+      crcc1-holds =
+          eq-eqb (word (s * 1931 + t)) (crccWords (registerOf s word t) .crcc1)
+          (early 1931 t l (omega arith) (λ e. omega arith) (λ e. omega arith)
+          ∙ crcc-words f a t l .1 ∙ ap (λ (r : ℕ). crccWords r .crcc1) (sym (same-register t l)))
+
+      crcc-holds : (j : ℕ) → holds24 s word j t ≡ true
+      unfolding holds24
+      crcc-holds = each-of-two 1930 1931 crcc0-holds crcc1-holds (λ j x y. simp (ne-eqb j 1930 x, ne-eqb j 1931 y))
+
+      -- 25: the picture
+      picture-holds : (j : ℕ) → holds25 s word f j t ≡ true
+      unfolding holds25
+      picture-holds j =
+          on-test (within 4 1923 j)
+          (λ u.
+          let i = j - 4 in
+          let e : j ≡ 4 + i = omega (arith, from-low _ _ _ u) in
+          let h : i < 1920 = omega (arith, to-high _ _ _ u) in
+          let brought : word (s * j + t) ≡ sampleWord f (a .line) t (getD (a .samples) (1920 * t + i) 0) =
+          ap (λ (k : ℕ). word (s * k + t)) e ∙ is-picture t l i h in
+          simp u (rw (near-line, brought) (may-bring f a good t i l h)))
+          (λ u. simp u)
+
+      -- 26: the fill
+      fill-holds : (j : ℕ) → s * j + t < n → holds26 s word f j t ≡ true
+      unfolding holds26
+      fill-holds j h =
+          on-test (ltb j (1932 + shapeOf f .ancillary)) (λ u. simp u)
+          (λ u.
+          let past : 1932 + shapeOf f .ancillary ≤ j = ltb-false j (1932 + shapeOf f .ancillary) u in
+          let from : s * (1932 + shapeOf f .ancillary) ≤ s * j = mul-le-mul-left s past in
+          let i = s * j + t - s * (1932 + shapeOf f .ancillary) in
+          let e : s * j + t ≡ s * (1932 + shapeOf f .ancillary) + i = omega arith in
+          let filled : word (s * j + t) ≡ fillWord =
+          as-sent j t l h (λ x. omega arith) (λ x. omega arith)
+          ∙ ap (λ (k : ℕ). getD (spanWords f a) k 0) e ∙ fill-word f a i (omega arith) in
+          simp (u, eq-eqb (word (s * j + t)) fillWord filled))
+
+    -- all tests of the words hold
+    pub near-meets : Meets f word
+    near-meets =
+        record {
+          timing =
+              at-place s has-streams n (holds21 s word)
+              (λ j t l h. timing-holds f a word t l j (as-sent j t l h) (λ x. near (s * j + t) h (is-xyz j t l x)));
+          lineNumber = at-place s has-streams n (holds22 s word) (λ j t l h. line-number-holds t l j);
+          v = at-place s has-streams n (holds23 s word) (λ j t l h. v-holds t l j);
+          crcc = at-place s has-streams n (holds24 s word) (λ j t l h. crcc-holds t l j);
+          picture = at-place s has-streams n (holds25 s word f) (λ j t l h. picture-holds t l j);
+          fill = at-place s has-streams n (holds26 s word f) (λ j t l h. fill-holds t l j h);
+        }

@@ -1,0 +1,6 @@
+pub mod Encoded
+pub mod Read
+pub mod Scan
+pub mod Sums
+pub mod Tests
+pub mod Words

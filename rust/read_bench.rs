@@ -1,0 +1,840 @@
+//! Spans read by the library (crate read_run) and by plain Rust, once in the simplest way and once as fast as we could write it, from
+//! document 004, clauses 6 and 7.1, and document 01, "Receiving and finding". With the word `compare` it only compares them, on many calls;
+//! else it compares and then measures all three in one run.
+
+mod published;
+
+use std::time::Instant;
+
+#[link(name = "read_run", kind = "static")]
+extern "C" {
+    fn brazulint_read(format: u8, depth: u8, symbols: *const u16, count: usize, rows: *mut u16, room: usize) -> u64;
+    fn brazulint_judge(format: u8, depth: u8, symbols: *const u16, count: usize) -> u64;
+}
+
+struct Call {
+    format: u8,
+    depth: u8,
+    symbols: Vec<u16>,
+}
+
+/// The low eight bits of an answer are the number of a refusal or 0. Above them is its place; or else the disparity before in bit 8 and
+/// after in bit 9, the repairs in bits 10 to 15, the line in bits 16 to 31, and the content bytes, content byte 1 of the SAV lowest.
+fn library(call: &Call, rows: &mut [u16]) -> u64 {
+    let (given, count, lent, room) = (call.symbols.as_ptr(), call.symbols.len(), rows.as_mut_ptr(), rows.len());
+    // Sound: both slices are whole and apart, and the library proves that it stays within them.
+    unsafe { brazulint_read(call.format, call.depth, given, count, lent, room) }
+}
+
+fn library_judges(call: &Call) -> u64 {
+    // Sound: the slice is whole, and the library proves that it stays within it.
+    unsafe { brazulint_judge(call.format, call.depth, call.symbols.as_ptr(), call.symbols.len()) }
+}
+
+// ---- What all versions know of a span.
+
+const BLANK: u16 = 0x100;
+
+/// Streams, ancillary words of each, and fill words of all (004, table 4, tables 11 and 14); none for an unknown format.
+#[derive(Clone, Copy)]
+struct Shape {
+    s: usize,
+    ancillary: usize,
+    fill: usize,
+}
+
+fn shape(format: u8) -> Option<Shape> {
+    match format {
+        1 => Some(Shape { s: 2, ancillary: 268, fill: 880 }),
+        2 => Some(Shape { s: 2, ancillary: 708, fill: 1056 }),
+        3 => Some(Shape { s: 4, ancillary: 708, fill: 2112 }),
+        _ => None,
+    }
+}
+
+impl Shape {
+    /// SAV, picture, EAV, line number, CRCC and ancillary words of each stream, and then the fill.
+    fn first_fill(self) -> usize {
+        self.s * (4 + 1920 + 4 + 2 + 2 + self.ancillary)
+    }
+
+    fn words(self) -> usize {
+        self.first_fill() + self.fill
+    }
+
+    fn symbols(self) -> usize {
+        self.words() / 2 * 3
+    }
+
+    /// The symbol at which the EAV starts.
+    fn eav(self) -> usize {
+        2886 * self.s
+    }
+}
+
+/// The refusals that need no look at the symbols, in their order; else the format.
+fn checked(call: &Call, room: Option<usize>) -> Result<Shape, u64> {
+    let shape = shape(call.format).filter(|_| matches!(call.depth, 10 | 12)).ok_or(1u64)?;
+    if call.symbols.len() != shape.symbols() {
+        return Err(3);
+    }
+    if room.is_some_and(|room| room != shape.s * 1920) {
+        return Err(4);
+    }
+    Ok(shape)
+}
+
+fn active(line: u16) -> bool {
+    (42..=1121).contains(&line)
+}
+
+fn line_after(line: u16) -> u16 {
+    line % 1125 + 1
+}
+
+fn line_before(line: u16) -> u16 {
+    (line + 1123) % 1125 + 1
+}
+
+/// 004, tables 6 and 7, for VH = 00, 01, 10, 11.
+const XYZ: [u16; 4] = [0x800, 0x9D0, 0xAB0, 0xB60];
+
+fn xyz(line: u16, eav: bool) -> u16 {
+    XYZ[2 * !active(line) as usize + eav as usize]
+}
+
+/// b11 is the opposite of b10 (004, tables 8 and 9).
+fn guarded(low: u16) -> u16 {
+    low | (!low & 1 << 10) << 1
+}
+
+/// 004, table 8.
+fn line_words(line: u16) -> [u16; 2] {
+    [guarded(line % 128 << 4), guarded(line / 128 << 4)]
+}
+
+/// The line that two words name: the one for which exactly these are sent.
+fn named(words: [u16; 2]) -> Option<u16> {
+    let line = (words[0] >> 4) % 128 + (words[1] >> 4) % 16 * 128;
+    ((1..=1125).contains(&line) && line_words(line) == words).then_some(line)
+}
+
+/// The CRC of 004, 6.4, twelve bits at a time: bit i of the register is CRCCi. No bit that a word turns is reached within that word.
+fn step(register: u32, word: u16) -> u32 {
+    let x = (register ^ word as u32) % 4096;
+    register / 4096 ^ x * 64 ^ x * 4 ^ x * 2
+}
+
+/// 004, table 9.
+fn crcc_words(register: u32) -> [u16; 2] {
+    [guarded((register % 512 * 4) as u16), guarded((register / 512 * 4) as u16)]
+}
+
+/// V and H of the legal word that is at most one bit away, and how many bits that is.
+fn repair(word: u16) -> Option<(usize, u32)> {
+    (0..4).map(|vh| (vh, (word ^ XYZ[vh]).count_ones())).find(|&(_, distance)| distance <= 1)
+}
+
+fn delivered(line: u16, content: [u8; 4], before: bool, after: bool, repairs: u32) -> u64 {
+    let low = (before as u64) << 8 | (after as u64) << 9 | (repairs as u64) << 10;
+    low | (line as u64) << 16 | (u32::from_le_bytes(content) as u64) << 32
+}
+
+// The numbers of these two among the published characters.
+const K28_5: u16 = 261;
+const K29_7: u16 = 266;
+
+// ---- The simple version.
+
+/// The code by disparity: each character's symbol and the disparity after it, and each symbol's character and the disparity after it.
+struct Code {
+    symbols: [[(u16, bool); 268]; 2],
+    characters: [[Option<(u16, bool)>; 1024]; 2],
+}
+
+fn code() -> Code {
+    let characters = published::characters();
+    let symbols = [false, true].map(|d| std::array::from_fn(|c| published::encode(characters[c].1, characters[c].2, d)));
+    let mut code = Code { symbols, characters: [[None; 1024]; 2] };
+    for d in 0..2 {
+        for (c, &(symbol, after)) in symbols[d].iter().enumerate() {
+            code.characters[d][symbol as usize] = Some((c as u16, after));
+        }
+    }
+    code
+}
+
+/// A test at some places, in order: its number with the lowest at which it does not hold.
+fn lowest(number: u64, mut places: impl Iterator<Item = usize>, holds: impl Fn(usize) -> bool) -> Result<(), u64> {
+    match places.find(|&k| !holds(k)) {
+        Some(place) => Err(number + 256 * place as u64),
+        None => Ok(()),
+    }
+}
+
+/// 20: the characters of a span, and the disparities before and after it.
+fn characters(code: &Code, shape: Shape, symbols: &[u16]) -> Result<(Vec<u16>, bool, bool), u64> {
+    let before = symbols[0] == code.symbols[1][K28_5 as usize].0;
+    let mut disparity = before;
+    let mut characters = Vec::new();
+    for (i, &symbol) in symbols.iter().enumerate() {
+        let meaning = code.characters[disparity as usize].get(symbol as usize).copied().flatten();
+        let fits = |c: u16| match i {
+            0 | 1 => c == K28_5,
+            _ if i == shape.eav() || i == shape.eav() + 1 => c == K29_7,
+            _ => c < 256,
+        };
+        match meaning {
+            Some((c, after)) if fits(c) => {
+                characters.push(c);
+                disparity = after;
+            }
+            _ => return Err(20 + 256 * i as u64),
+        }
+    }
+    Ok((characters, before, disparity))
+}
+
+/// The words of a span, the replaced bytes of its timing codes at their fixed values.
+fn words(shape: Shape, mut bytes: Vec<u16>) -> Vec<u16> {
+    let fixed = [0xFF, 0xFF, 0xFF, if shape.s == 2 { 0x00 } else { 0xFF }];
+    bytes[..4].copy_from_slice(&fixed);
+    bytes[shape.eav()..shape.eav() + 4].copy_from_slice(&fixed);
+    bytes.chunks(3).flat_map(|b| [b[0] + b[1] % 16 * 256, b[1] / 16 + b[2] * 16]).collect()
+}
+
+/// 21 at word j of a timing code.
+fn timing_holds(j: usize, h: usize, word: u16) -> bool {
+    match j {
+        0 => word == 0xFFF,
+        1 | 2 => word == 0x000,
+        _ => repair(word).is_some_and(|(vh, _)| vh % 2 == h),
+    }
+}
+
+/// 21 to 26: the line and the number of bits repaired.
+fn tested(shape: Shape, depth: u8, words: &[u16]) -> Result<(u16, u32), u64> {
+    let s = shape.s;
+    let (eav, behind) = (1924 * s, 1928 * s);
+    lowest(21, 0..4 * s, |k| timing_holds(k / s, 0, words[k]))?;
+    lowest(21, eav..behind, |k| timing_holds((k - eav) / s, 1, words[k]))?;
+
+    let next = named([words[behind], words[behind + s]]).ok_or(22 + 256 * behind as u64)?;
+    lowest(22, behind..behind + 2 * s, |k| words[k] == words[k / s * s])?;
+    let line = line_before(next);
+
+    let near = |k: usize| repair(words[k]).unwrap();
+    lowest(23, 3 * s..4 * s, |k| (near(k).0 / 2 == 0) == active(line))?;
+    lowest(23, behind - s..behind, |k| (near(k).0 / 2 == 0) == active(next))?;
+
+    let mut crcc = [[0; 4]; 2];
+    for t in 0..s {
+        let read = |j: usize| if j == 1927 { XYZ[near(j * s + t).0] } else { words[j * s + t] };
+        [crcc[0][t], crcc[1][t]] = crcc_words((4..1930).fold(0, |register, j| step(register, read(j))));
+    }
+    lowest(24, 1930 * s..1932 * s, |k| words[k] == crcc[k / s - 1930][k % s])?;
+
+    let allowed = |w: u16| (16..=4079).contains(&w) && (depth == 12 || w % 4 == 0);
+    lowest(25, 4 * s..eav, |k| !active(line) || allowed(words[k]))?;
+    lowest(26, shape.first_fill()..words.len(), |k| words[k] == BLANK)?;
+    Ok((line, (0..s).map(|t| near(3 * s + t).1 + near(1927 * s + t).1).sum()))
+}
+
+/// A span of the right length: its answer, and its words.
+fn read_span(code: &Code, shape: Shape, depth: u8, symbols: &[u16]) -> Result<(u64, Vec<u16>), u64> {
+    let (characters, before, after) = characters(code, shape, symbols)?;
+    let content = [2, 3, shape.eav() + 2, shape.eav() + 3].map(|i| characters[i] as u8);
+    let words = words(shape, characters);
+    let (line, repairs) = tested(shape, depth, &words)?;
+    Ok((delivered(line, content, before, after, repairs), words))
+}
+
+#[inline(never)]
+fn simple(code: &Code, call: &Call, rows: &mut [u16]) -> u64 {
+    let shape = match checked(call, Some(rows.len())) {
+        Ok(shape) => shape,
+        Err(number) => return number,
+    };
+    rows.fill(0);
+    match read_span(code, shape, call.depth, &call.symbols) {
+        Ok((answer, words)) => {
+            for (i, sample) in rows.iter_mut().enumerate() {
+                *sample = words[(4 + i % 1920) * shape.s + i / 1920];
+            }
+            answer
+        }
+        Err(refusal) => refusal,
+    }
+}
+
+fn simple_judges(code: &Code, call: &Call) -> u64 {
+    match checked(call, None).and_then(|shape| read_span(code, shape, call.depth, &call.symbols)) {
+        Ok((answer, _)) => answer,
+        Err(refusal) => refusal,
+    }
+}
+
+// ---- The fast version.
+
+/// For each symbol that is a byte, the byte as the first, second or third of a pair of words, in bits 0 to 23; in bits 24 and 25 that it is
+/// illegal at negative and at positive disparity, and twice, in bits 26 and 27, that it turns the disparity. Special ones are illegal.
+struct Tables {
+    first: [u32; 1024],
+    second: [u32; 1024],
+    third: [u32; 1024],
+    /// By disparity the forms of K28.5 and of K29.7.
+    k28_5: [u16; 2],
+    k29_7: [u16; 2],
+    /// By disparity the three symbols of two blanking words, after which it is as it was.
+    blanks: [[u16; 3]; 2],
+}
+
+const NEGATIVE: u32 = 1 << 24;
+const POSITIVE: u32 = 1 << 25;
+const BOTH: u32 = NEGATIVE | POSITIVE;
+
+fn entries(code: &Code, place: u32) -> [u32; 1024] {
+    let mut entries = [BOTH; 1024];
+    for (d, illegal) in [NEGATIVE, POSITIVE].into_iter().enumerate() {
+        for (byte, &(symbol, after)) in code.symbols[d][..256].iter().enumerate() {
+            let turn = if after as usize == d { 0 } else { BOTH << 2 };
+            let entry = &mut entries[symbol as usize];
+            *entry = *entry & !illegal | (byte as u32) << place | turn;
+        }
+    }
+    entries
+}
+
+fn tables(code: &Code) -> Tables {
+    let forms = |k: u16| [0, 1].map(|d: usize| code.symbols[d][k as usize].0);
+    let blanks = [0, 1].map(|d| {
+        let mut disparity = d;
+        let three = [0x00, 0x01, 0x10].map(|byte| {
+            let (symbol, after) = code.symbols[disparity][byte];
+            disparity = after as usize;
+            symbol
+        });
+        assert_eq!(disparity, d);
+        three
+    });
+    let [first, second, third] = [0, 8, 16].map(|place| entries(code, place));
+    Tables { first, second, third, k28_5: forms(K28_5), k29_7: forms(K29_7), blanks }
+}
+
+/// What has been read of a span, whose symbols have ten bits. Nothing is looked for: `bad` gathers what is not right, and is not 0 where
+/// anything was. The mask is the bit of an entry that says whether it is illegal.
+struct Reader<'a> {
+    tables: &'a Tables,
+    symbols: &'a [u16],
+    at: usize,
+    mask: u32,
+    bad: u32,
+}
+
+impl Reader<'_> {
+    fn disparity(&self) -> usize {
+        (self.mask == POSITIVE) as usize
+    }
+
+    /// Sound where a symbol is left.
+    #[inline(always)]
+    unsafe fn entry(&mut self, entries: &[u32; 1024]) -> u32 {
+        let entry = *entries.get_unchecked(*self.symbols.get_unchecked(self.at) as usize);
+        self.bad |= entry & self.mask;
+        self.mask ^= entry >> 2 & BOTH;
+        self.at += 1;
+        entry
+    }
+
+    /// Sound where a symbol is left.
+    #[inline(always)]
+    unsafe fn byte(&mut self) -> u32 {
+        self.entry(&self.tables.first) & 255
+    }
+
+    /// Two words in one number, the second twelve bits up. Sound where three symbols are left.
+    #[inline(always)]
+    unsafe fn pair(&mut self) -> u32 {
+        let tables = self.tables;
+        let both = self.entry(&tables.first) | self.entry(&tables.second) | self.entry(&tables.third);
+        both & 0xFF_FFFF
+    }
+
+    /// One word of each stream. Sound where they are left.
+    #[inline(always)]
+    unsafe fn each<const S: usize>(&mut self) -> [u16; S] {
+        let mut words = [0; S];
+        for t in (0..S).step_by(2) {
+            let both = self.pair();
+            words[t] = (both & 4095) as u16;
+            words[t + 1] = (both >> 12) as u16;
+        }
+        words
+    }
+
+    /// Sound where a symbol is left.
+    unsafe fn special(&mut self, forms: [u16; 2], turns: bool) {
+        self.bad |= (*self.symbols.get_unchecked(self.at) ^ forms[self.disparity()]) as u32;
+        self.mask ^= if turns { BOTH } else { 0 };
+        self.at += 1;
+    }
+
+    /// The rest of a timing code behind its special characters: the content bytes, and V H of each stream's XYZ with its distance. Sound
+    /// where it is left.
+    #[inline(always)]
+    unsafe fn timing<const S: usize>(&mut self, h: usize) -> ([u8; 2], [(usize, u32); S]) {
+        let content = [self.byte() as u8, self.byte() as u8];
+        // What is left of FFF FFF 000 000, or of FFF FFF FFF FFF.
+        (0..2).for_each(|_| self.bad |= self.byte() ^ if S == 2 { 0 } else { 255 });
+        (0..S / 2 * 3 - 2).for_each(|_| self.bad |= self.pair());
+        let near = self.each::<S>().map(|word| repair(word).unwrap_or((4, 0)));
+        near.iter().for_each(|&(vh, _)| self.bad |= (vh == 4 || vh % 2 != h) as u32);
+        (content, near)
+    }
+
+    /// Whether so many symbols are those of blanking words; these leave the disparity as it was. Sound where they are left.
+    #[inline(always)]
+    unsafe fn are_blank(&self, count: usize) -> bool {
+        let three = self.tables.blanks[self.disparity()];
+        let many: [u16; 24] = std::array::from_fn(|i| three[i % 3]);
+        let mut pieces = self.symbols.get_unchecked(self.at..self.at + count).chunks_exact(24);
+        let wrong = pieces.by_ref().fold(0, |wrong, piece| wrong | (0..24).fold(0, |wrong, i| wrong | (piece[i] ^ many[i])));
+        wrong == 0 && pieces.remainder() == &many[..pieces.remainder().len()]
+    }
+}
+
+/// The CRCs of two streams in one number, the second 32 bits up, after a word more of each, which are twelve bits apart.
+#[inline(always)]
+fn step_two(registers: u64, both: u32) -> u64 {
+    let words = (both & 4095) as u64 | ((both >> 12) as u64) << 32;
+    let x = (registers ^ words) & 0xFFF_0000_0FFF;
+    registers >> 12 & 0x3F_0000_003F ^ x << 6 ^ x << 2 ^ x << 1
+}
+
+/// The picture words into rows, and the CRC of each stream, in one loop. Sound where they are left and the rows have room for them.
+#[inline(always)]
+unsafe fn picture<const S: usize>(reader: &mut Reader, rows: &mut [u16]) -> [u32; S] {
+    let mut two = [0; S];
+    for j in 0..1920 {
+        for t in (0..S).step_by(2) {
+            let both = reader.pair();
+            two[t] = step_two(two[t], both);
+            *rows.get_unchecked_mut(t * 1920 + j) = (both & 4095) as u16;
+            *rows.get_unchecked_mut((t + 1) * 1920 + j) = (both >> 12) as u16;
+        }
+    }
+    std::array::from_fn(|t| (two[t / 2 * 2] >> (32 * (t % 2))) as u32)
+}
+
+/// Whether an active line may carry all words.
+fn all_allowed(depth: u8, rows: &[u16]) -> bool {
+    let outside = rows.iter().fold(0, |outside, word| outside | word.wrapping_sub(16).saturating_sub(4063));
+    let bits = rows.iter().fold(0, |bits, word| bits | word);
+    outside == 0 && (depth == 12 || bits % 4 == 0)
+}
+
+/// A span of S streams; none where anything in it is not as it should be. Sound where both lengths are right.
+#[inline(never)]
+unsafe fn span<const S: usize>(tables: &Tables, shape: Shape, depth: u8, symbols: &[u16], rows: &mut [u16]) -> Option<u64> {
+    if symbols.iter().fold(0, |all, symbol| all | symbol) > 1023 {
+        return None;
+    }
+    let before = symbols[0] == tables.k28_5[1];
+    let mut reader = Reader { tables, symbols, at: 0, mask: if before { POSITIVE } else { NEGATIVE }, bad: 0 };
+    (0..2).for_each(|_| reader.special(tables.k28_5, true));
+    let (sav, near) = reader.timing::<S>(0);
+    let registers = picture::<S>(&mut reader, rows);
+    (0..2).for_each(|_| reader.special(tables.k29_7, false));
+    let (eav, next_near) = reader.timing::<S>(1);
+    let (ln0, ln1) = (reader.each::<S>(), reader.each::<S>());
+    let crcc = [reader.each::<S>(), reader.each::<S>()];
+    let next = named([ln0[0], ln1[0]])?;
+    let line = line_before(next);
+    let mut repairs = 0;
+    for t in 0..S {
+        let ((vh, distance), (next_vh, next_distance)) = (near[t], next_near[t]);
+        let behind = [0xFFF, 0, 0, XYZ[next_vh % 4], ln0[t], ln1[t]];
+        let worked_out = crcc_words(behind.iter().fold(registers[t], |register, &word| step(register, word)));
+        let right = [ln0[t], ln1[t]] == [ln0[0], ln1[0]] && worked_out == [crcc[0][t], crcc[1][t]];
+        let v_fits = (vh / 2 == 0) == active(line) && (next_vh / 2 == 0) == active(next);
+        reader.bad |= !(right && v_fits) as u32;
+        repairs += distance + next_distance;
+    }
+    let ancillary = shape.ancillary * S / 2 * 3;
+    if reader.are_blank(ancillary) {
+        reader.at += ancillary;
+    } else {
+        (0..ancillary / 3).for_each(|_| _ = reader.pair());
+    }
+    let fine = reader.bad == 0 && reader.are_blank(symbols.len() - reader.at) && (!active(line) || all_allowed(depth, rows));
+    fine.then(|| delivered(line, [sav[0], sav[1], eav[0], eav[1]], before, reader.mask == POSITIVE, repairs))
+}
+
+/// The fast version. A span is read in one pass without a look at what may be wrong; only where something was, it is looked for.
+#[inline(never)]
+fn fast(code: &Code, tables: &Tables, call: &Call, rows: &mut [u16]) -> u64 {
+    let shape = match checked(call, Some(rows.len())) {
+        Ok(shape) => shape,
+        Err(number) => return number,
+    };
+    // Sound: both lengths were checked above.
+    let answer = unsafe {
+        if shape.s == 2 {
+            span::<2>(tables, shape, call.depth, &call.symbols, rows)
+        } else {
+            span::<4>(tables, shape, call.depth, &call.symbols, rows)
+        }
+    };
+    answer.unwrap_or_else(|| simple(code, call, rows))
+}
+
+// ---- Spans to read.
+
+struct Random(u64);
+
+impl Random {
+    fn next(&mut self) -> u64 {
+        self.0 = self.0.wrapping_mul(6364136223846793005).wrapping_add(1442695040888963407);
+        self.0 >> 33
+    }
+
+    fn below(&mut self, limit: usize) -> usize {
+        self.next() as usize % limit
+    }
+
+    fn within(&mut self, low: u16, high: u16) -> u16 {
+        low + self.below((high - low + 1) as usize) as u16
+    }
+
+    fn pick<T: Copy>(&mut self, from: &[T]) -> T {
+        from[self.below(from.len())]
+    }
+
+    /// Once in so many times.
+    fn seldom(&mut self, times: usize) -> bool {
+        self.below(times) == 0
+    }
+
+    fn numbers(&mut self, count: usize) -> Vec<u16> {
+        (0..count).map(|_| self.next() as u16).collect()
+    }
+}
+
+/// The interleaved words of a span of a line, without its CRCC: a picture that may be sent, of all values or of the ends alone.
+fn made_words(random: &mut Random, shape: Shape, depth: u8, line: u16) -> Vec<u16> {
+    let next = line_after(line);
+    let each = |word: u16| vec![word; shape.s];
+    let mut words: Vec<u16> = [0xFFF, 0, 0, xyz(line, false)].map(each).concat();
+    let ends_alone = random.seldom(4);
+    for _ in 0..1920 * shape.s {
+        words.push(match (active(line), depth) {
+            (false, _) => BLANK,
+            (true, 10) if ends_alone => random.pick(&[16, 4076]),
+            (true, 10) => random.within(4, 1019) << 2,
+            (true, _) if ends_alone => random.pick(&[16, 4079]),
+            (true, _) => random.within(16, 4079),
+        });
+    }
+    let [ln0, ln1] = line_words(next);
+    words.extend([0xFFF, 0, 0, xyz(next, true), ln0, ln1].map(each).concat());
+    words.resize(shape.words(), BLANK);
+    words
+}
+
+fn put_crcc(shape: Shape, words: &mut [u16]) {
+    let s = shape.s;
+    for t in 0..s {
+        let [crcc0, crcc1] = crcc_words((4..1930).fold(0, |register, j| step(register, words[j * s + t])));
+        words[1930 * s + t] = crcc0;
+        words[1931 * s + t] = crcc1;
+    }
+}
+
+fn made_characters(random: &mut Random, shape: Shape, words: &[u16]) -> Vec<u16> {
+    let mut characters: Vec<u16> = words.chunks(2).flat_map(|w| [w[0] % 256, w[1] % 16 * 16 + w[0] / 256, w[1] / 16]).collect();
+    for (at, k) in [(0, K28_5), (shape.eav(), K29_7)] {
+        let content = random.next() as u16;
+        characters[at..at + 4].copy_from_slice(&[k, k, content % 256, content / 256]);
+    }
+    characters
+}
+
+fn made_symbols(code: &Code, characters: &[u16], positive: bool) -> Vec<u16> {
+    let mut disparity = positive;
+    let mut symbols = Vec::new();
+    for &c in characters {
+        let (symbol, after) = code.symbols[disparity as usize][c as usize];
+        symbols.push(symbol);
+        disparity = after;
+    }
+    symbols
+}
+
+/// A place among the words: in the SAV, the picture, the EAV, the line number, the CRCC, the ancillary area or the fill, often at its ends.
+fn word_place(random: &mut Random, shape: Shape) -> usize {
+    let s = shape.s;
+    let bounds = [0, 4 * s, 1924 * s, 1928 * s, 1930 * s, 1932 * s, shape.first_fill(), shape.words()];
+    let part = random.below(7);
+    let inside = random.within(bounds[part] as u16, bounds[part + 1] as u16 - 1) as usize;
+    random.pick(&[bounds[part], bounds[part + 1] - 1, inside, inside, inside])
+}
+
+/// One bit or two inverted, or another word: XYZ, line number, an end of what is allowed, any.
+fn change_word(random: &mut Random, word: u16) -> u16 {
+    let (bit, other) = (1 << random.below(12), 1 << random.below(12));
+    let [ln0, ln1] = line_words(random.within(0, 1130));
+    let any = random.next() as u16 % 4096;
+    match random.below(8) {
+        0..=2 => word ^ bit,
+        3 => word ^ bit ^ other,
+        4 => random.pick(&XYZ) ^ random.pick(&[0, bit]),
+        5 => random.pick(&[ln0, ln1]),
+        6 => random.pick(&[0, 15, 16, 17, BLANK, 4076, 4079, 4080, 0xFFF]),
+        _ => any,
+    }
+}
+
+fn change_words(random: &mut Random, shape: Shape, words: &mut [u16]) {
+    for _ in 0..random.pick(&[1, 1, 1, 2, 3]) {
+        let place = word_place(random, shape);
+        words[place] = change_word(random, words[place]);
+    }
+}
+
+/// One or several picture words next to what an active line may carry, or that it may carry at another depth.
+fn spoil_picture(random: &mut Random, shape: Shape, words: &mut [u16]) {
+    for _ in 0..random.pick(&[1, 1, 2, 9]) {
+        let inside = 4 * shape.s + random.below(1920 * shape.s);
+        let place = random.pick(&[4 * shape.s, 1924 * shape.s - 1, inside, inside, inside]);
+        words[place] = random.pick(&[0, 12, 15, 16, 17, 18, 19, 1021, 4076, 4077, 4079, 4080, 4095]);
+    }
+}
+
+/// XYZ words with a wrong bit each, some of them or all.
+fn spoil_timing(random: &mut Random, shape: Shape, words: &mut [u16]) {
+    let often = random.pick(&[1, 2]);
+    for j in [3, 1927] {
+        for t in 0..shape.s {
+            if random.seldom(often) {
+                words[j * shape.s + t] ^= 1 << random.below(12);
+            }
+        }
+    }
+}
+
+/// The words of another line, or V of another, on all streams.
+fn change_line(random: &mut Random, shape: Shape, words: &mut [u16]) {
+    let s = shape.s;
+    let any = random.within(0, 2047);
+    let lines = [0, 1, 2, 41, 42, 43, 127, 128, 1121, 1122, 1123, 1125, 1126, any];
+    let (line, other) = (random.pick(&lines), random.pick(&lines));
+    match random.below(3) {
+        0 => words[3 * s..4 * s].fill(xyz(line, false)),
+        1 => words[1927 * s..1928 * s].fill(xyz(line, true)),
+        _ => {
+            words[1928 * s..1929 * s].fill(line_words(line)[0]);
+            words[1929 * s..1930 * s].fill(line_words(random.pick(&[line, line, other]))[1]);
+        }
+    }
+}
+
+/// Bits inverted, symbols of any sixteen bits, or legal ones where they may not be.
+fn change_symbols(random: &mut Random, code: &Code, shape: Shape, symbols: &mut [u16]) {
+    for _ in 0..random.pick(&[1, 1, 1, 2, 5]) {
+        let places = [0, 1, 2, 3, shape.eav(), shape.eav() + 1, shape.eav() + 2, symbols.len() - 1];
+        let (near, far) = (random.pick(&places), random.below(symbols.len()));
+        let place = random.pick(&[near, far, far, far]);
+        let (disparity, character, any) = (random.below(2), random.below(268), random.next() as u16);
+        symbols[place] = match random.below(5) {
+            0 | 1 => symbols[place] ^ 1 << random.below(10),
+            2 => symbols[place] ^ 1 << random.below(16),
+            3 => code.symbols[disparity][character].0,
+            _ => any,
+        };
+    }
+}
+
+/// Words that nobody judges: those of the picture on a blanking line, and those of the ancillary area.
+fn put_foreign(random: &mut Random, words: &mut [u16]) {
+    words.iter_mut().for_each(|word| *word = random.next() as u16 % 4096);
+}
+
+/// A span of a format, sent as it should be or changed in any way.
+fn random_symbols(random: &mut Random, code: &Code, shape: Shape, depth: u8) -> Vec<u16> {
+    let any = random.within(1, 1125);
+    let line = random.pick(&[1, 41, 42, 127, 128, 1121, 1122, 1125, any, any, any, any]);
+    let mut words = made_words(random, shape, depth, line);
+    let change = random.below(13);
+    match change {
+        0 | 1 => change_words(random, shape, &mut words),
+        2 => change_line(random, shape, &mut words),
+        3 => spoil_picture(random, shape, &mut words),
+        4 if !active(line) => put_foreign(random, &mut words[4 * shape.s..1924 * shape.s]),
+        _ => {}
+    }
+    put_crcc(shape, &mut words);
+    match change {
+        5 | 6 => change_words(random, shape, &mut words),
+        7 => change_line(random, shape, &mut words),
+        8 => spoil_timing(random, shape, &mut words),
+        9 => put_foreign(random, &mut words[1932 * shape.s..shape.first_fill()]),
+        _ => {}
+    }
+    let mut characters = made_characters(random, shape, &words);
+    if change == 10 {
+        let place = random.below(characters.len());
+        characters[place] = random.within(0, 267);
+    }
+    let mut symbols = made_symbols(code, &characters, random.seldom(2));
+    if change == 11 || random.seldom(20) {
+        change_symbols(random, code, shape, &mut symbols);
+    }
+    symbols
+}
+
+/// A call, and the room for its rows: mostly of a right format, depth and lengths.
+fn random_call(random: &mut Random, code: &Code) -> (Call, usize) {
+    let any = random.next() as u32;
+    let made = random.pick(&[1, 2, 3]);
+    let made_depth = random.pick(&[10, 12]);
+    let right = shape(made).unwrap();
+    let mut symbols = random_symbols(random, code, right, made_depth);
+    let format = if random.seldom(20) { random.pick(&[0, 1, 2, 3, 4, 5, 129, 255, any as u8]) } else { made };
+    let depth = if random.seldom(20) { random.pick(&[0, 8, 9, 10, 11, 12, 13, 138, any as u8]) } else { made_depth };
+    let mut room = right.s * 1920;
+    if random.seldom(15) {
+        let length = random.pick(&[0, 1, 7919, 7920, 7921, 9503, 9504, 19007, 19008, 19009, symbols.len() / 2]);
+        symbols.resize(length, 0x0B9);
+    }
+    if random.seldom(15) {
+        room = random.pick(&[0, 1, 1920, 3839, 3840, 3841, 7679, 7680, 7681, room / 2, room + 2]);
+    }
+    (Call { format, depth, symbols }, room)
+}
+
+// ---- Comparing.
+
+/// Ends the program where two answers or two buffers differ.
+fn agree(who: &str, turn: usize, call: &Call, own: (u64, &[u16]), expected: (u64, &[u16])) {
+    if own == expected {
+        return;
+    }
+    eprintln!("call {turn}: format {}, depth {}, {} symbols", call.format, call.depth, call.symbols.len());
+    eprintln!("{who} answers {} {}, the simple version {} {}", own.0 % 256, own.0 / 256, expected.0 % 256, expected.0 / 256);
+    if let Some(i) = (0..own.1.len()).find(|&i| own.1[i] != expected.1[i]) {
+        eprintln!("word {} is {:03x}, in the simple version {:03x}", i as isize - MARGIN as isize, own.1[i], expected.1[i]);
+    }
+    std::process::exit(1);
+}
+
+/// Words on both sides of the lent buffer, which must stay as they are.
+const MARGIN: usize = 8;
+
+/// Buffers come with chance in them: what a refusal must leave alone, or make zero, is compared too.
+fn compare(code: &Code, tables: &Tables) {
+    const CALLS: usize = 6_000;
+    const SEED: u64 = 1;
+    let mut random = Random(SEED);
+    let mut answers = [0; 27];
+    let (mut repaired, mut blanking) = (0, 0);
+    for turn in 0..CALLS {
+        let (call, room) = random_call(&mut random, code);
+        let before = random.numbers(room + 2 * MARGIN);
+        let (mut expected, mut own, mut other) = (before.clone(), before.clone(), before.clone());
+        let lent = MARGIN..MARGIN + room;
+        let right = simple(code, &call, &mut expected[lent.clone()]);
+        let answer = library(&call, &mut own[lent.clone()]);
+        let fast_answer = fast(code, tables, &call, &mut other[lent.clone()]);
+        let number = right % 256;
+        assert!(!(1..20).contains(&number) || before == expected);
+        assert!(number < 20 || expected[lent].iter().all(|&word| word == 0));
+        agree("the library", turn, &call, (answer, &own), (right, &expected));
+        agree("the fast version", turn, &call, (fast_answer, &other), (right, &expected));
+        agree("the library without rows", turn, &call, (library_judges(&call), &[]), (simple_judges(code, &call), &[]));
+        answers[number as usize] += 1;
+        repaired += (number == 0 && right >> 10 & 63 != 0) as usize;
+        blanking += (number == 0 && !active((right >> 16) as u16)) as usize;
+    }
+    assert!([0, 1, 3, 4, 20, 21, 22, 23, 24, 25, 26].iter().all(|&number| 50 < answers[number]), "{answers:?}");
+    assert!(50 < repaired && 50 < blanking);
+    let refused: Vec<String> = (1..27).filter(|&n| answers[n] != 0).map(|n| format!("{} by {n}", answers[n])).collect();
+    println!("the library and plain Rust agree on {CALLS} calls of seed {SEED}: {} delivered, refused {}", answers[0], refused.join(", "));
+}
+
+/// Every bit of a span inverted, one at a time: none is delivered, and both versions name the same place.
+fn compare_flips(code: &Code) {
+    let mut random = Random(3);
+    let shape = shape(1).unwrap();
+    let mut words = made_words(&mut random, shape, 12, 100);
+    put_crcc(shape, &mut words);
+    let symbols = made_symbols(code, &made_characters(&mut random, shape, &words), false);
+    let mut call = Call { format: 1, depth: 12, symbols };
+    let (mut own, mut expected) = (vec![7; 1920 * shape.s], vec![7; 1920 * shape.s]);
+    assert_eq!(library(&call, &mut own) % 256, 0);
+    for i in 0..call.symbols.len() {
+        for bit in 0..10 {
+            call.symbols[i] ^= 1 << bit;
+            let right = simple(code, &call, &mut expected);
+            assert!(right % 256 >= 20);
+            let answer = library(&call, &mut own);
+            agree("the library", 10 * i + bit, &call, (answer, &own), (right, &expected));
+            call.symbols[i] ^= 1 << bit;
+        }
+    }
+    println!("{} spans with one bit inverted are refused alike", 10 * call.symbols.len());
+}
+
+// ---- Measuring.
+
+/// Spans in one turn.
+const SPANS: usize = 8;
+
+fn timed(least: &mut f64, calls: &[Call], work: impl Fn(&Call) -> u64) {
+    let start = Instant::now();
+    for call in calls {
+        assert_eq!(work(call) % 256, 0);
+    }
+    *least = least.min(start.elapsed().as_secs_f64());
+}
+
+/// The best of 3,000 turns each, taken in turn.
+fn measure(code: &Code, tables: &Tables, label: &str, format: u8, depth: u8, line: u16) {
+    let shape = shape(format).unwrap();
+    let mut random = Random(2);
+    let calls: Vec<Call> = (0..SPANS)
+        .map(|k| {
+            let mut words = made_words(&mut random, shape, depth, line);
+            put_crcc(shape, &mut words);
+            let symbols = made_symbols(code, &made_characters(&mut random, shape, &words), k % 2 == 1);
+            Call { format, depth, symbols }
+        })
+        .collect();
+    let buffer = || std::cell::RefCell::new(vec![0; 1920 * shape.s]);
+    let (own, plain, quick) = (buffer(), buffer(), buffer());
+    let mut least = [f64::MAX; 4];
+    for _ in 0..3_000 {
+        timed(&mut least[0], &calls, |call| library(call, &mut own.borrow_mut()));
+        timed(&mut least[1], &calls, |call| simple(code, call, &mut plain.borrow_mut()));
+        timed(&mut least[2], &calls, |call| fast(code, tables, call, &mut quick.borrow_mut()));
+        timed(&mut least[3], &calls, library_judges);
+    }
+    assert!(own == plain && quick == plain);
+    let [a, b, c, d] = least.map(|time| (SPANS * shape.symbols()) as f64 / time / 1e6);
+    println!("{label}, M symbols/s: library {a:.0}, simple {b:.0}, fast {c:.0}, the wire 1069; the library without rows {d:.0}");
+    println!("  time of the library over that of the simple version {:.2}, of the fast one {:.2}", b / a, c / a);
+}
+
+fn main() {
+    let code = code();
+    let tables = tables(&code);
+    compare(&code, &tables);
+    compare_flips(&code);
+    if std::env::args().nth(1).as_deref() == Some("compare") {
+        return;
+    }
+    measure(&code, &tables, "format 1, 12 bits", 1, 12, 100);
+    measure(&code, &tables, "format 2, 12 bits", 2, 12, 100);
+    measure(&code, &tables, "format 3, 12 bits", 3, 12, 100);
+    measure(&code, &tables, "format 1, 10 bits", 1, 10, 100);
+    measure(&code, &tables, "format 1, a blanking line", 1, 12, 1);
+}
