@@ -40,11 +40,11 @@ fn timing_holds(t: &[u16; 1024], p: Shape, symbols: &[u16], k: usize) -> bool
     let j = k / (2 * p.half);
     let w = crate::words::word_at(t, p, symbols, k);
     if j < 4 {
-        return timing::timing::is_timing(false, j, w);
+        return timing_code::timing::is_timing(false, j, w);
     }
     if 1924 <= j {
         if j < 1928 {
-            return timing::timing::is_timing(true, j - 1924, w);
+            return timing_code::timing::is_timing(true, j - 1924, w);
         }
     }
     true
@@ -81,10 +81,10 @@ fn v_holds(t: &[u16; 1024], p: Shape, symbols: &[u16], next: StreamLine, k: usiz
     let j = k / (2 * p.half);
     let w = crate::words::word_at(t, p, symbols, k);
     if j == 3 {
-        return timing::timing::v_in(w) == line::stream::v_of(line::stream::line_before(next));
+        return timing_code::timing::v_in(w) == line::stream::v_of(line::stream::line_before(next));
     }
     if j == 1927 {
-        return timing::timing::v_in(w) == line::stream::v_of(next);
+        return timing_code::timing::v_in(w) == line::stream::v_of(next);
     }
     true
 }
@@ -101,7 +101,7 @@ fn crcc_behind(t: &[u16; 1024], p: Shape, symbols: &[u16], i: usize, c: u32) -> 
     let c2 = word::crcc::crc_word(c1, crate::words::word_at(t, p, symbols, at + s));
     let c3 = word::crcc::crc_word(c2, crate::words::word_at(t, p, symbols, at + 2 * s));
     let xyz = crate::words::word_at(t, p, symbols, at + 3 * s);
-    let c4 = word::crcc::crc_word(c3, timing::timing::repaired_word(xyz));
+    let c4 = word::crcc::crc_word(c3, timing_code::timing::repaired_word(xyz));
     let c5 = word::crcc::crc_word(c4, crate::words::word_at(t, p, symbols, at + 4 * s));
     word::crcc::crcc_words(word::crcc::crc_word(
         c5,
@@ -217,8 +217,13 @@ pub(crate) fn wrong_in_all(t: &[u16; 1024], p: Shape, symbols: &[u16]) -> u8
     let mut sum = 0;
     let mut i = 0;
     while i < s {
-        let sav = timing::timing::wrong_bits(crate::words::word_at(t, p, symbols, 3 * s + i));
-        let eav = timing::timing::wrong_bits(crate::words::word_at(t, p, symbols, 1927 * s + i));
+        let sav = timing_code::timing::wrong_bits(crate::words::word_at(t, p, symbols, 3 * s + i));
+        let eav = timing_code::timing::wrong_bits(crate::words::word_at(
+            t,
+            p,
+            symbols,
+            1927 * s + i,
+        ));
         sum = sum + (sav + eav);
         i += 1;
     }

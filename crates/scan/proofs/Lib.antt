@@ -1,2 +1,3 @@
+pub mod Gathering
 pub mod Runs
 pub mod Window

@@ -21,8 +21,8 @@ use Rattle.decoder.proofs.Masks.{legal-mask, after-mask}
 use Rattle.decoder.proofs.Reading.{legal-is, entry-in}
 use Rattle.window.specs.Scan.{meant, symbolAt, startOf, runningAt}
 use Rattle.window.proofs.Symbols.{meant-entry, some-meant, running-on}
-use Rattle.scan.specs.declared.scan.Run.{Run}
-use Rattle.scan.specs.Run.{suitsBy, suits, stop, ranOn}
+use Rattle.scan.specs.declared.run.Run.{Run}
+use Rattle.scan.specs.Run.{suitsBy, suits, stop, ranOn, Going}
 
 module _ (w : List ℕ) (low high : ℕ) where
   -- what the table says of a symbol is so
@@ -41,30 +41,26 @@ module _ (w : List ℕ) (low high : ℕ) where
       let legal = some-meant d s (both-left (isSome (charOf d s)) (within low high (meant s)) t) in
       after-mask d s (meant s) legal ∙ ap maskOf (sym (running-on w i)) ∙ ap (λ (k : ℕ). maskOf (runningAt w k)) (sym (add-one i))
 
-  -- a run that has come from one place to i
-  pub record Going (from i mask : ℕ) : Type 0 where
-    pub come : from ≤ i
-    pub bit : mask ≡ maskOf (runningAt w i)
-    pub suited : (j : ℕ) → from ≤ j → j < i → suits w low high j ≡ true
-
-  pub begin : (from mask : ℕ) → mask ≡ maskOf (runningAt w from) → Going from from mask
+  pub begin : (from mask : ℕ) → mask ≡ maskOf (runningAt w from) → Going w low high from from mask
   begin from mask e = record { come = omega arith; bit = e; suited = λ j h l. absurd (omega arith) }
 
-  module _ {from i mask e : ℕ} (g : Going from i mask) (is : e ≡ entryIn decodingTable (symbolAt w i)) where
+  -- one symbol more
+  pub further : {from i mask next : ℕ} → Going w low high from i mask → suits w low high i ≡ true → next ≡ maskOf (runningAt w (i + 1))
+      → Going w low high from (i + 1) next
+  further {from} {i} g here bit =
+      record { come = omega (arith, g .come); bit = bit; suited = λ j h l. ⊎-elim (λ q. rw q at here) (λ q. g .suited j h q) (sooner j l) }
+    where
+      sooner : (j : ℕ) → j < i + 1 → (i ≡ j) ⊎ (j < i)
+      sooner j l = ⊎-elim (λ q. inl (sym q)) (λ q. inr q) (eq-or-lt-of-le (let b : j ≤ i = omega arith in b))
+
+  module _ {from i mask e : ℕ} (g : Going w low high from i mask) (is : e ≡ entryIn decodingTable (symbolAt w i)) where
     asked : suitsBy low high mask e ≡ suits w low high i
     asked = rw (is, entry-in (symbolAt w i), g .bit) (suits-is i)
 
-    pub turn : suitsBy low high mask e ≡ true → Going from (i + 1) (afterBy mask e)
+    pub turn : suitsBy low high mask e ≡ true → Going w low high from (i + 1) (afterBy mask e)
     turn t =
         let here : suits w low high i ≡ true = sym asked ∙ t in
-        record {
-          come = omega (arith, g .come);
-          bit = rw (is, entry-in (symbolAt w i), g .bit) (after-suits i here);
-          suited = λ j h l. ⊎-elim (λ q. rw q at here) (λ q. g .suited j h q) (sooner j l);
-        }
-      where
-        sooner : (j : ℕ) → j < i + 1 → (i ≡ j) ⊎ (j < i)
-        sooner j l = ⊎-elim (λ q. inl (sym q)) (λ q. inr q) (eq-or-lt-of-le (let b : j ≤ i = omega arith in b))
+        further g here (rw (is, entry-in (symbolAt w i), g .bit) (after-suits i here))
 
     -- it stops at the first symbol that does not suit
     pub stops : (to : ℕ) → i < to → suitsBy low high mask e ≡ false → stop w low high from to ≡ i
@@ -76,7 +72,7 @@ module _ (w : List ℕ) (low high : ℕ) where
         (rw end (record { from = g .come; below = h; holds = ap not (sym asked ∙ t); least = λ j p q. ap not (g .suited j p q) })))
 
   -- or comes to the end
-  pub ends : {from to mask : ℕ} → Going from to mask → stop w low high from to ≡ to
+  pub ends : {from to mask : ℕ} → Going w low high from to mask → stop w low high from to ≡ to
   unfolding stop
   ends {from} {to} {mask} g =
       let test : ℕ → Bool = λ (k : ℕ). not (suits w low high k) in

@@ -23,7 +23,7 @@ use Rattle.span.specs.declared.format.Shape.{Shape}
 use Rattle.span.specs.Format.{eavAt}
 use Rattle.window.specs.Scan.{meant, symbolAt, startOf, runningAt, fits, holds20}
 use Rattle.window.proofs.Symbols.{fits-sav, fits-eav, fits-byte}
-use Rattle.scan.specs.declared.scan.Run.{Run}
+use Rattle.scan.specs.declared.run.Run.{Run}
 use Rattle.scan.specs.Run.{suits, stop, ranOn, place20, scannedOf}
 
 -- ---- the kinds of characters as ranges of numbers

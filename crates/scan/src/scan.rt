@@ -1,25 +1,17 @@
 // One pass over the symbols of a window, at the running disparity (document 01, refusal 20).
+use crate::run::Run;
 use span::format::Format;
 use symbol::disparity::Disparity;
 ghost use mathlib.Core.Path.{_≡_};
-ghost use Prim.Native.Nat.{_≤_, min, max};
-ghost use lib.ListN.{length};
-ghost use Rattle.decoder.specs.Decoder.{decodingTable, maskOf};
+ghost use Prim.Native.Nat.{max};
 ghost use Rattle.span.specs.Format.{shapeOf};
-ghost use Rattle.window.specs.Scan.{startOf, runningAt};
-ghost use Rattle.scan.specs.Run.{suitsBy, ranOn, scannedOf};
+ghost use Rattle.window.specs.Scan.{startOf};
+ghost use Rattle.scan.specs.Run.{scannedOf};
 
 // The numbers of the special characters at which SAV and EAV begin.
 const K28_5: u16 = 261;
 
 const K29_7: u16 = 266;
-
-// How far the symbols are as they should be: the place of the first that is not, or of the end, and the bit of an entry that stands for
-// the disparity before it.
-struct Run {
-    place: usize,
-    mask: u16,
-}
 
 pub struct Scanned {
     // The first symbol at which test 20 does not hold; the number of symbols where it holds at all.
@@ -34,50 +26,6 @@ fn greatest(a: usize, b: usize) -> usize
     ensures { λ r. ⌜ r ≡ max a b ⌝ }
 {
     if a < b { b } else { a }
-}
-
-// Whether an entry is legal at the disparity of the bit, and its character's number from low to high.
-fn suits(low: u16, high: u16, mask: u16, e: u16) -> bool
-    ensures { λ r. ⌜ r ≡ suitsBy low high mask e ⌝ }
-{
-    if decoder::table::legal_by(mask, e) {
-        return ground::range::within(low, high, e % 512);
-    }
-    false
-}
-
-// The symbols from one place to another, where all before are as they should be: characters from low to high.
-fn run_on(
-    t: &[u16; 1024],
-    symbols: &[u16],
-    low: u16,
-    high: u16,
-    from: usize,
-    to: usize,
-    r: Run,
-) -> Run
-    requires { ⌜ now t ≡ decodingTable ⌝ }
-    requires { ⌜ from ≤ to ⌝ }
-    requires { ⌜ to ≤ length (now symbols) ⌝ }
-    requires { ⌜ r .mask ≡ maskOf (runningAt (now symbols) (r .place)) ⌝ }
-    requires { ⌜ r .place ≤ from ⌝ }
-    ensures { λ e. ⌜ e ≡ ranOn (now (symbols .entry)) low high from to r ⌝ }
-{
-    if r.place < from {
-        return r;
-    }
-    let mut mask = r.mask;
-    let mut i = from;
-    while i < to {
-        let e = decoder::table::entry(t, symbols[i]);
-        if suits(low, high, mask, e) {
-            mask = decoder::table::after_by(mask, e);
-            i += 1;
-        } else {
-            return Run { place: i, mask };
-        }
-    }
-    Run { place: to, mask }
 }
 
 // The disparity whose K28.5 is symbol 0.
@@ -107,10 +55,10 @@ pub fn scan(f: Format, symbols: &[u16]) -> Scanned
         place: 0,
         mask: decoder::table::mask_of(before),
     };
-    let a = run_on(&t, symbols, K28_5, K28_5, 0, sav, start);
-    let b = run_on(&t, symbols, 0, 255, sav, eav, a);
-    let c = run_on(&t, symbols, K29_7, K29_7, eav, behind, b);
-    let d = run_on(&t, symbols, 0, 255, behind, n, c);
+    let a = crate::run::run_on(&t, symbols, K28_5, K28_5, 0, sav, start);
+    let b = crate::bytes::run_bytes(&t, symbols, sav, 12 * p.half, eav, a);
+    let c = crate::run::run_on(&t, symbols, K29_7, K29_7, eav, behind, b);
+    let d = crate::bytes::run_bytes(&t, symbols, behind, 5796 * p.half, n, c);
     Scanned {
         place: d.place,
         before,

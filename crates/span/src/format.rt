@@ -1,6 +1,5 @@
 // Formats as the caller wrote them, and what the known ones mean (document 01, "A span").
 ghost use mathlib.Core.Path.{_≡_};
-ghost use lib.Dec.{eqb};
 ghost use Rattle.span.specs.Format.{isKnown as known, shapeOf};
 
 // The number of the format and the depth in bits, any numbers: the calls that take a format refuse what is unknown.
@@ -34,13 +33,6 @@ pub fn is_known(f: Format) -> bool
         return f.depth == 12;
     }
     false
-}
-
-// Whether samples have ten bits.
-pub(crate) fn is_ten_bits(f: Format) -> bool
-    ensures { λ r. ⌜ r ≡ eqb (f .depth) 10 ⌝ }
-{
-    f.depth == 10
 }
 
 // The bits of a sample.

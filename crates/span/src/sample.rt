@@ -22,7 +22,7 @@ pub fn bounds_of(f: Format, l: StreamLine) -> Bounds
     ensures { λ r. ⌜ r ≡ boundsOf f (l .0) ⌝ }
 {
     if line::stream::is_active(l) {
-        if crate::format::is_ten_bits(f) {
+        if crate::format::depth_of(f) == 10 {
             return between(4, 1019, 4);
         }
         return between(16, 4079, 1);

@@ -48,7 +48,8 @@ mask-of-requires c κs = search needs
 
 run-on-requires : tie.Need-run-on-requires
 run-on-requires c κs =
-    let w = c .before .before .before .before .before .before .before .before .before .before .before .before .before .args .symbols .now in
+    let s = c .before .before .before .before .before .before .before .before .before .before .before .before .before in
+    let w = s .args .symbols .now in
     let p = c .before .before .before .before .before .before .before .before .before .before .shape-of .result in
     let first = c .before .before .before .before .before .before .before .before .before .least .ensures in
     let begins = c .before .before .before .before .before .before .before .least2 .ensures in
@@ -58,51 +59,44 @@ run-on-requires c κs =
     let bit = c .before .mask-of .ensures ∙ ap maskOf (c .before .before .start-of .ensures ∙ sym (running-start w)) in
     (c .before .before .before .before .before .before .before .before .before .before .before .decoding-table .ensures, (omega arith, (omega (arith, first), (bit, omega arith))))
 
+mul-run-bytes : tie.Need-mul-run-bytes
+mul-run-bytes c = omega (arith, small _ (c .before .before .before .before .before .before .before .before .before .before .before .before .before .shape-of .ensures) .half)
+
+run-bytes-requires : tie.Need-run-bytes-requires
+run-bytes-requires c κs =
+    let s = c .before .before .before .before .before .before .before .before .before .before .before .before .before .before .before .before in
+    let w = s .args .symbols .now in
+    let p = c .before .before .before .before .before .before .before .before .before .before .before .before .before .shape-of .result in
+    let first = c .before .before .before .before .before .before .before .before .before .before .before .before .least .ensures in
+    let begins = c .before .before .before .before .before .before .before .before .before .before .least2 .ensures in
+    let second = c .before .before .before .before .before .before .before .before .before .greatest .ensures in
+    let ends = c .before .before .before .before .before .before .before .least3 .ensures in
+    let third = c .before .before .before .before .before .before .greatest2 .ensures in
+    let bit = c .before .before .before .before .mask-of .ensures ∙ ap maskOf (c .before .before .before .before .before .start-of .ensures ∙ sym (running-start w)) in
+    let r = ran-1 p w first begins second ends third _ (not-yet p w _ refl bit) (c .before .before .run-on .ensures) in
+    (c .before .before .before .before .before .before .before .before .before .before .before .before .before .before .decoding-table .ensures, (omega (arith, second), (omega (arith, first, begins, second), (r .bit, r .within-to))))
+
 run-on-requires-2 : tie.Need-run-on-requires-2
 run-on-requires-2 c κs =
-    let w = c .before .before .before .before .before .before .before .before .before .before .before .before .before .before .before .args .symbols .now in
-    let p = c .before .before .before .before .before .before .before .before .before .before .before .before .shape-of .result in
-    let first = c .before .before .before .before .before .before .before .before .before .before .before .least .ensures in
-    let begins = c .before .before .before .before .before .before .before .before .before .least2 .ensures in
-    let second = c .before .before .before .before .before .before .before .before .greatest .ensures in
-    let ends = c .before .before .before .before .before .before .least3 .ensures in
-    let third = c .before .before .before .before .before .greatest2 .ensures in
-    let bit = c .before .before .before .mask-of .ensures ∙ ap maskOf (c .before .before .before .before .start-of .ensures ∙ sym (running-start w)) in
-    let r = ran-1 p w first begins second ends third _ (not-yet p w _ refl bit) (c .before .run-on .ensures) in
-    (c .before .before .before .before .before .before .before .before .before .before .before .before .before .decoding-table .ensures, (omega (arith, second), (omega (arith, first, begins, second), (r .bit, r .within-to))))
+    let s = c .before .before .before .before .before .before .before .before .before .before .before .before .before .before .before .before .before .before in
+    let w = s .args .symbols .now in
+    let p = c .before .before .before .before .before .before .before .before .before .before .before .before .before .before .before .shape-of .result in
+    let first = c .before .before .before .before .before .before .before .before .before .before .before .before .before .before .least .ensures in
+    let begins = c .before .before .before .before .before .before .before .before .before .before .before .before .least2 .ensures in
+    let second = c .before .before .before .before .before .before .before .before .before .before .before .greatest .ensures in
+    let ends = c .before .before .before .before .before .before .before .before .before .least3 .ensures in
+    let third = c .before .before .before .before .before .before .before .before .greatest2 .ensures in
+    let bit = c .before .before .before .before .before .before .mask-of .ensures ∙ ap maskOf (c .before .before .before .before .before .before .before .start-of .ensures ∙ sym (running-start w)) in
+    let r = ran-2 p w first begins second ends third _ (not-yet p w _ refl bit) (c .before .before .before .before .run-on .ensures) (c .before .run-bytes .ensures) in
+    (c .before .before .before .before .before .before .before .before .before .before .before .before .before .before .before .before .decoding-table .ensures, (omega (arith, first, begins, second, ends, third), (omega (arith, first, ends, third), (r .bit, r .within-to))))
 
-run-on-requires-3 : tie.Need-run-on-requires-3
-run-on-requires-3 c κs =
-    let w = c .before .before .before .before .before .before .before .before .before .before .before .before .before .before .before .before .before .args .symbols .now in
-    let p = c .before .before .before .before .before .before .before .before .before .before .before .before .before .before .shape-of .result in
-    let first = c .before .before .before .before .before .before .before .before .before .before .before .before .before .least .ensures in
-    let begins = c .before .before .before .before .before .before .before .before .before .before .before .least2 .ensures in
-    let second = c .before .before .before .before .before .before .before .before .before .before .greatest .ensures in
-    let ends = c .before .before .before .before .before .before .before .before .least3 .ensures in
-    let third = c .before .before .before .before .before .before .before .greatest2 .ensures in
-    let bit = c .before .before .before .before .before .mask-of .ensures ∙ ap maskOf (c .before .before .before .before .before .before .start-of .ensures ∙ sym (running-start w)) in
-    let r = ran-2 p w first begins second ends third _ (not-yet p w _ refl bit) (c .before .before .before .run-on .ensures) (c .before .run-on2 .ensures) in
-    (c .before .before .before .before .before .before .before .before .before .before .before .before .before .before .before .decoding-table .ensures, (omega (arith, first, begins, second, ends, third), (omega (arith, first, ends, third), (r .bit, r .within-to))))
+mul-run-bytes-2 : tie.Need-mul-run-bytes-2
+mul-run-bytes-2 c = omega (arith, small _ (c .before .before .before .before .before .before .before .before .before .before .before .before .before .before .before .before .before .before .shape-of .ensures) .half)
 
-run-on-requires-4 : tie.Need-run-on-requires-4
-run-on-requires-4 c κs =
-    let w = c .before .before .before .before .before .before .before .before .before .before .before .before .before .before .before .before .before .before .before .args .symbols .now in
-    let p = c .before .before .before .before .before .before .before .before .before .before .before .before .before .before .before .before .shape-of .result in
-    let first = c .before .before .before .before .before .before .before .before .before .before .before .before .before .before .before .least .ensures in
-    let begins = c .before .before .before .before .before .before .before .before .before .before .before .before .before .least2 .ensures in
-    let second = c .before .before .before .before .before .before .before .before .before .before .before .before .greatest .ensures in
-    let ends = c .before .before .before .before .before .before .before .before .before .before .least3 .ensures in
-    let third = c .before .before .before .before .before .before .before .before .before .greatest2 .ensures in
-    let bit = c .before .before .before .before .before .before .before .mask-of .ensures ∙ ap maskOf (c .before .before .before .before .before .before .before .before .start-of .ensures ∙ sym (running-start w)) in
-    let r = ran-3 p w first begins second ends third _ (not-yet p w _ refl bit) (c .before .before .before .before .before .run-on .ensures) (c .before .before .before .run-on2 .ensures) (c .before .run-on3 .ensures) in
-    (c .before .before .before .before .before .before .before .before .before .before .before .before .before .before .before .before .before .decoding-table .ensures, (omega (arith, first, ends, third), (omega arith, (r .bit, r .within-to))))
-
-disparity-of-requires : tie.Need-disparity-of-requires
-disparity-of-requires c κs = search needs
-
-returns : tie.Need-returns
-returns c =
-    let w = c .before .before .before .before .before .before .before .before .before .before .before .before .before .before .before .before .before .before .before .before .before .args .symbols .now in
+run-bytes-requires-2 : tie.Need-run-bytes-requires-2
+run-bytes-requires-2 c κs =
+    let s = c .before .before .before .before .before .before .before .before .before .before .before .before .before .before .before .before .before .before .before .before .before in
+    let w = s .args .symbols .now in
     let p = c .before .before .before .before .before .before .before .before .before .before .before .before .before .before .before .before .before .before .shape-of .result in
     let first = c .before .before .before .before .before .before .before .before .before .before .before .before .before .before .before .before .before .least .ensures in
     let begins = c .before .before .before .before .before .before .before .before .before .before .before .before .before .before .before .least2 .ensures in
@@ -110,8 +104,25 @@ returns c =
     let ends = c .before .before .before .before .before .before .before .before .before .before .before .before .least3 .ensures in
     let third = c .before .before .before .before .before .before .before .before .before .before .before .greatest2 .ensures in
     let bit = c .before .before .before .before .before .before .before .before .before .mask-of .ensures ∙ ap maskOf (c .before .before .before .before .before .before .before .before .before .before .start-of .ensures ∙ sym (running-start w)) in
-    let r = ran-4 p w first begins second ends third _ (not-yet p w _ refl bit) (c .before .before .before .before .before .before .before .run-on .ensures) (c .before .before .before .before .before .run-on2 .ensures) (c .before .before .before .run-on3 .ensures) (c .before .run-on4 .ensures) in
-    rw (c .disparity-of .ensures, c .before .before .before .before .before .before .before .before .before .before .start-of .ensures, ← (c .before .before .before .before .before .before .before .before .before .before .before .before .before .before .before .before .before .before .shape-of .ensures)) (scanned-is p w _ r)
+    let r = ran-3 p w first begins second ends third _ (not-yet p w _ refl bit) (c .before .before .before .before .before .before .before .run-on .ensures) (c .before .before .before .before .run-bytes .ensures) (c .before .before .run-on2 .ensures) in
+    (c .before .before .before .before .before .before .before .before .before .before .before .before .before .before .before .before .before .before .before .decoding-table .ensures, (omega (arith, first, ends, third), (omega arith, (r .bit, r .within-to))))
+
+disparity-of-requires : tie.Need-disparity-of-requires
+disparity-of-requires c κs = search needs
+
+returns : tie.Need-returns
+returns c =
+    let s = c .before .before .before .before .before .before .before .before .before .before .before .before .before .before .before .before .before .before .before .before .before .before .before in
+    let w = s .args .symbols .now in
+    let p = c .before .before .before .before .before .before .before .before .before .before .before .before .before .before .before .before .before .before .before .before .shape-of .result in
+    let first = c .before .before .before .before .before .before .before .before .before .before .before .before .before .before .before .before .before .before .before .least .ensures in
+    let begins = c .before .before .before .before .before .before .before .before .before .before .before .before .before .before .before .before .before .least2 .ensures in
+    let second = c .before .before .before .before .before .before .before .before .before .before .before .before .before .before .before .before .greatest .ensures in
+    let ends = c .before .before .before .before .before .before .before .before .before .before .before .before .before .before .least3 .ensures in
+    let third = c .before .before .before .before .before .before .before .before .before .before .before .before .before .greatest2 .ensures in
+    let bit = c .before .before .before .before .before .before .before .before .before .before .before .mask-of .ensures ∙ ap maskOf (c .before .before .before .before .before .before .before .before .before .before .before .before .start-of .ensures ∙ sym (running-start w)) in
+    let r = ran-4 p w first begins second ends third _ (not-yet p w _ refl bit) (c .before .before .before .before .before .before .before .before .before .run-on .ensures) (c .before .before .before .before .before .before .run-bytes .ensures) (c .before .before .before .before .run-on2 .ensures) (c .before .run-bytes2 .ensures) in
+    rw (c .disparity-of .ensures, c .before .before .before .before .before .before .before .before .before .before .before .before .start-of .ensures, ← (c .before .before .before .before .before .before .before .before .before .before .before .before .before .before .before .before .before .before .before .before .shape-of .ensures)) (scanned-is p w _ r)
 
 pub scan-spec : {M : Type 1} → statement M
 scan-spec =
@@ -130,8 +141,10 @@ scan-spec =
     start-of-requires
     mask-of-requires
     run-on-requires
+    mul-run-bytes
+    run-bytes-requires
     run-on-requires-2
-    run-on-requires-3
-    run-on-requires-4
+    mul-run-bytes-2
+    run-bytes-requires-2
     disparity-of-requires
     returns)

@@ -4,6 +4,7 @@ use mathlib.Core.Path.{_≡_, sym, _∙_}
 use mathlib.Core.Bool.{true, false}
 use Prim.Native.Nat.{ℕ}
 use lib.Dec.{eqb}
+use borrow.Author.Tests.{eq-eqb, ne-eqb}
 use Rattle.line.specs.Stream.{isActive}
 use Rattle.span.specs.declared.format.Format.{Format}
 use Rattle.span.specs.Sample.{boundsOf}
@@ -24,8 +25,8 @@ module _ (f : Format) (n : ℕ) where
 is-active-requires : tie.Need-is-active-requires
 is-active-requires c κs = search needs
 
-is-ten-bits-requires : tie.Need-is-ten-bits-requires
-is-ten-bits-requires c κs = search needs
+depth-of-requires : tie.Need-depth-of-requires
+depth-of-requires c κs = search needs
 
 between-requires : tie.Need-between-requires
 between-requires c κs = search needs
@@ -35,7 +36,7 @@ returns c =
     let a = c .before .before .before .before .before .args in
     c .between .ensures
     ∙ sym (ten (a .f) (a .l .0) (sym (c .before .before .before .before .is-active .ensures) ∙ c .before .before .before .if1 .taken)
-    (sym (c .before .before .is-ten-bits .ensures) ∙ c .before .if2 .taken))
+    (eq-eqb (a .f .depth) 10 (sym (c .before .before .depth-of .ensures) ∙ c .before .if2 .taken)))
 
 between-requires-2 : tie.Need-between-requires-2
 between-requires-2 c κs = search needs
@@ -45,7 +46,7 @@ returns-2 c =
     let a = c .before .before .before .before .before .args in
     c .between2 .ensures
     ∙ sym (twelve (a .f) (a .l .0) (sym (c .before .before .before .before .is-active .ensures) ∙ c .before .before .before .if1 .taken)
-    (sym (c .before .before .is-ten-bits .ensures) ∙ c .before .if2 .left))
+    (ne-eqb (a .f .depth) 10 (λ q. c .before .if2 .left (c .before .before .depth-of .ensures ∙ q))))
 
 between-requires-3 : tie.Need-between-requires-3
 between-requires-3 c κs = search needs
@@ -60,7 +61,7 @@ bounds-of-spec =
     tie.close
     (tie.spec
     is-active-requires
-    is-ten-bits-requires
+    depth-of-requires
     between-requires
     returns
     between-requires-2

@@ -1,13 +1,13 @@
--- `timing::timing::wrong_bits` meets its contract.
+-- `timing_code::timing::wrong_bits` meets its contract.
 -- Assumes nothing.
 use mathlib.Core.Path.{_≡_, ap, _∙_}
 use Prim.Native.Nat.{ℕ, _%_}
 use native.Mathlib.Omega.{arith}
 use Rattle.window.specs.Tests.{repaired}
-use Rattle.timing.proofs.Near.{bits-told, few-bits}
+use Rattle.timing_code.proofs.Near.{bits-told, few-bits}
 use borrow.Author.Needs.{needs}
-use Rattle.timing.proofs.timing.wrong_bits.Statement.{statement}
-use Rattle.timing.proofs.timing.wrong_bits.Tie as tie
+use Rattle.timing_code.proofs.timing.wrong_bits.Statement.{statement}
+use Rattle.timing_code.proofs.timing.wrong_bits.Tie as tie
 
 repaired-word-requires : tie.Need-repaired-word-requires
 repaired-word-requires c κs = search needs

@@ -1,4 +1,4 @@
--- `timing::timing::is_timing` meets its contract.
+-- `timing_code::timing::is_timing` meets its contract.
 -- Assumes nothing.
 use mathlib.Core.Path.{sym, ap, _∙_}
 use mathlib.Core.Bool.{Bool}
@@ -6,10 +6,10 @@ use lib.Dec.{eqb}
 use Rattle.word.specs.Timing.{bit}
 use Prim.Native.Nat.{_%_, _≤_}
 use native.Mathlib.Omega.{arith}
-use Rattle.timing.proofs.Near.{first-word, other-words, no-timing, is-h}
+use Rattle.timing_code.proofs.Near.{first-word, other-words, no-timing, is-h}
 use borrow.Author.Needs.{needs}
-use Rattle.timing.proofs.timing.is_timing.Statement.{statement}
-use Rattle.timing.proofs.timing.is_timing.Tie as tie
+use Rattle.timing_code.proofs.timing.is_timing.Statement.{statement}
+use Rattle.timing_code.proofs.timing.is_timing.Tie as tie
 
 returns : tie.Need-returns
 returns c = first-word (c .before .args .w % 4096) _ _ (c .if1 .taken)

@@ -1,9 +1,9 @@
--- `scan::scan::suits` meets its contract.
+-- `scan::run::suits` meets its contract.
 -- Assumes nothing.
 use mathlib.Core.Path.{sym, _∙_}
 use borrow.Author.Needs.{needs}
-use Rattle.scan.proofs.scan.suits.Statement.{statement}
-use Rattle.scan.proofs.scan.suits.Tie as tie
+use Rattle.scan.proofs.run.suits.Statement.{statement}
+use Rattle.scan.proofs.run.suits.Tie as tie
 
 legal-by-requires : tie.Need-legal-by-requires
 legal-by-requires c κs = search needs

@@ -1,11 +1,11 @@
--- `timing::timing::repaired_word` meets its contract.
+-- `timing_code::timing::repaired_word` meets its contract.
 -- Assumes nothing.
 use mathlib.Core.Path.{_∙_}
 use Prim.Native.Nat.{_%_}
-use Rattle.timing.proofs.Near.{repaired-told}
+use Rattle.timing_code.proofs.Near.{repaired-told}
 use borrow.Author.Needs.{needs}
-use Rattle.timing.proofs.timing.repaired_word.Statement.{statement}
-use Rattle.timing.proofs.timing.repaired_word.Tie as tie
+use Rattle.timing_code.proofs.timing.repaired_word.Statement.{statement}
+use Rattle.timing_code.proofs.timing.repaired_word.Tie as tie
 
 nearest-vh-requires : tie.Need-nearest-vh-requires
 nearest-vh-requires c κs = search needs

@@ -1,11 +1,11 @@
--- `timing::timing::nearest_vh` meets its contract.
+-- `timing_code::timing::nearest_vh` meets its contract.
 -- Assumes nothing.
-use Rattle.timing.proofs.Near.{word-near, none-near}
+use Rattle.timing_code.proofs.Near.{word-near, none-near}
 use native.Mathlib.Omega.{arith}
 use Prim.Native.Nat.{_%_, _<_}
 use borrow.Author.Needs.{needs}
-use Rattle.timing.proofs.timing.nearest_vh.Statement.{statement}
-use Rattle.timing.proofs.timing.nearest_vh.Tie as tie
+use Rattle.timing_code.proofs.timing.nearest_vh.Statement.{statement}
+use Rattle.timing_code.proofs.timing.nearest_vh.Tie as tie
 
 repair-timing-word-requires : tie.Need-repair-timing-word-requires
 repair-timing-word-requires c κs = search needs

@@ -1,4 +1,4 @@
--- `scan::scan::run_on` meets its contract: every symbol before i suits, and the bit is that of the running disparity there.
+-- `scan::run::run_on` meets its contract: every symbol before i suits, and the bit is that of the running disparity there.
 -- Assumes nothing.
 use mathlib.Core.Path.{_≡_, sym, ap, _∙_}
 use mathlib.Core.Bool.{true, false}
@@ -9,10 +9,10 @@ use borrow.Author.Needs.{needs}
 use borrow.Author.Tests.{lt-ltb}
 use Rattle.decoder.specs.Decoder.{decodingTable, entryIn}
 use Rattle.window.specs.Scan.{symbolAt}
-use Rattle.scan.specs.Run.{suitsBy}
-use Rattle.scan.proofs.Runs.{Going, begin, turn, stops, ends, ran}
-use Rattle.scan.proofs.scan.run_on.Statement.{statement}
-use Rattle.scan.proofs.scan.run_on.Tie as tie
+use Rattle.scan.specs.Run.{suitsBy, Going}
+use Rattle.scan.proofs.Runs.{begin, turn, stops, ends, ran}
+use Rattle.scan.proofs.run.run_on.Statement.{statement}
+use Rattle.scan.proofs.run.run_on.Tie as tie
 
 abbrev Inv-loop : tie.InvT-loop
 Inv-loop t symbols low high from to mask₀ i₀ mask i = (i ≤ to) × Going symbols low high from i mask

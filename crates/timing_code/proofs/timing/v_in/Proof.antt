@@ -1,10 +1,10 @@
--- `timing::timing::v_in` meets its contract.
+-- `timing_code::timing::v_in` meets its contract.
 -- Assumes nothing.
 use Prim.Native.Nat.{_%_}
-use Rattle.timing.proofs.Near.{v-told}
+use Rattle.timing_code.proofs.Near.{v-told}
 use borrow.Author.Needs.{needs}
-use Rattle.timing.proofs.timing.v_in.Statement.{statement}
-use Rattle.timing.proofs.timing.v_in.Tie as tie
+use Rattle.timing_code.proofs.timing.v_in.Statement.{statement}
+use Rattle.timing_code.proofs.timing.v_in.Tie as tie
 
 nearest-vh-requires : tie.Need-nearest-vh-requires
 nearest-vh-requires c κs = search needs

@@ -1,0 +1,136 @@
+-- Symbols that are to be bytes, gathered without a way out, and those of blanking words.
+-- Assumes nothing.
+use mathlib.Core.Path.{_≡_, refl, sym, ap, ap₂, _∙_}
+use mathlib.Core.Bool.{Bool, true, false, not, _&&_}
+use mathlib.Core.List.{List}
+use mathlib.Core.Option.{some}
+use Prim.Native.Nat.{ℕ, _+_, _*_, _/_, _%_, _≤_, _<_}
+use native.Mathlib.Numerals.{add-one}
+use native.Mathlib.Omega.{arith}
+use lib.Bits.{bitAnd, bitOr, bitXor, and-le-l, and-le-r, or-add-and, xor-add-and, and-high, or-shr, or-mod}
+use lib.Dec.{ltb}
+use borrow.Author.Tests.{ltb-true, ltb-false, ne-eqb}
+use Rattle.ground.specs.Range.{within}
+use Rattle.ground.proofs.Cases.{on-test}
+use Rattle.ground.proofs.Ranges.{is-within}
+use Rattle.symbol.specs.declared.disparity.Disparity.{Disparity}
+use Rattle.symbol.specs.declared.disparity.Disparity.the-variants.{Negative, Positive}
+use Rattle.symbol.specs.Code.{symbolOf, charOf, afterOf}
+use Rattle.symbol.proofs.Inverse.{decode-encode}
+use Rattle.decoder.specs.Decoder.{decodingTable, entryIn, legalBy, maskOf, ofMask, afterBy}
+use Rattle.decoder.proofs.Masks.{mask-again}
+use Rattle.window.specs.Scan.{meant, symbolAt, runningAt}
+use Rattle.window.proofs.Symbols.{meant-of, running-on}
+use Rattle.scan.specs.Run.{suitsBy, suits, Going, blankBy}
+use Rattle.scan.proofs.Runs.{begin, further, turn}
+
+-- ---- bits gathered
+
+pub or-left : (a b : ℕ) → bitOr a b ≡ 0 → a ≡ 0
+or-left a b z = omega (arith, or-add-and a b, and-le-r a b)
+
+pub or-right : (a b : ℕ) → bitOr a b ≡ 0 → b ≡ 0
+or-right a b z = omega (arith, or-add-and a b, and-le-l a b)
+
+xor-none : (a b : ℕ) → bitXor a b ≡ 0 → a ≡ b
+xor-none a b z = omega (arith, xor-add-and a b, and-le-l a b, and-le-r a b)
+
+-- bit 8
+abbrev special : ℕ → ℕ
+special e = e / 256 % 2
+
+pub no-special : (e : ℕ) → bitAnd e 256 ≡ 0 → special e ≡ 0
+no-special e z = omega (arith, and-high e 1 8)
+
+special-or : (a b : ℕ) → special (bitOr a b) ≡ bitOr (special a) (special b)
+special-or a b = ap (λ (x : ℕ). x % 2) (or-shr a b 8) ∙ or-mod (a / 256) (b / 256) 1
+
+-- an entry that has the bit of a disparity and is no special character's suits as a byte
+suits-byte : (d : Disparity) (e : ℕ) → bitAnd e (maskOf d) ≡ maskOf d → special e ≡ 0 → suitsBy 0 255 (maskOf d) e ≡ true
+unfolding legalBy
+suits-byte d e has none = ap₂ _&&_ (ap not (ne-eqb _ 0 (λ z. positive d (sym has ∙ z)))) (is-within 0 255 (e % 512) (omega arith) (omega arith))
+  where
+    positive : (d : Disparity) → maskOf d ≡ 0 → ⊥
+    positive Negative z = absurd (omega arith)
+    positive Positive z = absurd (omega arith)
+
+module _ (w : List ℕ) where
+  -- where nothing was gathered, all symbols up to i suit
+  pub record Gathers (from i fault kinds mask : ℕ) : Type 0 where
+    pub come : from ≤ i
+    pub clean : fault ≡ 0 → special kinds ≡ 0 → Going w 0 255 from i mask
+
+  pub gather-begin : (from mask : ℕ) → mask ≡ maskOf (runningAt w from) → Gathers from from 0 0 mask
+  gather-begin from mask e = record { come = omega arith; clean = λ _ _. begin w 0 255 from mask e }
+
+  pub gather-turn : {from i fault kinds mask e : ℕ} → Gathers from i fault kinds mask → e ≡ entryIn decodingTable (symbolAt w i)
+      → Gathers from (i + 1) (bitOr fault (bitXor (bitAnd e mask) mask)) (bitOr kinds e) (afterBy mask e)
+  gather-turn {from} {i} {fault} {kinds} {mask} {e} g is = record { come = omega (arith, g .come); clean = step }
+    where
+      step : bitOr fault (bitXor (bitAnd e mask) mask) ≡ 0 → special (bitOr kinds e) ≡ 0 → Going w 0 255 from (i + 1) (afterBy mask e)
+      step f k =
+          let both : bitOr (special kinds) (special e) ≡ 0 = sym (special-or kinds e) ∙ k in
+          let before = g .clean (or-left fault _ f) (or-left (special kinds) (special e) both) in
+          let has : bitAnd e mask ≡ mask = xor-none (bitAnd e mask) mask (or-right fault _ f) in
+          let legal = rw (before .bit) at has in
+          turn w 0 255 before is (rw (before .bit) (suits-byte (runningAt w i) e legal (or-right (special kinds) (special e) both)))
+
+  pub gather-done : {from to fault kinds mask : ℕ} → Gathers from to fault kinds mask → bitOr fault (bitAnd kinds 256) ≡ 0
+      → Going w 0 255 from to mask
+  gather-done {from} {to} {fault} {kinds} {mask} g z =
+      g .clean (or-left fault _ z) (no-special kinds (or-right fault (bitAnd kinds 256) z))
+
+  -- one run behind another
+  pub join : {from mid to m n : ℕ} → Going w 0 255 from mid m → Going w 0 255 mid to n → Going w 0 255 from to n
+  join {from} {mid} {to} a b =
+      record {
+        come = omega (arith, a .come, b .come);
+        bit = b .bit;
+        suited = λ j h l. on-test (ltb j mid) (λ t. a .suited j h (ltb-true j mid t)) (λ t. b .suited j (ltb-false j mid t) l);
+      }
+
+  -- ---- two blanking words
+
+  module _ {from i : ℕ} (d : Disparity) (c : ℕ) (small : c < 256) (flat : afterOf d c ≡ d) where
+    -- a byte that does not turn the disparity
+    flat-turn : Going w 0 255 from i (maskOf d) → symbolAt w i ≡ symbolOf d c → Going w 0 255 from (i + 1) (maskOf d)
+    unfolding suits
+    flat-turn g is =
+        let same : runningAt w i ≡ d = sym (mask-again (runningAt w i)) ∙ ap ofMask (sym (g .bit)) ∙ mask-again d in
+        let legal : charOf d (symbolOf d c) ≡ some c = decode-encode d c (omega arith) in
+        let means : meant (symbolOf d c) ≡ c = meant-of d c (omega arith) in
+        let next : runningAt w (i + 1) ≡ d = ap (runningAt w) (add-one i) ∙ running-on w i ∙ rw (same, is, means) flat in
+        further w 0 255 g (rw (same, is, legal, means) (is-within 0 255 c (omega arith) (omega arith))) (ap maskOf (sym next))
+
+  -- none of the three does
+  blank-flat : (d : Disparity) → (afterOf d 0x00 ≡ d) × (afterOf d 0x01 ≡ d) × (afterOf d 0x10 ≡ d)
+  unfolding afterOf
+  blank-flat Negative = (refl, refl, refl)
+  blank-flat Positive = (refl, refl, refl)
+
+  three : {from i : ℕ} (d : Disparity) → Going w 0 255 from i (maskOf d)
+      → symbolAt w i ≡ symbolOf d 0x00 → symbolAt w (i + 1) ≡ symbolOf d 0x01 → symbolAt w (i + 1 + 1) ≡ symbolOf d 0x10
+      → Going w 0 255 from (i + 1 + 1 + 1) (maskOf d)
+  three d g x y z =
+      let flat = blank-flat d in
+      flat-turn d 0x10 (omega arith) (flat .2)
+      (flat-turn d 0x01 (omega arith) (flat .1) (flat-turn d 0x00 (omega arith) (flat .0) g x) y) z
+
+  pub blank-turn : {from i mask : ℕ} → Going w 0 255 from i mask
+      → symbolAt w i ≡ blankBy mask .first → symbolAt w (i + 1) ≡ blankBy mask .second → symbolAt w (i + 2) ≡ blankBy mask .third
+      → Going w 0 255 from (i + 3) mask
+  blank-turn {from} {i} {mask} g x y z =
+      let d = ofMask mask in
+      let bit : mask ≡ maskOf d = g .bit ∙ ap maskOf (sym (mask-again (runningAt w i)) ∙ ap ofMask (sym (g .bit))) in
+      let third : i + 2 ≡ i + 1 + 1 = omega arith in
+      let end : i + 3 ≡ i + 1 + 1 + 1 = omega arith in
+      rw (bit, end) (three d (rw bit at g) x y (rw third at z))
+
+-- what the code names are the symbols of the book
+pub blank-negative : (m : ℕ) → m ≡ 512 → record { first = 0x0B9; second = 0x0AE; third = 0x0B6 } ≡ blankBy m
+unfolding symbolOf
+blank-negative m e = rw e refl
+
+pub blank-positive : (m : ℕ) → (m ≡ 512 → ⊥) → record { first = 0x346; second = 0x351; third = 0x349 } ≡ blankBy m
+unfolding symbolOf
+blank-positive m x = rw (ne-eqb m 512 x) refl
