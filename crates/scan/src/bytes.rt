@@ -7,6 +7,9 @@ ghost use Rattle.decoder.specs.Decoder.{decodingTable, maskOf};
 ghost use Rattle.window.specs.Scan.{runningAt};
 ghost use Rattle.scan.specs.Run.{ranOn, Going, blankBy};
 
+// Symbols in a piece.
+const PIECE: usize = 120;
+
 // What is gathered of symbols that are to be bytes, without a way out: 0 where all of them suit, and then the bit behind them.
 struct Gathered {
     fault: u16,
@@ -44,6 +47,28 @@ fn gather(t: &[u16; 1024], symbols: &[u16], from: usize, to: usize, mask: u16) -
         fault: fault | kinds & 256,
         mask: m,
     }
+}
+
+// The same in pieces, of which none is looked at behind one with a fault: what is no window is soon known to be none.
+fn gather_on(t: &[u16; 1024], symbols: &[u16], from: usize, to: usize, mask: u16) -> Gathered
+    requires { ⌜ now t ≡ decodingTable ⌝ }
+    requires { ⌜ from ≤ to ⌝ }
+    requires { ⌜ to ≤ length (now symbols) ⌝ }
+    requires { ⌜ mask ≡ maskOf (runningAt (now symbols) from) ⌝ }
+    ensures { λ g. ⌜ (g .fault ≡ 0 → Going (now (symbols .entry)) 0 255 from to (g .mask)) ⌝ }
+{
+    let mut m = mask;
+    let mut i = from;
+    while i < to {
+        let end = i + ground::least::least(PIECE, to - i);
+        let g = gather(t, symbols, i, end, m);
+        if g.fault != 0 {
+            return g;
+        }
+        m = g.mask;
+        i = end;
+    }
+    Gathered { fault: 0, mask: m }
 }
 
 // The bytes 00 01 10 (hex) of two blanking words at the disparity of a bit; they do not turn it.
@@ -108,10 +133,10 @@ pub(crate) fn run_bytes(
     if from <= blank {
         if blank <= to {
             if r.place == from {
-                let head = gather(t, symbols, from, blank, r.mask);
+                let head = gather_on(t, symbols, from, blank, r.mask);
                 if head.fault == 0 {
                     let next = past_blank(symbols, blank, to, head.mask);
-                    let rest = gather(t, symbols, next, to, head.mask);
+                    let rest = gather_on(t, symbols, next, to, head.mask);
                     if rest.fault == 0 {
                         return Run {
                             place: to,

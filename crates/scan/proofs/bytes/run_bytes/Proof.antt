@@ -9,8 +9,8 @@ use Rattle.scan.proofs.Gathering.{join}
 use Rattle.scan.proofs.bytes.run_bytes.Statement.{statement}
 use Rattle.scan.proofs.bytes.run_bytes.Tie as tie
 
-gather-requires : tie.Need-gather-requires
-gather-requires c κs =
+gather-on-requires : tie.Need-gather-on-requires
+gather-on-requires c κs =
     let s = c .before .before .before .before .before in
     let same : s .args .r .place ≡ s .args .from = c .if3 .taken in
     (s .pre .0, (c .before .before .before .if1 .taken, (omega (arith, s .pre .1 .1 .0, c .before .before .if2 .taken), rw same at (s .pre .1 .1 .1 .0))))
@@ -18,11 +18,11 @@ gather-requires c κs =
 past-blank-requires : tie.Need-past-blank-requires
 past-blank-requires c κs =
     let s = c .before .before .before .before .before .before .before .before in
-    let head = c .before .before .gather .ensures (c .if4 .taken) in
+    let head = c .before .before .gather-on .ensures (c .if4 .taken) in
     (c .before .before .before .before .before .if2 .taken, (s .pre .1 .1 .0, head .bit))
 
-gather-requires-2 : tie.Need-gather-requires-2
-gather-requires-2 c κs =
+gather-on-requires-2 : tie.Need-gather-on-requires-2
+gather-on-requires-2 c κs =
     let s = c .before .before .before .before .before .before .before .before .before in
     let blank = c .past-blank .ensures in
     (s .pre .0, (blank .0, (s .pre .1 .1 .0, blank .1 .bit)))
@@ -31,9 +31,9 @@ returns : tie.Need-returns
 returns c =
     let s = c .before .before .before .before .before .before .before .before .before .before .before .before in
     let w = s .args .symbols .now in
-    let head = c .before .before .before .before .before .before .gather .ensures (c .before .before .before .before .if4 .taken) in
+    let head = c .before .before .before .before .before .before .gather-on .ensures (c .before .before .before .before .if4 .taken) in
     let blank = c .before .before .before .past-blank .ensures .1 in
-    let rest = c .before .before .gather2 .ensures (c .if5 .taken) in
+    let rest = c .before .before .gather-on2 .ensures (c .if5 .taken) in
     let all = join w (join w head blank) rest in
     let same : s .args .r .place ≡ s .args .from = c .before .before .before .before .before .before .before .if3 .taken in
     ran w 0 255 (s .args .from) (s .args .to) (s .args .r) (omega arith) (all .bit) (ends w 0 255 all)
@@ -48,9 +48,9 @@ pub run-bytes-spec : {M : Type 1} → statement M
 run-bytes-spec =
     tie.close
     (tie.spec
-    gather-requires
+    gather-on-requires
     past-blank-requires
-    gather-requires-2
+    gather-on-requires-2
     returns
     run-on-requires
     returns-2)
