@@ -3,7 +3,11 @@
 //! else it compares and then measures all three in one run.
 
 mod published;
+mod random;
+mod shape;
 
+use random::Random;
+use shape::{shape, Shape};
 use std::time::Instant;
 
 #[link(name = "read_run", kind = "static")]
@@ -34,23 +38,6 @@ fn library_judges(call: &Call) -> u64 {
 // ---- What all versions know of a span.
 
 const BLANK: u16 = 0x100;
-
-/// Streams, ancillary words of each, and fill words of all (004, table 4, tables 11 and 14); none for an unknown format.
-#[derive(Clone, Copy)]
-struct Shape {
-    s: usize,
-    ancillary: usize,
-    fill: usize,
-}
-
-fn shape(format: u8) -> Option<Shape> {
-    match format {
-        1 => Some(Shape { s: 2, ancillary: 268, fill: 880 }),
-        2 => Some(Shape { s: 2, ancillary: 708, fill: 1056 }),
-        3 => Some(Shape { s: 4, ancillary: 708, fill: 2112 }),
-        _ => None,
-    }
-}
 
 impl Shape {
     /// SAV, picture, EAV, line number, CRCC and ancillary words of each stream, and then the fill.
@@ -489,36 +476,6 @@ fn fast(code: &Code, tables: &Tables, call: &Call, rows: &mut [u16]) -> u64 {
 }
 
 // ---- Spans to read.
-
-struct Random(u64);
-
-impl Random {
-    fn next(&mut self) -> u64 {
-        self.0 = self.0.wrapping_mul(6364136223846793005).wrapping_add(1442695040888963407);
-        self.0 >> 33
-    }
-
-    fn below(&mut self, limit: usize) -> usize {
-        self.next() as usize % limit
-    }
-
-    fn within(&mut self, low: u16, high: u16) -> u16 {
-        low + self.below((high - low + 1) as usize) as u16
-    }
-
-    fn pick<T: Copy>(&mut self, from: &[T]) -> T {
-        from[self.below(from.len())]
-    }
-
-    /// Once in so many times.
-    fn seldom(&mut self, times: usize) -> bool {
-        self.below(times) == 0
-    }
-
-    fn numbers(&mut self, count: usize) -> Vec<u16> {
-        (0..count).map(|_| self.next() as u16).collect()
-    }
-}
 
 /// The interleaved words of a span of a line, without its CRCC: a picture that may be sent, of all values or of the ends alone.
 fn made_words(random: &mut Random, shape: Shape, depth: u8, line: u16) -> Vec<u16> {

@@ -5,7 +5,11 @@
 
 #[allow(dead_code)]
 mod published;
+mod service;
+mod shape;
 
+use service::{crcc_words, line_words};
+use shape::{shape, Shape};
 use Change::*;
 
 const BLANK: u16 = 0x100;
@@ -13,23 +17,6 @@ const BLANK: u16 = 0x100;
 const BEFORE: u16 = 7;
 
 // ---- What a span has in it.
-
-/// Streams, ancillary words of each, and fill words of all (004, table 4, tables 11 and 14).
-#[derive(Clone, Copy)]
-struct Shape {
-    s: usize,
-    ancillary: usize,
-    fill: usize,
-}
-
-fn shape(format: u8) -> Option<Shape> {
-    match format {
-        1 => Some(Shape { s: 2, ancillary: 268, fill: 880 }),
-        2 => Some(Shape { s: 2, ancillary: 708, fill: 1056 }),
-        3 => Some(Shape { s: 4, ancillary: 708, fill: 2112 }),
-        _ => None,
-    }
-}
 
 impl Shape {
     /// The interleaved place at which word j of all streams begins. A stream has its SAV at 0 to 3, the picture at 4 to 1923, the EAV at
@@ -90,36 +77,6 @@ const H: u16 = 1 << 8;
 
 fn xyz(v: bool, h: bool) -> u16 {
     XYZ[2 * v as usize + h as usize]
-}
-
-/// b11 is the opposite of b10 (004, tables 8 and 9).
-fn guarded(low: u16) -> u16 {
-    if low & 1 << 10 == 0 {
-        low | 1 << 11
-    } else {
-        low
-    }
-}
-
-/// 004, table 8.
-fn line_words(line: u16) -> [u16; 2] {
-    [guarded(line % 128 << 4), guarded(line / 128 << 4)]
-}
-
-/// 004, 6.4: the message, lowest bit of each word first, and eighteen zeros are divided by X^18 + X^5 + X^4 + 1; CRCC0 is the coefficient
-/// of X^17. Table 9 sets nine of them in each word, the first at b2.
-fn crcc_words(message: &[u16]) -> [u16; 2] {
-    let bits = message.iter().flat_map(|w| (0..12).map(move |b| (w >> b & 1) as u32));
-    let remainder = bits.chain([0; 18]).fold(0, |r, bit| {
-        let r = r << 1 | bit;
-        if r >> 18 == 1 {
-            r ^ (1 << 18 | 1 << 5 | 1 << 4 | 1)
-        } else {
-            r
-        }
-    });
-    let crcc = |i: usize| (remainder >> (17 - i) & 1) as u16;
-    [0, 9].map(|first| guarded((0..9).map(|i| crcc(first + i) << (i + 2)).sum()))
 }
 
 /// Each two words are three bytes (document 01, "A span").

@@ -3,7 +3,9 @@
 //! calls; else it compares and then measures all three in one run.
 
 mod published;
+mod random;
 
+use random::Random;
 use std::time::Instant;
 
 #[link(name = "send_run", kind = "static")]
@@ -338,36 +340,6 @@ fn fast(tables: &Tables, call: &Call, symbols: &mut [u16]) -> u64 {
         } else {
             span::<4>(tables, call, shift, symbols)
         }
-    }
-}
-
-struct Random(u64);
-
-impl Random {
-    fn next(&mut self) -> u64 {
-        self.0 = self.0.wrapping_mul(6364136223846793005).wrapping_add(1442695040888963407);
-        self.0 >> 33
-    }
-
-    fn below(&mut self, limit: usize) -> usize {
-        self.next() as usize % limit
-    }
-
-    fn within(&mut self, low: u16, high: u16) -> u16 {
-        low + self.below((high - low + 1) as usize) as u16
-    }
-
-    fn pick<T: Copy>(&mut self, from: &[T]) -> T {
-        from[self.below(from.len())]
-    }
-
-    /// Once in so many times.
-    fn seldom(&mut self, times: usize) -> bool {
-        self.below(times) == 0
-    }
-
-    fn numbers(&mut self, count: usize) -> Vec<u16> {
-        (0..count).map(|_| self.next() as u16).collect()
     }
 }
 

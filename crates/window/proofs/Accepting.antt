@@ -67,19 +67,6 @@ row-passed (x ∷ rs) a r e i = go (x .fails) refl (λ q j. row-passed rs a r q 
     go none q more zero = q
     go none q more (suc i) = more (rw q at e) i
 
--- words that meet tests 21 to 26 pass them
-pub meets-given : {A : Type 0} (f : Format) (word : ℕ → ℕ) → Meets f word → (a : A) → checked (wordTests f word) a ≡ given a
-meets-given f word m a =
-    let s = streams (shapeOf f) in
-    let n = 2 * pairsIn (shapeOf f) in
-    let on = passes (wordTests f word) a (given a) in
-    on 0 (none-fails n (placed s (holds21 s word)) (m .timing))
-    (on 1 (none-fails n (placed s (holds22 s word)) (m .lineNumber))
-    (on 2 (none-fails n (placed s (holds23 s word)) (m .v))
-    (on 3 (none-fails n (placed s (holds24 s word)) (m .crcc))
-    (on 4 (none-fails n (placed s (holds25 s word f)) (m .picture))
-    (on 5 (none-fails n (placed s (holds26 s word f)) (m .fill)) refl)))))
-
 module _ (f : Format) (w : List ℕ) where
   abbrev s : ℕ
   s = streams (shapeOf f)
@@ -90,12 +77,7 @@ module _ (f : Format) (w : List ℕ) where
   abbrev word : ℕ → ℕ
   word = wordAt (shapeOf f) w
 
-  pub is-accepted : Accepted f w → readSpan f w ≡ given (deliveryOf f w)
-  unfolding readSpan
-  is-accepted a =
-      passes (tests f w) (deliveryOf f w) (given (deliveryOf f w)) 0 (none-fails (symbolsIn (shapeOf f)) (holds20 (shapeOf f) w) (a .scan))
-      (meets-given f word (a .words) (deliveryOf f w))
-
+  -- what is given has passed all of them
   pub accepted-told : (r : Delivery) → readSpan f w ≡ given r → Accepted f w
   unfolding readSpan
   accepted-told r e =
@@ -113,5 +95,26 @@ module _ (f : Format) (w : List ℕ) where
             };
       }
 
+-- words that meet tests 21 to 26 pass them
+pub meets-given : {A : Type 0} (f : Format) (word : ℕ → ℕ) → Meets f word → (a : A) → checked (wordTests f word) a ≡ given a
+meets-given f word m a =
+    let s = streams (shapeOf f) in
+    let n = 2 * pairsIn (shapeOf f) in
+    let on = passes (wordTests f word) a (given a) in
+    on 0 (none-fails n (placed s (holds21 s word)) (m .timing))
+    (on 1 (none-fails n (placed s (holds22 s word)) (m .lineNumber))
+    (on 2 (none-fails n (placed s (holds23 s word)) (m .v))
+    (on 3 (none-fails n (placed s (holds24 s word)) (m .crcc))
+    (on 4 (none-fails n (placed s (holds25 s word f)) (m .picture))
+    (on 5 (none-fails n (placed s (holds26 s word f)) (m .fill)) refl)))))
+
+module _ (f : Format) (w : List ℕ) where
+  pub is-accepted : Accepted f w → readSpan f w ≡ given (deliveryOf f w)
+  unfolding readSpan
+  is-accepted a =
+      passes (tests f w) (deliveryOf f w) (given (deliveryOf f w)) 0 (none-fails (symbolsIn (shapeOf f)) (holds20 (shapeOf f) w) (a .scan))
+      (meets-given f (wordAt (shapeOf f) w) (a .words) (deliveryOf f w))
+
   pub delivers : (r : Delivery) → readSpan f w ≡ given r → r ≡ deliveryOf f w
-  delivers r e = let q : given r ≡ given (deliveryOf f w) = sym e ∙ is-accepted (accepted-told r e) in cc q
+  delivers r e =
+      let q : given r ≡ given (deliveryOf f w) = sym e ∙ is-accepted (accepted-told f w r e) in cc q

@@ -1,7 +1,7 @@
 -- An XYZ word as it is received: with at most one wrong bit it is taken for the word that was sent, and with two for none.
 -- Assumes nothing.
 use mathlib.Core.Path.{_≡_, refl, sym, ap, ap₂, _∙_}
-use mathlib.Core.Bool.{Bool, true, false, true≢false}
+use mathlib.Core.Bool.{Bool, true, false, not, true≢false}
 use mathlib.Core.Option.{Option, none, some, Option·getD}
 use Prim.Native.Nat.{ℕ, _+_, _*_, _/_, _%_, _≤_, _<_}
 use native.Mathlib.Omega.{arith}
@@ -22,6 +22,12 @@ same-told : (a b : Bool) → same a b ≡ true → a ≡ b
 same-told true b t = sym t
 same-told false b t = sym (not-true b t)
 
+-- H of the word that is near, where it is the one asked for
+h-read : (h : Bool) (o : Option ℕ) → hasH h o ≡ true → eqb (Option·getD o 0 % 2) 1 ≡ h
+h-read h none t = absurd (true≢false (sym t))
+h-read true (some vh) t = t
+h-read false (some vh) t = rw (eqb-true (vh % 2) 0 t)
+
 -- ---- V and H, as they are sent
 
 -- as one number, by which the legal words are counted
@@ -32,14 +38,15 @@ vh v h = bit v * 2 + bit h
 record Told (v h : Bool) : Type 0 where
   below : vh v h < 4
   v-again : eqb (vh v h / 2) 1 ≡ v
+  not-h : hasH (not h) (some (vh v h)) ≡ false
   h-again : eqb (vh v h % 2) (bit h) ≡ true
   legal : legalWord (vh v h) ≡ timing v h
 
 told : (v h : Bool) → Told v h
-told false false = record { below = omega arith; v-again = refl; h-again = refl; legal = refl }
-told false true = record { below = omega arith; v-again = refl; h-again = refl; legal = refl }
-told true false = record { below = omega arith; v-again = refl; h-again = refl; legal = refl }
-told true true = record { below = omega arith; v-again = refl; h-again = refl; legal = refl }
+told false false = record { below = omega arith; v-again = refl; not-h = refl; h-again = refl; legal = refl }
+told false true = record { below = omega arith; v-again = refl; not-h = refl; h-again = refl; legal = refl }
+told true false = record { below = omega arith; v-again = refl; not-h = refl; h-again = refl; legal = refl }
+told true true = record { below = omega arith; v-again = refl; not-h = refl; h-again = refl; legal = refl }
 
 module _ (w : ℕ) (v h : Bool) where
   -- at most one wrong bit: the word sent is the one that is near
@@ -47,7 +54,11 @@ module _ (w : ℕ) (v h : Bool) where
     found : nearest w ≡ some (vh v h)
     found = nearest-is w (vh v h) (told v h .below) (rw (told v h .legal) d)
 
-    -- so H and V are those sent, the repaired word too, and the wrong bits are counted
+    -- so a timing code with the other H has none such (21)
+    pub other-h : hasH (not h) (nearest w) ≡ false
+    other-h = rw found (told v h .not-h)
+
+    -- H and V are those sent, the repaired word too, and the wrong bits are counted
     pub near-h : hasH h (nearest w) ≡ true
     near-h = rw found (told v h .h-again)
 
@@ -65,11 +76,6 @@ module _ (w : ℕ) (v h : Bool) where
   none-near d = nearest-none w (vh v h) (told v h .below) (rw (told v h .legal) d)
 
 -- ---- V and H, as they are read
-
-h-read : (h : Bool) (o : Option ℕ) → hasH h o ≡ true → eqb (Option·getD o 0 % 2) 1 ≡ h
-h-read h none t = absurd (true≢false (sym t))
-h-read true (some vh) t = t
-h-read false (some vh) t = rw (eqb-true (vh % 2) 0 t)
 
 module _ (w : ℕ) (v h : Bool) (is-h : hasH h (nearest w) ≡ true) (is-v : same (vIn w) v ≡ true) where
   -- as repaired, it is the word of its V and H
