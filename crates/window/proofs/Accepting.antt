@@ -57,7 +57,7 @@ meets (x ∷ rs) a zero k e = rw e
 meets (x ∷ rs) a (suc i) k e = meets rs a i k e
 
 -- where something is given, every row was passed
-row-passed : {A : Type 0} (rs : List Row) (a r : A) → checked rs a ≡ given r → (i : ℕ) → getD rs i nothing .fails ≡ none
+pub row-passed : {A : Type 0} (rs : List Row) (a r : A) → checked rs a ≡ given r → (i : ℕ) → getD rs i nothing .fails ≡ none
 row-passed [] a r e i = refl
 row-passed (x ∷ rs) a r e i = go (x .fails) refl (λ q j. row-passed rs a r q j) i
   where

@@ -32,11 +32,11 @@ Room = Of 3840 3840 7680
 -- ---- the table of formats, in those numbers
 
 module _ (g : ℕ → ℕ) where
-  is-of : (n x : ℕ) → Of (g 1) (g 2) (g 3) n x → x ≡ g n
+  pub is-of : (n x : ℕ) → Of (g 1) (g 2) (g 3) n x → x ≡ g n
   is-of n x =
       ⊎-elim (λ t. t .1 ∙ ap g (sym (t .0))) (⊎-elim (λ t. t .1 ∙ ap g (sym (t .0))) (λ t. t .1 ∙ ap g (sym (t .0))))
 
-  of-is : (n x : ℕ) → 1 ≤ n → n ≤ 3 → x ≡ g n → Of (g 1) (g 2) (g 3) n x
+  pub of-is : (n x : ℕ) → 1 ≤ n → n ≤ 3 → x ≡ g n → Of (g 1) (g 2) (g 3) n x
   of-is zero x p q e = absurd (omega arith)
   of-is (suc zero) x p q e = inl (refl, e)
   of-is (suc (suc zero)) x p q e = inr (inl (refl, e))

@@ -1,0 +1,5 @@
+pub mod Cutting
+pub mod Finding
+pub mod Spans
+pub mod Splitting
+pub mod Steps

@@ -1,0 +1,153 @@
+-- Demand 3 and what is held beyond it: what the finder answers, that stepping with next span is delivery, and what is delivered of recordings
+-- with sent spans in them.
+-- Assumes nothing.
+use mathlib.Core.Path.{_≡_, refl, sym, ap, _∙_}
+use mathlib.Core.Bool.{true}
+use mathlib.Core.List.{List, [], _∷_, _++_}
+use mathlib.Core.Option.{Option, none, some}
+use Prim.Native.Nat.{ℕ, zero, suc, _+_, _*_, _≤_, _<_}
+use native.Mathlib.Nat.{add-zero, zero-add}
+use native.Mathlib.Omega.{arith}
+use lib.ListN.{length, getD, set, take, drop}
+use Rattle.ground.specs.Answer.{given}
+use Rattle.ground.specs.Bit.{inverted}
+use Rattle.span.specs.declared.format.Format.{Format}
+use Rattle.span.specs.Format.{isKnown, shapeOf, samplesIn, symbolsIn}
+use Rattle.read.proofs.Windows.{length-picture}
+use Rattle.delivery.specs.Delivery.{Found, followed, windowAt, readFrom, nextFrom as nextBy, deliver, deliveryFrom as deliverBy, movedBy, strung, placedFrom, Each}
+use Rattle.delivery.specs.Marked.{Whole, AllBehind}
+use Rattle.delivery.proofs.Cutting.{cut}
+use Rattle.delivery.proofs.Finding.{told, at-the-end, stands-whole, found-told, next-then}
+use Rattle.delivery.proofs.Spans.{ReadAs, nothing-of, exactly, in-place}
+use Rattle.delivery.proofs.Splitting.{split}
+use Rattle.delivery.proofs.Steps.{moved}
+use Rattle.recording.specs.Call.{spanned, nextOf}
+use Rattle.recording.specs.Look.{isComma}
+use Rattle.recording.specs.Recording.{limit, Reading, reading, findFrom, nextFrom, deliveryFrom}
+use Rattle.recording.proofs.Calling.{next-given}
+use Rattle.recording.proofs.Readings.{reading-told, span-whole, span-marked}
+use Rattle.demands.specs.Form.{Sending, WasSent, symbolsOf, readingOf, stepsFrom}
+use Rattle.demands.proofs.Sendings.{sent-read, harmed-long, harmed-not-read}
+
+module _ (f : Format) (known : isKnown f ≡ true) where
+  abbrev n : ℕ
+  n = symbolsIn (shapeOf f)
+
+  -- ---- a step
+  module _ (r : List ℕ) (p : ℕ) where
+    -- what the next span is, if there is one
+    pub record IsNext (e : Found Reading) : Type 0 where
+      pub inside : e .place + n ≤ length r
+      pub behind : p ≤ e .place
+      pub room : length (e .reading .words) ≡ samplesIn (shapeOf f)
+
+    pub next-is : (e : Found Reading) → nextFrom f r p ≡ some e → IsNext e
+    unfolding nextBy
+    next-is e x = go (findFrom f r p) refl x
+      where
+        whole : Whole n (reading f)
+        whole = span-whole f known
+
+        go : (o : Option ℕ) → findFrom f r p ≡ o → readFrom n (reading f) r (findFrom f r p) ≡ some e → IsNext e
+        go none q x = let z : _≡_ {A = ℕ} 0 1 = cc (rw q at x) in absurd (omega arith)
+        go (some k) q x =
+            let at = found-told n (reading f) whole r p k q in
+            let (a, is) = told (reading f (windowAt n (reading f) r k)) (at .1) in
+            let same : some (record { place = k; reading = a }) ≡ some e = rw (q, is) at x in
+            let e-is : record { place = k; reading = a } ≡ e = cc same in
+            let w = reading-told f (take n (drop k r)) a is in
+            let size : length (a .words) ≡ samplesIn (shapeOf f) =
+            ap length (w .words) ∙ length-picture f (take n (drop k r)) (record { known = known; long = w .long }) in
+            rw (← e-is) (record { inside = stands-whole n (reading f) whole r k (at .1); behind = at .0; room = size })
+
+  -- ---- stepping with next span is delivery
+  module _ (r : List ℕ) (short : length r ≤ limit) where
+    pub steps-are : (k p : ℕ) (rows : List ℕ) → length rows ≡ samplesIn (shapeOf f) → p ≤ length r → length r ≤ p + k
+        → stepsFrom k f r p rows ≡ deliveryFrom f r p
+    unfolding stepsFrom
+    steps-are zero p rows room inside enough = sym (at-the-end n (reading f) (span-whole f known) r p (omega arith))
+    steps-are (suc k) p rows room inside enough =
+        go (nextFrom f r p) refl (λ q words size l m. steps-are k q words size l m) ∙ sym (next-then n (reading f) (span-whole f known) r p)
+      where
+        answer : nextOf f r p (length rows) ≡ given (spanned (nextFrom f r p))
+        answer = next-given f r p rows known short room inside
+
+        go : (o : Option (Found Reading)) → nextFrom f r p ≡ o
+            → ((q : ℕ) (words : List ℕ) → length words ≡ samplesIn (shapeOf f) → q ≤ length r → length r ≤ q + k
+            → stepsFrom k f r q words ≡ deliveryFrom f r q)
+            → stepsFrom (suc k) f r p rows ≡ followed (nextFrom f r p) (λ e. deliveryFrom f r (e .place + n))
+        go none x more = rw (answer, x)
+        go (some e) x more =
+            let next = next-is r p e x in
+            rw (answer, x)
+            (ap (λ (l : List (Found Reading)). e ∷ l)
+            (more (e .place + n) (e .reading .words) (next .room) (next .inside) (omega (arith, next .behind, known-long))))
+          where
+            known-long : 1 ≤ n
+            known-long = span-whole f known .least
+
+    pub delivered : (list : List (Found Reading)) → deliveryFrom f r 0 ≡ list → (rows : List ℕ) → length rows ≡ samplesIn (shapeOf f)
+        → (k : ℕ) → length r ≤ k → stepsFrom k f r 0 rows ≡ list
+    delivered list e rows room k h = steps-are k 0 rows room (omega arith) (omega arith) ∙ e
+
+  -- ---- sent spans
+  module _ (x : Sending) (sent : WasSent f x) where
+    -- one anywhere
+    pub anywhere : (before behind : List ℕ)
+        → deliveryFrom f (before ++ (symbolsOf f x ++ behind)) 0
+        ≡ deliveryFrom f before 0
+        ++ (record { place = length before; reading = readingOf f x } ∷ movedBy (length before + n) (deliveryFrom f behind 0))
+    unfolding deliverBy
+    anywhere before behind =
+        split n (reading f) isComma (span-marked f known) (symbolsOf f x) behind (readingOf f x) (sent-read f x sent) before 0
+        ∙ rw (zero-add (length before))
+        (ap (λ (l : List (Found Reading)). deliver n (reading f) 0 0 before ++ (record { place = length before; reading = readingOf f x } ∷ l))
+        (ap (λ (k : ℕ). deliver n (reading f) k 0 behind) (sym (add-zero (length before + n)))
+        ∙ moved n (reading f) (length before + n) 0 0 behind))
+
+  -- each of a list is read as it was sent
+  each-read : (xs : List Sending) → Each (WasSent f) xs → Each (ReadAs n (reading f) (symbolsOf f) (readingOf f)) xs
+  each-read [] each = tt
+  each-read (x ∷ xs) (sent, each) = (sent-read f x sent, each-read xs each)
+
+  -- sent spans alone
+  pub alone : (xs : List Sending) → Each (WasSent f) xs → deliveryFrom f (strung (symbolsOf f) xs) 0 ≡ placedFrom n (readingOf f) 0 xs
+  unfolding deliverBy
+  alone xs each = exactly n (reading f) (span-whole f known) (symbolsOf f) (readingOf f) xs (each-read xs each) 0
+
+  -- any symbols in the place of one of them
+  pub damaged : (xs ys : List Sending) (d : List ℕ) → Each (WasSent f) xs → Each (WasSent f) ys
+      → deliveryFrom f (strung (symbolsOf f) xs ++ (d ++ strung (symbolsOf f) ys)) 0
+      ≡ placedFrom n (readingOf f) 0 xs
+      ++ (movedBy (n * length xs) (deliveryFrom f d 0) ++ placedFrom n (readingOf f) (n * length xs + length d) ys)
+  unfolding deliverBy
+  damaged xs ys d before behind =
+      in-place n (reading f) isComma (span-marked f known) (symbolsOf f) (readingOf f) xs ys (each-read xs before) (each-read ys behind) d 0
+      ∙ rw (zero-add (n * length xs))
+      (ap (λ (l : List (Found Reading)). placedFrom n (readingOf f) 0 xs ++ (l ++ placedFrom n (readingOf f) (n * length xs + length d) ys))
+      (ap (λ (k : ℕ). deliver n (reading f) k 0 d) (sym (add-zero (n * length xs))) ∙ moved n (reading f) (n * length xs) 0 0 d))
+
+  -- what is not accepted, and no longer than a span, delivers nothing
+  pub nothing : (d : List ℕ) → length d ≤ n → reading f d ≡ none → deliveryFrom f d 0 ≡ []
+  unfolding deliverBy
+  nothing d h e = nothing-of n (reading f) (span-whole f known) 0 d h e
+
+  -- one inverted bit
+  pub one-inverted : (xs ys : List Sending) (x : Sending) (i k : ℕ) → Each (WasSent f) xs → WasSent f x → Each (WasSent f) ys → i < n → k < 10
+      → let harmed = set (symbolsOf f x) i (inverted k (getD (symbolsOf f x) i 0)) in
+      deliveryFrom f (strung (symbolsOf f) xs ++ (harmed ++ strung (symbolsOf f) ys)) 0
+      ≡ placedFrom n (readingOf f) 0 xs ++ placedFrom n (readingOf f) (n * length xs + n) ys
+  unfolding movedBy
+  one-inverted xs ys x i k before sent behind h l =
+      let harmed = set (symbolsOf f x) i (inverted k (getD (symbolsOf f x) i 0)) in
+      let long = harmed-long f x sent i k h l in
+      let none-of : deliveryFrom f harmed 0 ≡ [] = nothing harmed (omega (arith, long)) (harmed-not-read f x sent i k h l) in
+      damaged xs ys harmed before behind ∙ rw (none-of, long)
+
+  -- the beginning of a recording
+  pub beginning : (r : List ℕ) (m : ℕ)
+      → (rest : List (Found Reading)) × (deliveryFrom f r 0 ≡ deliveryFrom f (take m r) 0 ++ rest) × AllBehind n m rest
+  unfolding deliverBy
+  beginning r m =
+      let (rest, e, behind) = cut n (reading f) (span-whole f known) m 0 r in
+      (rest, e, rw (zero-add m) at behind)

@@ -1,0 +1,428 @@
+-- The customer's three demands, in their order, and what is held beyond them. Each is a proposition over the definitions that the contracts of
+-- the public calls name, so that what is proved of these is promised of the calls. `proofs/Demands` proves each.
+-- Assumes nothing.
+use Prim.Native.Nat.{ℕ, _+_, _-_, _*_, _/_, _%_, _≤_, _<_}
+use mathlib.Core.Path.{_≡_}
+use mathlib.Core.Bool.{Bool, true, false}
+use mathlib.Core.List.{List, [], _∷_, _++_}
+use mathlib.Core.Logic.{_⊎_}
+use mathlib.Core.Option.{none, some}
+use lib.ListN.{length, getD, set, take, drop}
+use Rattle.ground.specs.Answer.{refused, given}
+use Rattle.ground.specs.Bit.{inverted}
+use Rattle.symbol.specs.declared.disparity.Disparity.{Disparity}
+use Rattle.symbol.specs.Character.{characterOf}
+use Rattle.symbol.specs.Code.{symbolOf, afterOf}
+use Rattle.decoder.specs.Decode.{decodeOf}
+use Rattle.decoder.specs.Meaning.{meaningOf}
+use Rattle.word.specs.Bytes.{packedOf}
+use Rattle.word.specs.Crcc.{crccOf}
+use Rattle.word.specs.LineNumber.{ln0, ln1, numberedOf, namedOf}
+use Rattle.word.specs.Repair.{distance, repairOf}
+use Rattle.word.specs.Timing.{timing}
+use Rattle.picture.specs.Division.{lineFrom, sampleFrom}
+use Rattle.picture.specs.Place.{placedOf}
+use Rattle.picture.specs.Row.{divided, joined, splitOf, splitFirst, splitSecond, joinOf, joinRow}
+use Rattle.span.specs.declared.content.Content.{Content}
+use Rattle.span.specs.declared.content.ContentBytes.{ContentBytes}
+use Rattle.span.specs.declared.format.Format.{Format}
+use Rattle.span.specs.Content.{contentOf}
+use Rattle.span.specs.Encoding.{afterRun}
+use Rattle.span.specs.Format.{shapeOf, streams, pairsIn, symbolsIn}
+use Rattle.span.specs.Image.{imageOf}
+use Rattle.span.specs.Length.{lengthsOf}
+use Rattle.span.specs.Span.{spanSymbols, spanAfter}
+use Rattle.span.specs.Stream.{Asked}
+use Rattle.window.specs.declared.delivery.Delivery.{Delivery}
+use Rattle.window.specs.Encoded.{charsOf, AreContent, Encodes, wordIn, Meets, IsXyz, Disturbed, wrongAt}
+use Rattle.window.specs.Read.{placed, pictureOf, readSpan, judgeOf, readOf, rowsRead}
+use Rattle.window.specs.Scan.{holds20}
+use Rattle.window.specs.Tests.{holds21, holds22, holds23, holds24, holds25, holds26, sumOf}
+use Rattle.window.specs.Words.{wordAt}
+use Rattle.delivery.specs.Delivery.{Found, foundFrom, movedBy, strung, placedFrom, Each}
+use Rattle.delivery.specs.Marked.{AllBehind}
+use Rattle.recording.specs.declared.seek.Spanned.{Spanned}
+use Rattle.recording.specs.Call.{findOf, nextOf, afterNext, rowsNext}
+use Rattle.recording.specs.Recording.{limit, Reading, reading, accepts, deliveryFrom}
+use Rattle.send.specs.Blanking.{fillOf, blankRow, filledRow}
+use Rattle.send.specs.Send.{asked, sendOf, sentBuffer}
+use Rattle.demands.specs.Form.{IsFormat, Symbols, Samples, MaySend, Refusal, row, lowest, Tried, Lent, Rows, Sending, WasSent, symbolsOf, readingOf, stepsFrom, Delivered, wordsFor, streamIn}
+
+-- ==== 1 ====
+
+-- the four legal timing words
+abbrev pub Legal : ℕ → Type 0
+Legal x = (x ≡ 0x800) ⊎ ((x ≡ 0x9D0) ⊎ ((x ≡ 0xAB0) ⊎ (x ≡ 0xB60)))
+
+-- tests 20 to 26 of the reader, each over the whole span
+abbrev pub tests : Format → List ℕ → List Refusal
+tests f w =
+    let s = streams (shapeOf f) in
+    let n = 2 * pairsIn (shapeOf f) in
+    let word = wordAt (shapeOf f) w in
+    lowest 20 (symbolsIn (shapeOf f)) (λ i. holds20 (shapeOf f) w i ≡ true)
+    ∷ lowest 21 n (λ k. placed s (holds21 s word) k ≡ true)
+    ∷ lowest 22 n (λ k. placed s (holds22 s word) k ≡ true)
+    ∷ lowest 23 n (λ k. placed s (holds23 s word) k ≡ true)
+    ∷ lowest 24 n (λ k. placed s (holds24 s word) k ≡ true)
+    ∷ lowest 25 n (λ k. placed s (holds25 s word f) k ≡ true)
+    ∷ lowest 26 n (λ k. placed s (holds26 s word f) k ≡ true)
+    ∷ []
+
+-- Every public call ends with a defined answer for all input. A bad call, and no good one, returns its refusal number, that of the first row
+-- of the table that applies, and touches no lent buffer; a refused span returns its number and place and leaves its rows all zero. What is
+-- good is said in document 01's own numbers. A call that is not named here has no refusal to answer: encoding a character, the CRCC words
+-- of a register, three bytes as words, a timing word, and the choice between two rows.
+pub record Demand1 : Type 0 where
+  -- the meaning of a symbol: 7
+  pub meaning : (s : ℕ) → Tried (meaningOf s) (row 7 (s ≤ 1023) ∷ [])
+  -- one symbol decoded at a disparity: 7, 20
+  pub decode :
+      (d : Disparity) (s : ℕ)
+      → Tried (decodeOf d s) (row 7 (s ≤ 1023) ∷ row 20 ((c : ℕ) × (c < 268) × (symbolOf d c ≡ s)) ∷ [])
+  -- repair of a timing word: 7, 8
+  pub repair :
+      (w : ℕ) → Tried (repairOf w) (row 7 (w ≤ 4095) ∷ row 8 ((x : ℕ) × Legal x × (distance w x ≤ 1)) ∷ [])
+  -- the words of a line: 2
+  pub lineWords : (n : ℕ) → Tried (numberedOf n) (row 2 ((1 ≤ n) × (n ≤ 1125)) ∷ [])
+  -- the line of two words: 7, 22
+  pub readLineWords :
+      (a b : ℕ)
+      → Tried (namedOf a b)
+      (row 7 ((a ≤ 4095) × (b ≤ 4095)) ∷ row 22 ((n : ℕ) × (1 ≤ n) × (n ≤ 1125) × (ln0 n ≡ a) × (ln1 n ≡ b)) ∷ [])
+  -- the CRCC of a run of words: 7
+  pub crcc : (ws : List ℕ) → Tried (crccOf ws) (row 7 ((i : ℕ) → i < length ws → getD ws i 0 ≤ 4095) ∷ [])
+  -- two words as three bytes: 7
+  pub pack : (a b : ℕ) → Tried (packedOf a b) (row 7 ((a ≤ 4095) × (b ≤ 4095)) ∷ [])
+  -- the place of a sample: 2
+  pub place :
+      (line sample : ℕ) → Tried (placedOf line sample) (row 2 ((1 ≤ line) × (line ≤ 2160) × (sample ≤ 3839)) ∷ [])
+  -- dividing a row: 3, 4
+  pub split :
+      (whole first second : List ℕ)
+      → Tried (splitOf whole first second)
+      (row 3 (length whole ≡ 3840) ∷ row 4 ((length first ≡ 1920) × (length second ≡ 1920)) ∷ [])
+      × Lent (splitOf whole first second) first (divided 0 1920 whole) (splitFirst whole first second)
+      × Lent (splitOf whole first second) second (divided 1 1920 whole) (splitSecond whole first second)
+  -- joining two: 3, 4
+  pub join :
+      (first second whole : List ℕ)
+      → Tried (joinOf first second whole)
+      (row 3 ((length first ≡ 1920) × (length second ≡ 1920)) ∷ row 4 (length whole ≡ 3840) ∷ [])
+      × Lent (joinOf first second whole) whole (joined 1920 first second) (joinRow first second whole)
+  -- the lengths of a format: 1
+  pub lengths : (f : Format) → Tried (lengthsOf f) (row 1 (IsFormat f) ∷ [])
+  -- a row filled with blanking: 1, 4
+  pub fill :
+      (f : Format) (entry : List ℕ)
+      → Tried (fillOf f entry) (row 1 (IsFormat f) ∷ row 4 (Samples f (length entry)) ∷ [])
+      × Lent (fillOf f entry) entry (blankRow f) (filledRow f entry)
+  -- sending a span: 1, 2, 3, 4, 6 with the lowest index
+  pub send :
+      (d : Disparity) (f : Format) (a : Asked) (entry : List ℕ)
+      → Tried (sendOf d f a (length entry))
+      (row 1 (IsFormat f)
+      ∷ row 2 ((1 ≤ a .line) × (a .line ≤ 1125))
+      ∷ row 3 (Samples f (length (a .samples)))
+      ∷ row 4 (Symbols f (length entry))
+      ∷ lowest 6 (length (a .samples)) (λ i. MaySend f (a .line) (getD (a .samples) i 0))
+      ∷ [])
+      × Lent (sendOf d f a (length entry)) entry (spanSymbols d f a) (sentBuffer d f a entry)
+  -- judging a span: 1, 3, 20 to 26
+  pub judge :
+      (f : Format) (w : List ℕ)
+      → Tried (judgeOf f w) (row 1 (IsFormat f) ∷ row 3 (Symbols f (length w)) ∷ tests f w)
+  -- reading it: 1, 3, 4, 20 to 26
+  pub read :
+      (f : Format) (w entry : List ℕ)
+      → Tried (readOf f w (length entry))
+      (row 1 (IsFormat f) ∷ row 3 (Symbols f (length w)) ∷ row 4 (Samples f (length entry)) ∷ tests f w)
+      × Rows (readOf f w (length entry)) entry (pictureOf f w) (rowsRead f w entry)
+  -- finding a span: 1, 3, 5
+  pub find :
+      (f : Format) (r : List ℕ) (start : ℕ)
+      → Tried (findOf f r start) (row 1 (IsFormat f) ∷ row 3 (length r ≤ limit) ∷ row 5 (start ≤ length r) ∷ [])
+  -- the next span: 1, 3, 4, 5; the rows are touched, and the place after is another one, only where a span is delivered
+  pub next :
+      (f : Format) (r : List ℕ) (start : ℕ) (entry : List ℕ)
+      → Tried (nextOf f r start (length entry))
+      (row 1 (IsFormat f) ∷ row 3 (length r ≤ limit) ∷ row 4 (Samples f (length entry)) ∷ row 5 (start ≤ length r) ∷ [])
+  pub nextRefused :
+      (f : Format) (r : List ℕ) (start : ℕ) (entry : List ℕ) (number place : ℕ)
+      → nextOf f r start (length entry) ≡ refused number place
+      → (rowsNext f r start entry ≡ entry) × (afterNext f r start (length entry) ≡ start)
+  pub nextNone :
+      (f : Format) (r : List ℕ) (start : ℕ) (entry : List ℕ)
+      → nextOf f r start (length entry) ≡ given none
+      → (rowsNext f r start entry ≡ entry) × (afterNext f r start (length entry) ≡ start)
+  pub nextSome :
+      (f : Format) (r : List ℕ) (start : ℕ) (entry : List ℕ) (s : Spanned)
+      → nextOf f r start (length entry) ≡ given (some s)
+      → (rowsNext f r start entry ≡ pictureOf f (take (symbolsIn (shapeOf f)) (drop (s .place) r)))
+      × (afterNext f r start (length entry) ≡ s .place + symbolsIn (shapeOf f))
+
+-- ==== 2 ====
+
+-- a row of the picture: 3840 samples, each of which may be sent at the depth
+pub record IsRow (f : Format) (whole : List ℕ) : Type 0 where
+  pub long : length whole ≡ 3840
+  pub ten : f .depth ≡ 10 → (i : ℕ) → i < 3840 → (4 ≤ getD whole i 0) × (getD whole i 0 ≤ 1019)
+  pub twelve : f .depth ≡ 12 → (i : ℕ) → i < 3840 → (16 ≤ getD whole i 0) × (getD whole i 0 ≤ 4079)
+
+-- a span of these samples, sent on stream line l + 41, is answered and not refused; wherever it stands whole in a recording it is delivered, with
+-- that line, and with these words
+pub record Delivers (f : Format) (l : ℕ) (content : Content) (samples words : List ℕ) : Type 0 where
+  pub sent :
+      (d : Disparity) (entry : List ℕ)
+      → Symbols f (length entry)
+      → sendOf d f (asked (l + 41) content samples) (length entry) ≡ given (spanAfter d f (asked (l + 41) content samples))
+  pub found :
+      (d : Disparity) (before entry behind : List ℕ)
+      → Symbols f (length entry)
+      → let r = before ++ (sentBuffer d f (asked (l + 41) content samples) entry ++ behind) in
+      length r ≤ limit
+      → (v : Delivery)
+      × (v .line .0 ≡ l + 41)
+      × (earlier : List (Found Reading))
+      × (later : List (Found Reading))
+      × Delivered f r (earlier ++ (record { place = length before; reading = record { values = v; words = words } } ∷ later))
+
+-- What is sent is, symbol for symbol, the standard; what is received is read by the same rules, down to the repair of one wrong bit in a
+-- timing word and the refusal of two. Dividing and joining a picture puts each sample back.
+pub record Demand2 : Type 0 where
+  -- a character's symbol is decoded to that character
+  pub code :
+      (d : Disparity) (c : ℕ)
+      → c < 268
+      → decodeOf d (symbolOf d c) ≡ given (record { character = characterOf c; after = afterOf d c })
+  -- the symbols sent are those of the standard, as `span/specs` writes them down from 004
+  pub sent :
+      (d e : Disparity) (f : Format) (a : Asked) (entry : List ℕ)
+      → sendOf d f a (length entry) ≡ given e
+      → (sentBuffer d f a entry ≡ spanSymbols d f a) × (e ≡ spanAfter d f a)
+  -- what was sent is read as it was sent
+  pub back :
+      (f : Format) (x : Sending)
+      → WasSent f x
+      → (readSpan f (symbolsOf f x) ≡ given (readingOf f x .values))
+      × (pictureOf f (symbolsOf f x) ≡ readingOf f x .words)
+  -- and read is exactly what is the encoding of words that meet the tests
+  pub exactIf :
+      (f : Format) (w : List ℕ) (d : Disparity) (c : ContentBytes) (words : List ℕ)
+      → IsFormat f
+      → Encodes f w d c words
+      → Meets f (wordIn words)
+      → (v : Delivery) × (readSpan f w ≡ given v)
+  pub exactOnlyIf :
+      (f : Format) (w : List ℕ) (v : Delivery)
+      → IsFormat f
+      → Symbols f (length w)
+      → readSpan f w ≡ given v
+      → (d : Disparity) × (c : ContentBytes) × (words : List ℕ) × Encodes f w d c words × Meets f (wordIn words)
+  -- one wrong bit of a timing word is repaired, two are refused: by the single call,
+  pub oneWrong :
+      (v h : Bool) (k : ℕ) → k < 12 → repairOf (inverted k (timing v h)) ≡ given (record { word = timing v h; distance = 1 })
+  pub twoWrong : (v h : Bool) (j k : ℕ) → j < k → k < 12 → repairOf (inverted j (inverted k (timing v h))) ≡ refused 8 0
+  -- in a span, where at most one bit of each is wrong: all is read as it was sent, and the repairs are the sum of the distances,
+  pub repaired :
+      (f : Format) (x : Sending)
+      → WasSent f x
+      → (words : List ℕ)
+      → Disturbed f (x .asked) words
+      → ((k : ℕ) → k < 2 * pairsIn (shapeOf f) → IsXyz (k / streams (shapeOf f)) → wrongAt f (x .asked) words k ≤ 1)
+      → (w : List ℕ) (d : Disparity) (c : ContentBytes)
+      → Encodes f w d c words
+      → let s = streams (shapeOf f) in
+      (readSpan f w
+      ≡ given (record {
+        line = record { 0 = x .asked .line };
+        content = c;
+        before = d;
+        after = afterRun d (charsOf (shapeOf f) c words);
+        repairs = sumOf s (λ t. wrongAt f (x .asked) words (s * 3 + t) + wrongAt f (x .asked) words (s * 1927 + t));
+      }))
+      × (pictureOf f w ≡ readingOf f x .words)
+  -- and where two of one are: it is refused there
+  pub beyondRepair :
+      (f : Format) (x : Sending)
+      → WasSent f x
+      → (words : List ℕ)
+      → Disturbed f (x .asked) words
+      → (k : ℕ)
+      → k < 2 * pairsIn (shapeOf f)
+      → IsXyz (k / streams (shapeOf f))
+      → wrongAt f (x .asked) words k ≡ 2
+      → ((i : ℕ) → i < 2 * pairsIn (shapeOf f) → IsXyz (i / streams (shapeOf f)) → (i ≡ k → ⊥) → wrongAt f (x .asked) words i ≤ 1)
+      → (w : List ℕ) (d : Disparity) (c : ContentBytes)
+      → Encodes f w d c words
+      → readSpan f w ≡ refused 21 k
+  -- joining what was divided is the row, and dividing what was joined the two rows
+  pub joinSplit : (whole : List ℕ) → length whole ≡ 3840 → joined 1920 (divided 0 1920 whole) (divided 1 1920 whole) ≡ whole
+  pub splitJoin :
+      (first second : List ℕ)
+      → length first ≡ 1920
+      → length second ≡ 1920
+      → (divided 0 1920 (joined 1920 first second) ≡ first) × (divided 1 1920 (joined 1920 first second) ≡ second)
+  -- each sample goes where the place call says
+  pub places :
+      (whole : List ℕ) (u l j : ℕ)
+      → 1 ≤ u
+      → u ≤ 4
+      → 1 ≤ l
+      → l ≤ 1080
+      → j ≤ 1919
+      → (placedOf (lineFrom u l) (sampleFrom u j)
+      ≡ given (record { image = u; line = record { 0 = l }; stream = record { 0 = l + 41 }; sample = j }))
+      × (getD (divided ((u + 1) % 2) 1920 whole) j 0 ≡ getD whole (sampleFrom u j) 0)
+  -- the picture comes back. Formats 1 and 2: picture line 2l - 1 gives images 1 and 2, which one link carries (pair 1), and line 2l gives
+  -- images 3 and 4, which the other does (pair 2). Its row is divided, sent on stream line l + 41 of its link, delivered wherever it stands,
+  -- and joined: it is the row again.
+  pub pictureOfTwo :
+      (f : Format) (content : Content) (whole : List ℕ) (pair l : ℕ)
+      → IsFormat f
+      → f .number ≤ 2
+      → 1 ≤ pair
+      → pair ≤ 2
+      → 1 ≤ l
+      → l ≤ 1080
+      → IsRow f whole
+      → AreContent (contentOf f content)
+      → ((t j : ℕ)
+      → t < 2
+      → j ≤ 1919
+      → placedOf (2 * l + pair - 2) (2 * j + t)
+      ≡ given (record { image = imageOf f pair t; line = record { 0 = l }; stream = record { 0 = l + 41 }; sample = j }))
+      × (words : List ℕ)
+      × Delivers f l content (divided 0 1920 whole ++ divided 1 1920 whole) words
+      × (joined 1920 (streamIn words 0) (streamIn words 1) ≡ wordsFor f whole)
+  -- format 3: the rows of both lines in one span of four streams
+  pub pictureOfFour :
+      (f : Format) (content : Content) (odd even : List ℕ) (l : ℕ)
+      → IsFormat f
+      → f .number ≡ 3
+      → 1 ≤ l
+      → l ≤ 1080
+      → IsRow f odd
+      → IsRow f even
+      → AreContent (contentOf f content)
+      → ((u t j : ℕ)
+      → u < 2
+      → t < 2
+      → j ≤ 1919
+      → placedOf (2 * l + u - 1) (2 * j + t)
+      ≡ given (record { image = imageOf f 1 (2 * u + t); line = record { 0 = l }; stream = record { 0 = l + 41 }; sample = j }))
+      × (words : List ℕ)
+      × Delivers f l content (divided 0 1920 odd ++ (divided 1 1920 odd ++ (divided 0 1920 even ++ divided 1 1920 even))) words
+      × (joined 1920 (streamIn words 0) (streamIn words 1) ≡ wordsFor f odd)
+      × (joined 1920 (streamIn words 2) (streamIn words 3) ≡ wordsFor f even)
+
+-- ==== 3 ====
+
+-- One format and depth at both ends, the recording within the finder's limit: a sent span that stands whole anywhere in it is delivered with its
+-- line number and exactly its picture words, whatever stands around it. In a recording of sent spans alone with one bit inverted, exactly
+-- the other spans are delivered, and nothing else is.
+pub record Demand3 : Type 0 where
+  -- the finder answers q if and only if q is at or after the start, the reader accepts there, and at no place between
+  pub foundIf :
+      (f : Format) (r : List ℕ) (start q : ℕ)
+      → IsFormat f
+      → length r ≤ limit
+      → start ≤ q
+      → accepts f (take (symbolsIn (shapeOf f)) (drop q r)) ≡ true
+      → ((j : ℕ) → start ≤ j → j < q → accepts f (take (symbolsIn (shapeOf f)) (drop j r)) ≡ false)
+      → findOf f r start ≡ given (some q)
+  pub foundOnlyIf :
+      (f : Format) (r : List ℕ) (start q : ℕ)
+      → findOf f r start ≡ given (some q)
+      → (start ≤ q)
+      × (accepts f (take (symbolsIn (shapeOf f)) (drop q r)) ≡ true)
+      × ((j : ℕ) → start ≤ j → j < q → accepts f (take (symbolsIn (shapeOf f)) (drop j r)) ≡ false)
+  -- and none if and only if it accepts nowhere from the start on
+  pub noneIf :
+      (f : Format) (r : List ℕ) (start : ℕ)
+      → IsFormat f
+      → length r ≤ limit
+      → start ≤ length r
+      → ((j : ℕ) → start ≤ j → accepts f (take (symbolsIn (shapeOf f)) (drop j r)) ≡ false)
+      → findOf f r start ≡ given none
+  pub noneOnlyIf :
+      (f : Format) (r : List ℕ) (start : ℕ)
+      → findOf f r start ≡ given none
+      → (j : ℕ)
+      → start ≤ j
+      → accepts f (take (symbolsIn (shapeOf f)) (drop j r)) ≡ false
+  -- delivery is: find, read, find again from the end of that span, until none
+  pub literally :
+      (f : Format) (r : List ℕ) (k p : ℕ)
+      → IsFormat f
+      → length r ≤ p + k
+      → foundFrom (symbolsIn (shapeOf f)) (reading f) k r p ≡ deliveryFrom f r p
+  -- stepping with next span gives it, rows included
+  pub stepping :
+      (f : Format) (r rows : List ℕ) (k p : ℕ)
+      → IsFormat f
+      → length r ≤ limit
+      → Samples f (length rows)
+      → p ≤ length r
+      → length r ≤ p + k
+      → stepsFrom k f r p rows ≡ deliveryFrom f r p
+  -- a sent span anywhere
+  pub anywhere :
+      (f : Format) (x : Sending) (before behind : List ℕ)
+      → WasSent f x
+      → let r = before ++ (symbolsOf f x ++ behind) in
+      length r ≤ limit
+      → Delivered f r
+      (deliveryFrom f before 0
+      ++ (record { place = length before; reading = readingOf f x }
+      ∷ movedBy (length before + symbolsIn (shapeOf f)) (deliveryFrom f behind 0)))
+  -- sent spans alone: exactly those
+  pub alone :
+      (f : Format) (xs : List Sending)
+      → IsFormat f
+      → Each (WasSent f) xs
+      → length (strung (symbolsOf f) xs) ≤ limit
+      → Delivered f (strung (symbolsOf f) xs) (placedFrom (symbolsIn (shapeOf f)) (readingOf f) 0 xs)
+  -- one of the ten bits of one symbol inverted: exactly the others
+  pub oneInverted :
+      (f : Format) (xs ys : List Sending) (x : Sending) (i k : ℕ)
+      → Each (WasSent f) xs
+      → WasSent f x
+      → Each (WasSent f) ys
+      → i < symbolsIn (shapeOf f)
+      → k < 10
+      → let n = symbolsIn (shapeOf f) in
+      let harmed = set (symbolsOf f x) i (inverted k (getD (symbolsOf f x) i 0)) in
+      let r = strung (symbolsOf f) xs ++ (harmed ++ strung (symbolsOf f) ys) in
+      length r ≤ limit
+      → Delivered f r (placedFrom n (readingOf f) 0 xs ++ placedFrom n (readingOf f) (n * length xs + n) ys)
+
+-- ==== beyond ====
+
+-- Any symbols in the place of one span: those before, what these deliver by themselves, every span behind. So nothing behind the damage is
+-- lost, and no more than a span's length of symbols that are not accepted delivers nothing. Lost and inserted symbols are cases of it.
+pub record Beyond : Type 0 where
+  pub damaged :
+      (f : Format) (xs ys : List Sending) (d : List ℕ)
+      → IsFormat f
+      → Each (WasSent f) xs
+      → Each (WasSent f) ys
+      → let n = symbolsIn (shapeOf f) in
+      let r = strung (symbolsOf f) xs ++ (d ++ strung (symbolsOf f) ys) in
+      length r ≤ limit
+      → Delivered f r
+      (placedFrom n (readingOf f) 0 xs
+      ++ (movedBy (n * length xs) (deliveryFrom f d 0) ++ placedFrom n (readingOf f) (n * length xs + length d) ys))
+  pub nothing :
+      (f : Format) (d : List ℕ)
+      → IsFormat f
+      → length d ≤ symbolsIn (shapeOf f)
+      → accepts f d ≡ false
+      → deliveryFrom f d 0 ≡ []
+  -- the beginning of a recording delivers a beginning of what the whole delivers: what is left out ends behind the cut
+  pub cut :
+      (f : Format) (r : List ℕ) (m : ℕ)
+      → IsFormat f
+      → (rest : List (Found Reading))
+      × (deliveryFrom f r 0 ≡ deliveryFrom f (take m r) 0 ++ rest)
+      × AllBehind (symbolsIn (shapeOf f)) m rest

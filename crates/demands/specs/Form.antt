@@ -1,0 +1,150 @@
+-- The forms in which the demands are put: the rows of the table of refusals for a call, the lent memory, a span that was sent.
+-- Assumes nothing.
+use Prim.Native.Nat.{ℕ, zero, suc, _*_, _≤_, _<_}
+use mathlib.Core.Path.{_≡_}
+use mathlib.Core.Bool.{cond}
+use mathlib.Core.List.{List, [], _∷_}
+use mathlib.Core.Logic.{_⊎_}
+use mathlib.Core.Option.{Option, none, some}
+use lib.Dec.{eqb}
+use lib.ListN.{length, getD, replicate, take, drop}
+use Rattle.ground.specs.Answer.{Answer, refused, given}
+use Rattle.ground.specs.Written.{upto, table}
+use Rattle.symbol.specs.declared.disparity.Disparity.{Disparity}
+use Rattle.span.specs.declared.format.Format.{Format}
+use Rattle.span.specs.Content.{contentOf}
+use Rattle.span.specs.Format.{shapeOf, streams}
+use Rattle.span.specs.Span.{spanSymbols, spanAfter}
+use Rattle.span.specs.Stream.{Asked, picture}
+use Rattle.window.specs.Encoded.{AreContent}
+use Rattle.delivery.specs.Delivery.{Found}
+use Rattle.recording.specs.declared.seek.Spanned.{Spanned}
+use Rattle.recording.specs.Call.{nextOf, afterNext, rowsNext}
+use Rattle.recording.specs.Recording.{Reading}
+use Rattle.send.specs.Send.{sendOf}
+
+-- ---- document 01's own numbers
+
+-- a known format and depth
+abbrev pub IsFormat : Format → Type 0
+IsFormat f = (1 ≤ f .number) × (f .number ≤ 3) × ((f .depth ≡ 10) ⊎ (f .depth ≡ 12))
+
+-- x is the first, second or third number where the format is 1, 2 or 3
+abbrev pub Of : ℕ → ℕ → ℕ → ℕ → ℕ → Type 0
+Of a b c number x = ((number ≡ 1) × (x ≡ a)) ⊎ (((number ≡ 2) × (x ≡ b)) ⊎ ((number ≡ 3) × (x ≡ c)))
+
+-- the symbols of a span, and its samples
+abbrev pub Symbols : Format → ℕ → Type 0
+Symbols f = Of 7920 9504 19008 (f .number)
+
+abbrev pub Samples : Format → ℕ → Type 0
+Samples f = Of 3840 3840 7680 (f .number)
+
+-- x may be sent on stream line n
+pub record MaySend (f : Format) (n x : ℕ) : Type 0 where
+  pub ten : f .depth ≡ 10 → 42 ≤ n → n ≤ 1121 → (4 ≤ x) × (x ≤ 1019)
+  pub twelve : f .depth ≡ 12 → 42 ≤ n → n ≤ 1121 → (16 ≤ x) × (x ≤ 4079)
+  pub blanking : (42 ≤ n → n ≤ 1121 → ⊥) → x ≡ 0x100
+
+-- ---- refusals
+
+-- a row of the table of refusals for a call: its number, what a good call has, and which place is answered where it has it not
+pub record Refusal : Type 1 where
+  pub number : ℕ
+  pub good : Type 0
+  pub place : ℕ → Type 0
+
+-- a row without a place
+abbrev pub row : ℕ → Type 0 → Refusal
+row number good = record { number = number; good = good; place = λ k. k ≡ 0 }
+
+-- a row that asks n places: the lowest at which it does not hold is answered
+abbrev pub lowest : ℕ → ℕ → (ℕ → Type 0) → Refusal
+lowest number n Holds =
+    record {
+      number = number;
+      good = (k : ℕ) → k < n → Holds k;
+      place = λ k. (k < n) × (Holds k → ⊥) × ((j : ℕ) → j < k → Holds j);
+    }
+
+-- the rows in the order tried: a call that is not good for a row, and good for all before it, is answered that row's number and place; one
+-- that is good for all rows is not refused (what it is answered, its contract says)
+abbrev pub Tried : {A : Type 0} → Answer A → List Refusal → Type 0
+Tried {A} r [] = (a : A) × (r ≡ given a)
+Tried {A} r (x ∷ xs) =
+    ((x .good → ⊥) → (k : ℕ) × x .place k × (r ≡ refused (x .number) k)) × (x .good → Tried {A = A} r xs)
+
+-- ---- lent memory
+
+-- as it was where the call is refused, else what the call makes
+pub record Lent {A B : Type 0} (r : Answer A) (entry makes exit : B) : Type 0 where
+  pub untouched : (number place : ℕ) → r ≡ refused number place → exit ≡ entry
+  pub made : (a : A) → r ≡ given a → exit ≡ makes
+
+-- the rows of the reader: a refusal below 20 leaves them as they were, one from 20 on leaves zeros
+pub record Rows {A : Type 0} (r : Answer A) (entry makes exit : List ℕ) : Type 0 where
+  pub untouched : (number place : ℕ) → r ≡ refused number place → number < 20 → exit ≡ entry
+  pub zeros : (number place : ℕ) → r ≡ refused number place → 20 ≤ number → exit ≡ replicate (length entry) 0
+  pub made : (a : A) → r ≡ given a → exit ≡ makes
+
+-- ---- spans that were sent
+
+-- a call of the sender: the disparity before, and what is asked for
+pub record Sending : Type 0 where
+  pub before : Disparity
+  pub asked : Asked
+
+-- it was answered, into some room for symbols. Content bytes are bytes.
+pub record WasSent (f : Format) (x : Sending) : Type 0 where
+  pub room : ℕ
+  pub after : Disparity
+  pub sent : sendOf (x .before) f (x .asked) room ≡ given after
+  pub content : AreContent (contentOf f (x .asked .content))
+
+-- the symbols that it put there
+abbrev pub symbolsOf : Format → Sending → List ℕ
+symbolsOf f x = spanSymbols (x .before) f (x .asked)
+
+-- what is to be read of it: its line, its content bytes, both disparities, nothing repaired, and its picture words stream by stream
+abbrev pub readingOf : Format → Sending → Reading
+readingOf f x =
+    record {
+      values =
+          record {
+            line = record { 0 = x .asked .line };
+            content = contentOf f (x .asked .content);
+            before = x .before;
+            after = spanAfter (x .before) f (x .asked);
+            repairs = 0;
+          };
+      words = upto (streams (shapeOf f)) (picture f (x .asked));
+    }
+
+-- ---- delivery by the calls: step by step with next span, from a place on, with rows that were lent; k steps at most
+abbrev pub stepOf : Option Spanned → List ℕ → List (Found Reading) → List (Found Reading)
+stepOf none words more = []
+stepOf (some s) words more = record { place = s .place; reading = record { values = s .delivery; words = words } } ∷ more
+
+abbrev pub onward : Answer (Option Spanned) → List ℕ → List (Found Reading) → List (Found Reading)
+onward (refused number place) words more = []
+onward (given o) words more = stepOf o words more
+
+unfoldable pub stepsFrom : ℕ → Format → List ℕ → ℕ → List ℕ → List (Found Reading)
+stepsFrom zero f r p rows = []
+stepsFrom (suc k) f r p rows =
+    onward (nextOf f r p (length rows)) (rowsNext f r p rows)
+    (stepsFrom k f r (afterNext f r p (length rows)) (rowsNext f r p rows))
+
+-- a recording is delivered as a list: with rows of the right length and as many steps as it has symbols, or more, it is what the calls give
+abbrev pub Delivered : Format → List ℕ → List (Found Reading) → Type 0
+Delivered f r list = (rows : List ℕ) → Samples f (length rows) → (k : ℕ) → length r ≤ k → stepsFrom k f r 0 rows ≡ list
+
+-- ---- the picture
+
+-- the words of a row of samples: at depth 10 shifted by two
+abbrev pub wordsFor : Format → List ℕ → List ℕ
+wordsFor f row = table (length row) (λ i. cond (eqb (f .depth) 10) (4 * getD row i 0) (getD row i 0))
+
+-- the words of stream t, of all streams one after the other
+abbrev pub streamIn : List ℕ → ℕ → List ℕ
+streamIn words t = take 1920 (drop (1920 * t) words)

@@ -1,0 +1,6 @@
+pub mod Calling
+pub mod Copying
+pub mod Looking
+pub mod OneToOne
+pub mod Readings
+pub mod Seeking

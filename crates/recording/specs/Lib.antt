@@ -1,0 +1,4 @@
+pub mod Call
+pub mod Look
+pub mod Recording
+pub mod Seek

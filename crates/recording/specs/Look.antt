@@ -1,0 +1,34 @@
+-- The quick look: a place is passed over where no span can begin.
+-- Assumes nothing.
+use Prim.Native.Nat.{ℕ, suc, _≤_, _<_}
+use mathlib.Core.Path.{_≡_}
+use mathlib.Core.Bool.{Bool, false, cond, _&&_, _||_}
+use mathlib.Core.List.{List}
+use lib.Dec.{eqb}
+use lib.ListN.{getD}
+use Rattle.symbol.specs.declared.disparity.Disparity.the-variants.{Negative, Positive}
+use Rattle.symbol.specs.declared.special.Special.the-variants.{«K28_5»}
+use Rattle.symbol.specs.Character.{numberOf}
+use Rattle.symbol.specs.Code.{symbolOf}
+
+-- K28.5 in either form
+unfoldable pub isComma : ℕ → Bool
+isComma s = eqb s (symbolOf Negative (numberOf «K28_5»)) || eqb s (symbolOf Positive (numberOf «K28_5»))
+
+-- 1 where it is
+abbrev pub commaIn : ℕ → ℕ
+commaIn s = cond (isComma s) 1 0
+
+-- a span may begin at q: K28.5 stands there, and behind it again
+abbrev pub mayBegin : List ℕ → ℕ → Bool
+mayBegin r q = isComma (getD r q 0) && isComma (getD r (suc q) 0)
+
+-- q is at or after a place, and no span begins from that place on before q
+pub record Passed (r : List ℕ) (from to q : ℕ) : Type 0 where
+  pub at : from ≤ q
+  pub below : q ≤ to
+  pub none : (j : ℕ) → from ≤ j → j < q → mayBegin r j ≡ false
+
+-- no symbol from one place to another is K28.5
+pub record NoComma (r : List ℕ) (from to : ℕ) : Type 0 where
+  pub none : (j : ℕ) → from ≤ j → j < to → isComma (getD r j 0) ≡ false

@@ -1,0 +1,49 @@
+// Finding a span in a recording (document 01, "Receiving and finding").
+use crate::seek::Sought;
+use span::format::Format;
+ghost use mathlib.Core.Path.{_≡_};
+ghost use Rattle.recording.specs.Call.{paperFound, findOf};
+ghost use Rattle.recording.specs.Recording.{limit as limitOf};
+
+pub enum Found {
+    At(usize),
+    Nowhere,
+    // 1
+    UnknownFormat,
+    // 3
+    WrongInput,
+    // 5
+    WrongStart,
+}
+
+// The symbols that a recording may have.
+pub fn limit() -> usize
+    ensures { λ r. ⌜ r ≡ limitOf ⌝ }
+{
+    2097152
+}
+
+// The first place at or after a start where the reader would accept, or none. The reader's rows are the finder's own.
+pub fn find(f: Format, symbols: &[u16], start: usize) -> Found
+    ensures { λ r. ⌜ paperFound r ≡ findOf f (now (symbols .entry)) start ⌝ }
+{
+    if span::format::is_known(f) {
+        if limit() < symbols.len() {
+            return Found::WrongInput;
+        }
+        if symbols.len() < start {
+            return Found::WrongStart;
+        }
+        let mut rows = [0u16; 7680];
+        let m = span::length::span_lengths(f).samples;
+        match crate::seek::seek(f, symbols, start, &mut rows[..m]) {
+            Sought::Span(s) => {
+                return Found::At(s.place);
+            },
+            Sought::None => {
+                return Found::Nowhere;
+            },
+        }
+    }
+    Found::UnknownFormat
+}

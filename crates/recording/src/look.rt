@@ -1,0 +1,73 @@
+// The quick look: one look a symbol, at the speed of memory.
+ghost use mathlib.Core.Path.{_≡_};
+ghost use Prim.Native.Nat.{_+_, _≤_};
+ghost use lib.ListN.{length};
+ghost use Rattle.recording.specs.Look.{commaIn, Passed, NoComma};
+
+// Symbols that are looked at together.
+const PIECE: usize = 64;
+
+// 1 for K28.5 in either form, else 0.
+fn comma(s: u16) -> u16
+    ensures comma { λ r. ⌜ r ≡ commaIn s ⌝ }
+    ensures small { λ r. ⌜ r ≤ 1 ⌝ }
+{
+    if s == 0x17C {
+        return 1;
+    }
+    if s == 0x283 {
+        return 1;
+    }
+    0
+}
+
+// 0 only where no symbol from one place to another is K28.5. None is asked about by itself, so that the loop has one way out.
+fn commas(symbols: &[u16], from: usize, to: usize) -> u16
+    requires { ⌜ from ≤ to ⌝ }
+    requires { ⌜ to ≤ length (now symbols) ⌝ }
+    ensures { λ r. ⌜ (r ≡ 0 → NoComma (now (symbols .entry)) from to) ⌝ }
+{
+    let mut found = 0;
+    let mut i = from;
+    while i < to {
+        found = found | comma(symbols[i]);
+        i += 1;
+    }
+    found
+}
+
+// The first place, of those from one to another, at which K28.5 stands twice; the end where there is none.
+fn look_in(symbols: &[u16], from: usize, to: usize) -> usize
+    requires { ⌜ from ≤ to ⌝ }
+    requires { ⌜ to + 1 ≤ length (now symbols) ⌝ }
+    ensures { λ q. ⌜ Passed (now (symbols .entry)) from to q ⌝ }
+{
+    let mut i = from;
+    while i < to {
+        if comma(symbols[i]) + comma(symbols[i + 1]) == 2 {
+            return i;
+        }
+        i += 1;
+    }
+    to
+}
+
+// The same, piece by piece: most have no K28.5.
+pub(crate) fn look(symbols: &[u16], from: usize, to: usize) -> usize
+    requires { ⌜ from ≤ to ⌝ }
+    requires { ⌜ to + 1 ≤ length (now symbols) ⌝ }
+    ensures { λ q. ⌜ Passed (now (symbols .entry)) from to q ⌝ }
+{
+    let mut i = from;
+    while i < to {
+        let end = i + ground::least::least(PIECE, to - i);
+        if commas(symbols, i, end) != 0 {
+            let q = look_in(symbols, i, end);
+            if q < end {
+                return q;
+            }
+        }
+        i = end;
+    }
+    to
+}
