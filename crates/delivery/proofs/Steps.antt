@@ -38,6 +38,21 @@ module _ {A : Type 0} (n : ℕ) (read : List ℕ → Option A) where
   unfolding deliver
   passed-over p x l e = rw e
 
+  module _ (whole : Whole n read) where
+    -- where something is read, it is delivered, and delivery goes on at the end of the window
+    pub found : (p : ℕ) (l : List ℕ) (a : A) → read (take n l) ≡ some a
+        → deliver n read p 0 l ≡ record { place = p; reading = a } ∷ deliver n read (p + n) 0 (drop n l)
+    unfolding deliver
+    found p [] a e =
+        let long = whole .long (take n []) a e in
+        absurd (omega (arith, whole .least, ap length (take-nil {A = ℕ} n)))
+    found p (x ∷ l) a e =
+        let m = n - 1 in
+        let is : n ≡ suc m = omega (arith, whole .least) in
+        let q : suc p + m ≡ p + n = omega (arith, whole .least) in
+        rw e (ap (λ (more : List (Found A)). record { place = p; reading = a } ∷ more)
+        (skipped (suc p) m l ∙ ap (λ (k : ℕ). deliver n read k 0 (drop m l)) q ∙ ap (λ (k : ℕ). deliver n read (p + n) 0 (drop k (x ∷ l))) (sym is)))
+
   -- what stands before a recording moves its places, and nothing else
   pub moved : (k p skip : ℕ) (l : List ℕ) → deliver n read (k + p) skip l ≡ movedBy k (deliver n read p skip l)
   unfolding deliver movedBy
@@ -53,18 +68,3 @@ module _ {A : Type 0} (n : ℕ) (read : List ℕ → Option A) where
           ≡ movedBy k (either p o (deliver n read (suc p) 0 l) (deliver n read (suc p) (n - 1) l))
       go none on behind = on
       go (some a) on behind = ap (λ (more : List (Found A)). record { place = k + p; reading = a } ∷ more) behind
-
-  module _ (whole : Whole n read) where
-    -- where something is read, it is delivered, and delivery goes on at the end of the window
-    pub found : (p : ℕ) (l : List ℕ) (a : A) → read (take n l) ≡ some a
-        → deliver n read p 0 l ≡ record { place = p; reading = a } ∷ deliver n read (p + n) 0 (drop n l)
-    unfolding deliver
-    found p [] a e =
-        let long = whole .long (take n []) a e in
-        absurd (omega (arith, whole .least, ap length (take-nil {A = ℕ} n)))
-    found p (x ∷ l) a e =
-        let m = n - 1 in
-        let is : n ≡ suc m = omega (arith, whole .least) in
-        let q : suc p + m ≡ p + n = omega (arith, whole .least) in
-        rw e (ap (λ (more : List (Found A)). record { place = p; reading = a } ∷ more)
-        (skipped (suc p) m l ∙ ap (λ (k : ℕ). deliver n read k 0 (drop m l)) q ∙ ap (λ (k : ℕ). deliver n read (p + n) 0 (drop k (x ∷ l))) (sym is)))

@@ -97,7 +97,10 @@ add-i : tie.Need-add-i Inv-loop μ-loop
 add-i c = search needs
 
 loop-less : tie.Need-loop-less Inv-loop μ-loop
-loop-less c = omega (arith, c .before .before .before .before .before .before .before .look .ensures .at, c .before .before .before .before .before .before .if2 .taken)
+loop-less c =
+    let n = ap (λ (l : SpanLengths). l .symbols) (c .before .before .before .before .before .before .before .before .before .before .before .span-lengths .ensures) in
+    let few = three (c .before .before .before .before .before .before .before .before .before .before .before .before .before .before .args .f) (c .before .before .before .before .before .before .before .before .before .before .before .before .before .before .pre .0) in
+    omega (arith, n, few, c .before .before .before .before .before .before .before .look .ensures .at, c .before .before .before .before .before .before .if2 .taken)
 
 loop-again : tie.Need-loop-again Inv-loop μ-loop
 loop-again c =
