@@ -13,8 +13,8 @@ use Rattle.line.specs.declared.stream.StreamLine.{StreamLine}
 use Rattle.line.specs.Stream.{lineBefore}
 use Rattle.span.specs.declared.format.Shape.{Shape}
 use Rattle.span.specs.Format.{streams}
-use Rattle.word.specs.declared.bytes.TwoWords.{TwoWords}
-use Rattle.word.specs.Bytes.{wordsOf}
+use Rattle.packing.specs.declared.bytes.TwoWords.{TwoWords}
+use Rattle.packing.specs.Bytes.{wordsOf}
 use Rattle.word.specs.Crcc.{crc, crcWord, crccWords}
 use Rattle.word.specs.LineNumber.{lineOf, namedOf}
 use Rattle.window.specs.Tests.{wordOf, repaired, wrongBits, sumOf, nextLine, lineRead, repairs}

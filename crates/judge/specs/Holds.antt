@@ -14,7 +14,7 @@ use Rattle.span.specs.Format.{streams}
 use Rattle.span.specs.Span.{fillWord}
 use Rattle.word.specs.declared.crcc.CrccWords.{CrccWords}
 use Rattle.word.specs.Crcc.{crc, crccWords}
-use Rattle.word.specs.Sample.{allowedWord}
+use Rattle.packing.specs.Sample.{allowedWord}
 use Rattle.window.specs.declared.sums.Sums.{Sums}
 use Rattle.window.specs.Read.{placed}
 use Rattle.window.specs.Sums.{sumIn}

@@ -175,7 +175,7 @@ fn holds(
     }
     let w = crate::words::word_at(t, p, symbols, k);
     if number == 25 {
-        return word::sample::allowed_word(span::format::depth_of(f), w);
+        return packing::sample::allowed_word(span::format::depth_of(f), w);
     }
     w == 0x100
 }

@@ -1,6 +1,6 @@
 // The words of a window, the replaced bytes of its timing codes at their fixed values (document 01, "A span").
 use span::format::Shape;
-use word::bytes::ThreeBytes;
+use packing::bytes::ThreeBytes;
 ghost use mathlib.Core.Path.{_≡_};
 ghost use Prim.Native.Nat.{_*_, _≤_, _<_};
 ghost use lib.ListN.{length};
@@ -51,7 +51,7 @@ pub(crate) fn word_at(t: &[u16; 1024], p: Shape, symbols: &[u16], k: usize) -> u
     ensures small { λ r. ⌜ r < 4096 ⌝ }
 {
     let q = k / 2;
-    let w = word::bytes::unpack(ThreeBytes {
+    let w = packing::bytes::unpack(ThreeBytes {
         first: byte_at(t, p, symbols, 3 * q),
         second: byte_at(t, p, symbols, 3 * q + 1),
         third: byte_at(t, p, symbols, 3 * q + 2),

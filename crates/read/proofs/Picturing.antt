@@ -21,7 +21,7 @@ use Rattle.span.specs.declared.format.Format.{Format}
 use Rattle.span.specs.Format.{shapeOf, streams, pairsIn}
 use Rattle.span.specs.Span.{fillWord}
 use Rattle.span.proofs.Lengths.{known-has-streams}
-use Rattle.word.specs.Sample.{allowedWord}
+use Rattle.packing.specs.Sample.{allowedWord}
 use Rattle.rows.specs.Fill.{fillRight}
 use Rattle.rows.specs.Picture.{allAllowed}
 use Rattle.judge.specs.Call.{place25, place26}

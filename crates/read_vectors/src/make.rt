@@ -76,7 +76,7 @@ fn picture_word(depth: u8, line: u16, k: usize, w: u32) -> u16 {
         return 0xB5B;
     }
     if line::stream::is_active(line::stream::stream_line(line)) {
-        return word::sample::sample_word(depth, sample_by(depth, w));
+        return packing::sample::sample_word(depth, sample_by(depth, w));
     }
     0x100
 }
@@ -175,7 +175,7 @@ fn put_words(words: &mut [u16], s: usize, depth: u8, line: u16, ns: &[u16])
 // The bytes of the words two by two.
 fn put_bytes(words: &[u16], chars: &mut [u16]) {
     for q in 0..words.len() / 2 {
-        let b = word::bytes::bytes_of(at(words, 2 * q), at(words, 2 * q + 1));
+        let b = packing::bytes::bytes_of(at(words, 2 * q), at(words, 2 * q + 1));
         put(chars, 3 * q, b.first as u16);
         put(chars, 3 * q + 1, b.second as u16);
         put(chars, 3 * q + 2, b.third as u16);

@@ -11,7 +11,7 @@ use lib.ListN.{length, getD, drop, drop-of-length-le}
 use borrow.Author.Tests.{ne-eqb}
 use Rattle.ground.proofs.Cases.{on-test}
 use Rattle.ground.proofs.Reading.{next-left}
-use Rattle.word.specs.Sample.{allowedWord}
+use Rattle.packing.specs.Sample.{allowedWord}
 use Rattle.rows.specs.Picture.{allAllowed, wrongOf}
 
 -- a one that is put in stays

@@ -17,7 +17,7 @@ use Rattle.span.specs.declared.format.Format.{Format}
 use Rattle.span.specs.declared.format.Shape.{Shape}
 use Rattle.span.specs.Format.{isKnown, shapeOf, streams, samplesIn, symbolsIn}
 use Rattle.span.specs.Span.{fillWord}
-use Rattle.word.specs.declared.bytes.TwoWords.{TwoWords}
+use Rattle.packing.specs.declared.bytes.TwoWords.{TwoWords}
 use Rattle.window.specs.Words.{wordAt}
 use Rattle.rows.specs.Given.{plainPair, ready}
 use Rattle.rows.specs.Fill.{fillRight, fillIf}

@@ -12,8 +12,8 @@ use borrow.Author.Tests.{ltb-true, ltb-false}
 use Rattle.ground.proofs.Cases.{on-test}
 use Rattle.span.specs.declared.format.Shape.{Shape}
 use Rattle.span.specs.Format.{streams, eavAt}
-use Rattle.word.specs.declared.bytes.TwoWords.{TwoWords}
-use Rattle.word.specs.Bytes.{wordsOf}
+use Rattle.packing.specs.declared.bytes.TwoWords.{TwoWords}
+use Rattle.packing.specs.Bytes.{wordsOf}
 use Rattle.window.specs.Scan.{byteOf, symbolAt}
 use Rattle.window.specs.Words.{pairAt, wordAt}
 use Rattle.window.proofs.Bytes.{byte-else}

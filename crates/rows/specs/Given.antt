@@ -10,8 +10,8 @@ use Rattle.decoder.specs.Decoder.{decodingTable}
 use Rattle.span.specs.declared.format.Format.{Format}
 use Rattle.span.specs.declared.format.Shape.{Shape}
 use Rattle.span.specs.Format.{isKnown, shapeOf, samplesIn, symbolsIn, Small}
-use Rattle.word.specs.declared.bytes.TwoWords.{TwoWords}
-use Rattle.word.specs.Bytes.{wordsOf}
+use Rattle.packing.specs.declared.bytes.TwoWords.{TwoWords}
+use Rattle.packing.specs.Bytes.{wordsOf}
 use Rattle.window.specs.Scan.{symbolAt, byteOf}
 
 pub record Given (p : Shape) (t w : List ℕ) : Type 0 where

@@ -10,7 +10,7 @@ use Rattle.span.specs.declared.format.Format.{Format}
 use Rattle.span.specs.declared.format.Shape.{Shape}
 use Rattle.span.specs.Format.{shapeOf, streams}
 use Rattle.word.specs.Crcc.{crc}
-use Rattle.word.specs.Sample.{allowedWord}
+use Rattle.packing.specs.Sample.{allowedWord}
 use Rattle.window.specs.Read.{pictureOf}
 use Rattle.window.specs.Tests.{column}
 use Rattle.window.specs.Words.{wordAt}

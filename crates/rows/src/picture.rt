@@ -98,7 +98,7 @@ pub fn take_picture(f: Format, symbols: &[u16], rows: &mut [u16]) -> Sums
 fn wrong_word(depth: u8, w: u16) -> u16
     ensures { λ r. ⌜ r ≡ wrongOf depth w ⌝ }
 {
-    if word::sample::allowed_word(depth, w) {
+    if packing::sample::allowed_word(depth, w) {
         return 0;
     }
     1

@@ -1,6 +1,6 @@
 // Words out of symbols through the lent table (004, 7.1).
-use word::bytes::ThreeBytes;
-use word::bytes::TwoWords;
+use packing::bytes::ThreeBytes;
+use packing::bytes::TwoWords;
 ghost use mathlib.Core.Path.{_≡_};
 ghost use Prim.Native.Nat.{_+_, _≤_};
 ghost use lib.ListN.{length};
@@ -13,7 +13,7 @@ pub(crate) fn pair_from(t: &[u16; 1024], symbols: &[u16], o: usize) -> TwoWords
     requires { ⌜ o + 3 ≤ length (now symbols) ⌝ }
     ensures { λ r. ⌜ r ≡ plainPair (now (symbols .entry)) o ⌝ }
 {
-    word::bytes::unpack(ThreeBytes {
+    packing::bytes::unpack(ThreeBytes {
         first: decoder::table::byte_of(t, symbols[o]),
         second: decoder::table::byte_of(t, symbols[o + 1]),
         third: decoder::table::byte_of(t, symbols[o + 2]),

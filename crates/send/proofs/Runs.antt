@@ -13,8 +13,8 @@ use Rattle.symbol.specs.Code.{afterOf}
 use Rattle.encoder.specs.Tables.{offsetOf, ofOffset}
 use Rattle.span.specs.Encoding.{symbolsFrom, afterRun}
 use Rattle.span.proofs.Encoding.{same-again, stays, length-symbols}
-use Rattle.word.specs.declared.bytes.ThreeBytes.{ThreeBytes}
-use Rattle.word.specs.Bytes.{bytesOf}
+use Rattle.packing.specs.declared.bytes.ThreeBytes.{ThreeBytes}
+use Rattle.packing.specs.Bytes.{bytesOf}
 use Rattle.send.specs.declared.coder.Three.{Three}
 use Rattle.send.specs.Put.{behind, put, pairChars, runChars, threeOf, Stays}
 use Rattle.send.proofs.Putting.{Put, three-put}

@@ -14,7 +14,7 @@ use Rattle.symbol.specs.declared.special.Special.the-variants.{«K28_5», «K29
 use Rattle.symbol.specs.Character.{numberOf}
 use Rattle.symbol.specs.Code.{symbolOf, afterOf}
 use Rattle.encoder.specs.Tables.{offsetOf, ofOffset}
-use Rattle.word.specs.Bytes.{bytesOf}
+use Rattle.packing.specs.Bytes.{bytesOf}
 use Rattle.line.specs.Stream.{vOf, lineAfter}
 use Rattle.word.specs.declared.crcc.CrccWords.{CrccWords}
 use Rattle.word.specs.declared.line_number.LineWords.{LineWords}

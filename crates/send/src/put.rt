@@ -59,7 +59,7 @@ pub(crate) fn put_pair(
     ensures offset { λ r. ⌜ r ≡ behind d (pairChars a b) ⌝ }
     ensures out { λ _. ⌜ now (out .exit) ≡ put d (pairChars a b) at (now (out .entry)) ⌝ }
 {
-    let t = word::bytes::bytes_of(a, b);
+    let t = packing::bytes::bytes_of(a, b);
     put_three(
         symbols,
         turns,
@@ -150,7 +150,7 @@ pub(crate) fn put_run(
     requires { ⌜ at + 3 * pairs ≤ length (now out) ⌝ }
     ensures { λ _. ⌜ now (out .exit) ≡ put d (runChars pairs w) at (now (out .entry)) ⌝ }
 {
-    let b = word::bytes::bytes_of(w, w);
+    let b = packing::bytes::bytes_of(w, w);
     let t = crate::coder::code_three(
         symbols,
         turns,

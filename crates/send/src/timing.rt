@@ -30,7 +30,7 @@ fn put_sync(
     ensures offset { λ r. ⌜ r ≡ behind d (syncChars k content1 content2 w) ⌝ }
     ensures out { λ _. ⌜ now (out .exit) ≡ put d (syncChars k content1 content2 w) at (now (out .entry)) ⌝ }
 {
-    let t = word::bytes::bytes_of(w, w);
+    let t = packing::bytes::bytes_of(w, w);
     let d1 = crate::put::put_three(symbols, turns, d, k, k, content1 as u16, out, at);
     crate::put::put_three(
         symbols,

@@ -7,7 +7,7 @@ use native.Mathlib.Omega.{arith}
 use lib.ListN.{length, getD, replicate}
 use Rattle.ground.specs.Written.{upto, table}
 use Rattle.ground.proofs.Writing.{length-upto, getD-upto, length-table, is-table, upto-same, table-pairs, replicate-table}
-use Rattle.word.specs.Bytes.{bytesOf}
+use Rattle.packing.specs.Bytes.{bytesOf}
 use Rattle.span.specs.Span.{across, interleaved, listed, bytes}
 
 -- an even number of words, and the words behind them

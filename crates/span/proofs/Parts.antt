@@ -8,7 +8,7 @@ use native.Mathlib.Omega.{arith}
 use lib.ListN.{length, getD, replicate, getD-replicate}
 use Rattle.ground.specs.Written.{upto}
 use Rattle.ground.proofs.Writing.{upto-same, upto-again}
-use Rattle.word.specs.Bytes.{bytesOf}
+use Rattle.packing.specs.Bytes.{bytesOf}
 use lib.Seq.{drop-append-le}
 use Rattle.symbol.specs.declared.special.Special.{Special}
 use Rattle.symbol.specs.Character.{numberOf}

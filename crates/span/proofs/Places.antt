@@ -14,7 +14,7 @@ use Rattle.symbol.specs.declared.special.Special.the-variants.{«K28_5», «K29
 use Rattle.symbol.specs.Character.{numberOf}
 use Rattle.symbol.specs.Code.{symbolOf, TwoForms}
 use Rattle.symbol.proofs.Forms.{two-forms}
-use Rattle.word.specs.Bytes.{bytesOf}
+use Rattle.packing.specs.Bytes.{bytesOf}
 use Rattle.word.specs.Crcc.{crccWords}
 use Rattle.word.specs.LineNumber.{ln0, ln1}
 use Rattle.word.specs.Timing.{timing}

@@ -4,7 +4,7 @@ use Prim.Native.Nat.{ℕ}
 use mathlib.Core.Bool.{Bool, cond}
 use lib.Dec.{eqb}
 use Rattle.line.specs.Stream.{isActive}
-use Rattle.word.specs.Sample.{allowed as allowedAt, sampleWord as wordAt}
+use Rattle.packing.specs.Sample.{allowed as allowedAt, sampleWord as wordAt}
 use Rattle.span.specs.declared.format.Format.{Format}
 use Rattle.span.specs.declared.sample.Bounds.{Bounds}
 

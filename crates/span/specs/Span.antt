@@ -10,8 +10,8 @@ use Rattle.symbol.specs.declared.special.Special.{Special}
 use Rattle.symbol.specs.declared.special.Special.the-variants.{«K28_5», «K29_7»}
 use Rattle.symbol.specs.Character.{numberOf}
 use Rattle.symbol.specs.Disparity.{fresh}
-use Rattle.word.specs.declared.bytes.ThreeBytes.{ThreeBytes}
-use Rattle.word.specs.Bytes.{bytesOf}
+use Rattle.packing.specs.declared.bytes.ThreeBytes.{ThreeBytes}
+use Rattle.packing.specs.Bytes.{bytesOf}
 use Rattle.span.specs.declared.format.Format.{Format}
 use Rattle.span.specs.Content.{contentOf}
 use Rattle.span.specs.Encoding.{symbolsFrom, afterRun}

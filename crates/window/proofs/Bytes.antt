@@ -16,9 +16,9 @@ use Rattle.span.specs.declared.format.Shape.{Shape}
 use Rattle.span.specs.Format.{streams, pairsIn, symbolsIn, eavAt}
 use Rattle.span.specs.Span.{listed, bytes}
 use Rattle.span.proofs.Packing.{byte-at}
-use Rattle.word.specs.declared.bytes.ThreeBytes.{ThreeBytes}
-use Rattle.word.specs.Bytes.{bytesOf, wordsOf}
-use Rattle.word.proofs.Packing.{AreBytes, words-are, pack-unpack, are-bytes}
+use Rattle.packing.specs.declared.bytes.ThreeBytes.{ThreeBytes}
+use Rattle.packing.specs.Bytes.{bytesOf, wordsOf}
+use Rattle.packing.proofs.Packing.{AreBytes, words-are, pack-unpack, are-bytes}
 use Rattle.window.specs.Scan.{byteOf, symbolAt}
 use Rattle.window.specs.Words.{fixedByte, byteAt, pairAt, wordAt}
 

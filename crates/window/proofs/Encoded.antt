@@ -15,9 +15,9 @@ use Rattle.ground.specs.Written.{upto, table}
 use Rattle.ground.proofs.Cases.{on-test}
 use Rattle.symbol.specs.declared.disparity.Disparity.{Disparity}
 use Rattle.symbol.specs.Character.{characters}
-use Rattle.word.specs.Bytes.{bytesOf}
+use Rattle.packing.specs.Bytes.{bytesOf}
 use Rattle.word.specs.Timing.{timing, timingCode}
-use Rattle.word.proofs.Packing.{unpack-pack}
+use Rattle.packing.proofs.Packing.{unpack-pack}
 use Rattle.span.specs.declared.content.ContentBytes.{ContentBytes}
 use Rattle.span.specs.declared.format.Format.{Format}
 use Rattle.span.specs.declared.format.Shape.{Shape}

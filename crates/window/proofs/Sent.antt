@@ -14,11 +14,11 @@ use Rattle.ground.proofs.Writing.{replicate-table, table-same}
 use Rattle.line.specs.Stream.{isActive, vOf, lineAfter}
 use Rattle.word.specs.Crcc.{crc, crccWords}
 use Rattle.word.specs.LineNumber.{ln0, ln1}
-use Rattle.word.specs.Sample.{allowed as allowedAt, sampleWord as wordAt, allowedWord}
+use Rattle.packing.specs.Sample.{allowed as allowedAt, sampleWord as wordAt, allowedWord}
 use Rattle.word.specs.Timing.{timing, timingCode}
 use Rattle.word.proofs.Guards.{guard-below}
 use Rattle.word.proofs.LineNumbers.{ln0-below, ln1-below}
-use Rattle.word.proofs.Samples.{sent-ten, sent-twelve}
+use Rattle.packing.proofs.Samples.{sent-ten, sent-twelve}
 use Rattle.word.proofs.Timings.{timing-below}
 use Rattle.span.specs.declared.format.Format.{Format}
 use Rattle.span.specs.Format.{shapeOf, streams}

@@ -25,8 +25,8 @@ use Rattle.span.proofs.Formats.{known-told}
 use Rattle.span.proofs.Lengths.{known-has-streams, length-words}
 use Rattle.span.proofs.Places.{sav-words, picture-word, eav-words, line-number-words, crcc-words, ancillary-blank, fill-word}
 use Rattle.word.specs.Crcc.{crccWords}
-use Rattle.word.specs.Sample.{allowedWord}
-use Rattle.word.proofs.Samples.{received-ten, received-twelve}
+use Rattle.packing.specs.Sample.{allowedWord}
+use Rattle.packing.proofs.Samples.{received-ten, received-twelve}
 use Rattle.window.specs.Encoded.{charsOf, AreContent, Meets, Sendable, sampleIn, askedFor, askedAgain}
 use Rattle.window.specs.Read.{contentIn}
 use Rattle.window.specs.Scan.{startOf}

@@ -18,7 +18,7 @@ use Rattle.span.specs.Span.{fillWord}
 use Rattle.word.specs.Crcc.{crc, crccWords}
 use Rattle.word.specs.LineNumber.{lineOf}
 use Rattle.word.specs.Repair.{distance, legalWord, nearest}
-use Rattle.word.specs.Sample.{allowedWord}
+use Rattle.packing.specs.Sample.{allowedWord}
 use Rattle.word.specs.Timing.{bit, timingCode}
 
 -- ---- one word

@@ -10,8 +10,8 @@ use Rattle.ground.specs.Range.{within}
 use Rattle.span.specs.declared.format.Shape.{Shape}
 use Rattle.span.specs.Format.{streams, eavAt}
 use Rattle.span.specs.Span.{interleaved, bytes}
-use Rattle.word.specs.declared.bytes.TwoWords.{TwoWords}
-use Rattle.word.specs.Bytes.{wordsOf}
+use Rattle.packing.specs.declared.bytes.TwoWords.{TwoWords}
+use Rattle.packing.specs.Bytes.{wordsOf}
 use Rattle.word.specs.Timing.{timingCode}
 use Rattle.window.specs.Scan.{byteOf, symbolAt}
 

@@ -3,8 +3,6 @@ pub mod Crc
 pub mod Guards
 pub mod LineNumbers
 pub mod OneToOne
-pub mod Packing
 pub mod Repairs
-pub mod Samples
 pub mod Timings
 pub mod Words

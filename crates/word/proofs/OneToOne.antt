@@ -7,9 +7,6 @@ use lib.Dec.{eqb}
 use Rattle.ground.specs.Answer.{Answer, refused, given, OneToOne}
 use Rattle.ground.proofs.Answers.{told-again}
 use Rattle.line.specs.declared.stream.StreamLine.{StreamLine}
-use Rattle.word.specs.declared.bytes.ThreeBytes.{ThreeBytes}
-use Rattle.word.specs.declared.bytes.Packed.{Packed}
-use Rattle.word.specs.declared.bytes.Packed.the-variants as Packed
 use Rattle.word.specs.declared.crcc.Crcc.{Crcc}
 use Rattle.word.specs.declared.crcc.Crcc.the-variants as Crcc
 use Rattle.word.specs.declared.line_number.LineWords.{LineWords}
@@ -20,7 +17,6 @@ use Rattle.word.specs.declared.line_number.Named.the-variants as Named
 use Rattle.word.specs.declared.repair.Repaired.{Repaired}
 use Rattle.word.specs.declared.repair.Repair.{Repair}
 use Rattle.word.specs.declared.repair.Repair.the-variants as Repair
-use Rattle.word.specs.Bytes.{paperPacked}
 use Rattle.word.specs.Crcc.{paperCrcc}
 use Rattle.word.specs.LineNumber.{paperNumbered, paperNamed}
 use Rattle.word.specs.Repair.{paperRepair}
@@ -70,14 +66,3 @@ crcc-one-to-one = told-again crccAgain again
     again : (r : Crcc) → crccAgain (paperCrcc r) ≡ r
     again (Crcc.Register c) = refl
     again Crcc.Above4095 = refl
-
-abbrev packedAgain : Answer ThreeBytes → Packed
-packedAgain (refused n place) = Packed.Above4095
-packedAgain (given t) = Packed.Bytes t
-
-pub packed-one-to-one : OneToOne paperPacked
-packed-one-to-one = told-again packedAgain again
-  where
-    again : (r : Packed) → packedAgain (paperPacked r) ≡ r
-    again (Packed.Bytes t) = refl
-    again Packed.Above4095 = refl

@@ -5,7 +5,7 @@ use mathlib.Core.Bool.{Bool}
 use Prim.Native.Nat.{ℕ, _/_, _%_}
 use lib.Dec.{eqb}
 use Rattle.span.specs.Format.{streams}
-use Rattle.word.specs.Sample.{allowedWord}
+use Rattle.packing.specs.Sample.{allowedWord}
 use Rattle.judge.proofs.Numbers.{at-21, at-22, at-23, at-24, at-25, at-26}
 use Rattle.judge.proofs.Reading.{here}
 use borrow.Author.Needs.{needs}

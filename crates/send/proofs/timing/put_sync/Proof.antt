@@ -3,7 +3,7 @@
 use mathlib.Core.Path.{refl, sym, ap}
 use mathlib.Core.List.{[], _∷_}
 use native.Mathlib.Omega.{arith}
-use Rattle.word.specs.declared.bytes.ThreeBytes.{ThreeBytes}
+use Rattle.packing.specs.declared.bytes.ThreeBytes.{ThreeBytes}
 use Rattle.send.proofs.Putting.{made, renamed, then, is-offset, same-size}
 use borrow.Author.Needs.{needs}
 use Rattle.send.proofs.timing.put_sync.Statement.{statement}

@@ -1,6 +1,6 @@
 // Two words as three bytes, and back (004, 7.1; document 01, "A span").
 ghost use mathlib.Core.Path.{_≡_};
-ghost use Rattle.word.specs.Bytes.{bytesOf, wordsOf, paperPacked, packedOf};
+ghost use Rattle.packing.specs.Bytes.{bytesOf, wordsOf, paperPacked, packedOf};
 
 pub struct ThreeBytes {
     pub first: u8,

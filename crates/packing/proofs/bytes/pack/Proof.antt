@@ -1,14 +1,14 @@
--- `word::bytes::pack` meets its contract: the tests say which case of the definition holds.
+-- `packing::bytes::pack` meets its contract: the tests say which case of the definition holds.
 -- Assumes nothing.
 use mathlib.Core.Path.{sym, ap, _∙_}
 use mathlib.Core.Logic.{inl, inr}
 use Prim.Native.Nat.{_≤_}
 use native.Mathlib.Omega.{arith}
 use Rattle.ground.specs.Answer.{given}
-use Rattle.word.proofs.Packing.{packs, pack-meets-7}
+use Rattle.packing.proofs.Packing.{packs, pack-meets-7}
 use borrow.Author.Needs.{needs}
-use Rattle.word.proofs.bytes.pack.Statement.{statement}
-use Rattle.word.proofs.bytes.pack.Tie as tie
+use Rattle.packing.proofs.bytes.pack.Statement.{statement}
+use Rattle.packing.proofs.bytes.pack.Tie as tie
 
 returns : tie.Need-returns
 returns c =

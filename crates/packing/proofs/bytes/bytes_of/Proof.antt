@@ -1,10 +1,10 @@
--- `word::bytes::bytes_of` meets its contract, which is its code.
+-- `packing::bytes::bytes_of` meets its contract, which is its code.
 -- Assumes nothing.
 use mathlib.Core.Path.{refl}
-use Rattle.word.specs.Bytes.{bytesOf}
+use Rattle.packing.specs.Bytes.{bytesOf}
 use borrow.Author.Needs.{needs}
-use Rattle.word.proofs.bytes.bytes_of.Statement.{statement}
-use Rattle.word.proofs.bytes.bytes_of.Tie as tie
+use Rattle.packing.proofs.bytes.bytes_of.Statement.{statement}
+use Rattle.packing.proofs.bytes.bytes_of.Tie as tie
 
 cast-t4 : tie.Need-cast-t4
 cast-t4 c = search needs

@@ -1,10 +1,10 @@
--- `word::bytes::unpack` meets its contract: the words worked out are the inverse.
+-- `packing::bytes::unpack` meets its contract: the words worked out are the inverse.
 -- Assumes nothing.
 use mathlib.Core.Path.{sym}
-use Rattle.word.proofs.Packing.{words-are}
+use Rattle.packing.proofs.Packing.{words-are}
 use borrow.Author.Needs.{needs}
-use Rattle.word.proofs.bytes.unpack.Statement.{statement}
-use Rattle.word.proofs.bytes.unpack.Tie as tie
+use Rattle.packing.proofs.bytes.unpack.Statement.{statement}
+use Rattle.packing.proofs.bytes.unpack.Tie as tie
 
 cast-t2 : tie.Need-cast-t2
 cast-t2 c = search needs

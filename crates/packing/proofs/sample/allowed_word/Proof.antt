@@ -1,12 +1,12 @@
--- `word::sample::allowed_word` meets its contract: the tests say which case of the definition holds.
+-- `packing::sample::allowed_word` meets its contract: the tests say which case of the definition holds.
 -- Assumes nothing.
 use mathlib.Core.Path.{_≡_, sym, _∙_}
 use mathlib.Core.Bool.{true, false}
 use borrow.Author.Tests.{eq-eqb, ne-eqb}
 use Rattle.ground.specs.Range.{within}
 use borrow.Author.Needs.{needs}
-use Rattle.word.proofs.sample.allowed_word.Statement.{statement}
-use Rattle.word.proofs.sample.allowed_word.Tie as tie
+use Rattle.packing.proofs.sample.allowed_word.Statement.{statement}
+use Rattle.packing.proofs.sample.allowed_word.Tie as tie
 
 within-requires : tie.Need-within-requires
 within-requires c κs = search needs

@@ -1,9 +1,9 @@
--- `word::sample::allowed_sample` meets its contract: the tests say which case of the definition holds.
+-- `packing::sample::allowed_sample` meets its contract: the tests say which case of the definition holds.
 -- Assumes nothing.
 use borrow.Author.Tests.{eq-eqb, ne-eqb}
 use borrow.Author.Needs.{needs}
-use Rattle.word.proofs.sample.allowed_sample.Statement.{statement}
-use Rattle.word.proofs.sample.allowed_sample.Tie as tie
+use Rattle.packing.proofs.sample.allowed_sample.Statement.{statement}
+use Rattle.packing.proofs.sample.allowed_sample.Tie as tie
 
 within-requires : tie.Need-within-requires
 within-requires c κs = search needs

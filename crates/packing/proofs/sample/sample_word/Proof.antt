@@ -1,12 +1,12 @@
--- `word::sample::sample_word` meets its contract: the test says which case of the definition holds.
+-- `packing::sample::sample_word` meets its contract: the test says which case of the definition holds.
 -- Assumes nothing.
 use mathlib.Core.Path.{_≡_}
 use Prim.Native.Nat.{_*_, _%_}
 use native.Mathlib.Omega.{arith}
 use borrow.Author.Tests.{eq-eqb, ne-eqb}
 use borrow.Author.Needs.{needs}
-use Rattle.word.proofs.sample.sample_word.Statement.{statement}
-use Rattle.word.proofs.sample.sample_word.Tie as tie
+use Rattle.packing.proofs.sample.sample_word.Statement.{statement}
+use Rattle.packing.proofs.sample.sample_word.Tie as tie
 
 mul-result : tie.Need-mul-result
 mul-result c = search needs

@@ -1,6 +1,6 @@
 // Samples and the words that carry them (004, 6.1).
 ghost use mathlib.Core.Path.{_≡_};
-ghost use Rattle.word.specs.Sample.{allowed, sampleWord, allowedWord};
+ghost use Rattle.packing.specs.Sample.{allowed, sampleWord, allowedWord};
 
 // Whether a sample may be sent at a depth; at a depth that is neither 10 nor 12, none may.
 pub fn allowed_sample(depth: u8, x: u16) -> bool

@@ -9,7 +9,7 @@ use borrow.Author.Tests.{eq-eqb, eqb-true}
 use Rattle.ground.specs.Range.{within}
 use Rattle.ground.proofs.Ranges.{is-within, from-low, to-high}
 use Rattle.ground.proofs.Tests.{both-left, both-right}
-use Rattle.word.specs.Sample.{allowed, sampleWord, allowedWord}
+use Rattle.packing.specs.Sample.{allowed, sampleWord, allowedWord}
 
 module _ (x : ℕ) where
   pub sent-ten : allowed 10 x ≡ true → (sampleWord 10 x ≡ x * 4) × (allowedWord 10 (sampleWord 10 x) ≡ true)

@@ -8,11 +8,11 @@ use mathlib.Core.Option.{Option·getD}
 use lib.Dec.{eqb}
 use Rattle.ground.specs.Answer.{Answer, refused, given, unless, checked}
 use Rattle.ground.specs.Search.{firstBelow}
-use Rattle.word.specs.declared.bytes.ThreeBytes.{ThreeBytes}
-use Rattle.word.specs.declared.bytes.TwoWords.{TwoWords}
-use Rattle.word.specs.declared.bytes.Packed.{Packed}
-use Rattle.word.specs.declared.bytes.Packed.the-variants.{Bytes, Above4095}
+use Rattle.packing.specs.declared.bytes.ThreeBytes.{ThreeBytes}
+use Rattle.packing.specs.declared.bytes.TwoWords.{TwoWords}
+use Rattle.packing.specs.declared.bytes.Packed.{Packed}
+use Rattle.packing.specs.declared.bytes.Packed.the-variants.{Bytes, Above4095}
 use Rattle.word.specs.Word.{isWord}
 
 -- the low eight bits of a; the low four of b above the high four of a; the high eight of b
 unfoldable pub bytesOf : ℕ → ℕ → ThreeBytes

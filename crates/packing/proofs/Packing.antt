@@ -12,9 +12,9 @@ use Rattle.ground.specs.Answer.{refused, given}
 use Rattle.ground.specs.Search.{firstBelow}
 use Rattle.ground.proofs.Searches.{is-only}
 use Rattle.ground.proofs.Tests.{both-left, both-right}
-use Rattle.word.specs.declared.bytes.ThreeBytes.{ThreeBytes}
-use Rattle.word.specs.Bytes.{bytesOf, sameBytes, wordsOf, packedOf}
+use Rattle.packing.specs.declared.bytes.ThreeBytes.{ThreeBytes}
+use Rattle.packing.specs.Bytes.{bytesOf, sameBytes, wordsOf, packedOf}
 use Rattle.word.proofs.Words.{both-words, not-both-words}
 
 -- a byte and four bits above it
 high-bits : (x k : ℕ) → x < 256 → k < 16 → (x + k * 256) / 256 % 16 ≡ k

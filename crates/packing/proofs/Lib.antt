@@ -1,0 +1,3 @@
+pub mod OneToOne
+pub mod Packing
+pub mod Samples
