@@ -1,6 +1,6 @@
 // The words of a window, the replaced bytes of its timing codes at their fixed values (document 01, "A span").
-use span::format::Shape;
 use packing::bytes::ThreeBytes;
+use span::format::Shape;
 ghost use mathlib.Core.Path.{_≡_};
 ghost use Prim.Native.Nat.{_*_, _≤_, _<_};
 ghost use lib.ListN.{length};

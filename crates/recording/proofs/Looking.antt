@@ -1,18 +1,17 @@
 -- The quick look: what it passes over is no place where a span may begin.
 -- Assumes nothing.
-use mathlib.Core.Path.{_≡_, refl, sym, _∙_}
-use mathlib.Core.Bool.{Bool, true, false, _&&_}
+use mathlib.Core.Path.{_≡_, sym, _∙_}
+use mathlib.Core.Bool.{true, false}
 use mathlib.Core.List.{List}
-use Prim.Native.Nat.{ℕ, suc, _+_, _≤_, _<_}
-use native.Mathlib.Numerals.{add-one}
+use Prim.Native.Nat.{ℕ, _+_, _≤_, _<_}
 use native.Mathlib.Omega.{arith}
 use lib.Bits.{bitOr, or-add-and, and-le-l, and-le-r}
-use lib.Dec.{ltb}
+use lib.Dec.{eqb, ltb}
 use lib.ListN.{getD}
 use borrow.Author.Tests.{ne-eqb, ltb-true, ltb-false}
 use Rattle.ground.proofs.Cases.{on-test}
 use Rattle.symbol.specs.Code.{symbolOf}
-use Rattle.recording.specs.Look.{isComma, commaIn, mayBegin, Passed, NoComma}
+use Rattle.recording.specs.Look.{isComma, commaIn, begins, mayBegin, Passed, NoComma}
 
 -- ---- one symbol
 
@@ -32,16 +31,26 @@ no-form s x y = simp (ne-eqb s 0x17C x, ne-eqb s 0x283 y)
 is-none : (s : ℕ) → commaIn s ≡ 0 → isComma s ≡ false
 is-none s e = on-test (isComma s) (λ t. let z : _≡_ {A = ℕ} 1 0 = rw t at e in absurd (omega arith)) (λ t. t)
 
-not-comma : (s x : ℕ) → x ≡ commaIn s → (x ≡ 1 → ⊥) → isComma s ≡ false
-not-comma s x e n = on-test (isComma s) (λ t. absurd (n (e ∙ rw t))) (λ t. t)
+-- what the number says
+is-comma : (s : ℕ) → commaIn s ≡ 1 → isComma s ≡ true
+is-comma s e = on-test (isComma s) (λ t. t) (λ t. let z : _≡_ {A = ℕ} 0 1 = rw t at e in absurd (omega arith))
 
--- a test of two fails where either does
-first-fails : {a : Bool} (b : Bool) → a ≡ false → (a && b) ≡ false
-first-fails b e = rw e
+not-comma : (s : ℕ) → (commaIn s ≡ 1 → ⊥) → isComma s ≡ false
+not-comma s n = on-test (isComma s) (λ t. absurd (n (rw t))) (λ t. t)
 
-second-fails : (a : Bool) {b : Bool} → b ≡ false → (a && b) ≡ false
-second-fails true e = e
-second-fails false e = refl
+-- three symbols
+module _ (a b c : ℕ) where
+  pub first-fails : (commaIn a ≡ 1 → ⊥) → begins a b c ≡ false
+  first-fails n = rw (not-comma a n)
+
+  module _ (first : commaIn a ≡ 1) where
+    pub second-fails : (commaIn b ≡ 1 → ⊥) → begins a b c ≡ false
+    second-fails n = rw (is-comma a first, not-comma b n)
+
+    pub third-tells : commaIn b ≡ 1 → eqb (commaIn c) 0 ≡ begins a b c
+    third-tells second =
+        rw (is-comma a first, is-comma b second)
+        (on-test (isComma c) (λ t. rw t) (λ t. rw t))
 
 module _ (r : List ℕ) where
   -- ---- a run of symbols, of which none is asked about by itself
@@ -84,7 +93,7 @@ module _ (r : List ℕ) where
 
   -- a run without K28.5
   pub run-passed : {from to : ℕ} → from ≤ to → NoComma r from to → Passed r from to to
-  run-passed h n = record { at = h; below = omega arith; none = λ j p l. first-fails (isComma (getD r (suc j) 0)) (n .none j p l) }
+  run-passed h n = record { at = h; below = omega arith; none = λ j p l. rw (n .none j p l) }
 
   -- one place
   one-passed : {q : ℕ} → mayBegin r q ≡ false → Passed r q (q + 1) (q + 1)
@@ -95,15 +104,5 @@ module _ (r : List ℕ) where
         none = λ j p l. let is : j ≡ q = omega arith in rw is e;
       }
 
-  -- one of the two is not K28.5
-  pub without : {from to q x y : ℕ} → Passed r from to q → q < to → x ≡ commaIn (getD r q 0) → y ≡ commaIn (getD r (q + 1) 0)
-      → (x + y ≡ 2 → ⊥) → Passed r from to (q + 1)
-  without {from} {to} {q} {x} {y} p h e g n =
-      further p
-      (one-passed
-      (on-test (isComma (getD r q 0))
-      (λ t.
-      let one : x ≡ 1 = e ∙ rw t in
-      second-fails (isComma (getD r q 0)) (rw (add-one q) at (not-comma (getD r (q + 1) 0) y g (λ z. n (omega arith)))))
-      (λ t. first-fails (isComma (getD r (suc q) 0)) t)))
-      (omega arith)
+  pub without : {from to q : ℕ} → Passed r from to q → q < to → mayBegin r q ≡ false → Passed r from to (q + 1)
+  without p h e = further p (one-passed e) (omega arith)

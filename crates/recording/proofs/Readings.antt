@@ -1,11 +1,11 @@
 -- What the reading of a window is, and where K28.5 stands in one that is read: twice at its beginning and nowhere else, so that no span
 -- begins inside another.
 -- Assumes nothing.
-use mathlib.Core.Path.{_≡_, refl, sym, ap, ap₂, _∙_}
-use mathlib.Core.Bool.{true, false, _&&_, true≢false}
+use mathlib.Core.Path.{_≡_, refl, sym, ap, _∙_}
+use mathlib.Core.Bool.{true, false, true≢false}
 use mathlib.Core.List.{List}
 use mathlib.Core.Option.{Option, none, some}
-use Prim.Native.Nat.{ℕ, suc, _+_, _≤_, _<_}
+use Prim.Native.Nat.{ℕ, _+_, _≤_, _<_}
 use native.Mathlib.Omega.{arith}
 use lib.Dec.{eqb}
 use lib.ListN.{length, getD, take, drop}
@@ -117,8 +117,12 @@ module _ (f : Format) (known : isKnown f ≡ true) where
       go : (o : Option Reading) → reading f (take n (drop q r)) ≡ o → mayBegin r q ≡ true
       go none e = absurd (true≢false (sym t ∙ ap isSome e))
       go (some x) e =
+          let window = take n (drop q r) in
           let here : q + 0 ≡ q = omega arith in
-          let next : q + 1 ≡ suc q = omega arith in
-          ap₂ _&&_
-          (ap (λ (k : ℕ). isComma (getD r k 0)) (sym here) ∙ ap isComma (sym (at 0 (omega (arith, three)))) ∙ first (take n (drop q r)) x e)
-          (ap (λ (k : ℕ). isComma (getD r k 0)) (sym next) ∙ ap isComma (sym (at 1 (omega (arith, three)))) ∙ second (take n (drop q r)) x e)
+          let one = sym (ap isComma (at 0 (omega (arith, three)))) ∙ first window x e in
+          let two = sym (ap isComma (at 1 (omega (arith, three)))) ∙ second window x e in
+          let other : isComma (getD r (q + 2) 0) ≡ false =
+          on-test (isComma (getD r (q + 2) 0))
+          (λ t. let early = only window x e 2 (omega (arith, three)) (ap isComma (at 2 (omega (arith, three))) ∙ t) in absurd (omega arith))
+          (λ t. t) in
+          rw (rw here at one, two, other)

@@ -1,8 +1,8 @@
 -- The quick look: a place is passed over where no span can begin.
 -- Assumes nothing.
-use Prim.Native.Nat.{ℕ, suc, _≤_, _<_}
+use Prim.Native.Nat.{ℕ, _+_, _≤_, _<_}
 use mathlib.Core.Path.{_≡_}
-use mathlib.Core.Bool.{Bool, false, cond, _&&_, _||_}
+use mathlib.Core.Bool.{Bool, false, not, cond, _&&_, _||_}
 use mathlib.Core.List.{List}
 use lib.Dec.{eqb}
 use lib.ListN.{getD}
@@ -19,9 +19,13 @@ isComma s = eqb s (symbolOf Negative (numberOf «K28_5»)) || eqb s (symbolOf Po
 abbrev pub commaIn : ℕ → ℕ
 commaIn s = cond (isComma s) 1 0
 
--- a span may begin at q: K28.5 stands there, and behind it again
+-- a span may begin with these: K28.5 twice, and then something else
+abbrev pub begins : ℕ → ℕ → ℕ → Bool
+begins a b c = isComma a && (isComma b && not (isComma c))
+
+-- it may begin at q
 abbrev pub mayBegin : List ℕ → ℕ → Bool
-mayBegin r q = isComma (getD r q 0) && isComma (getD r (suc q) 0)
+mayBegin r q = begins (getD r q 0) (getD r (q + 1) 0) (getD r (q + 2) 0)
 
 -- q is at or after a place, and no span begins from that place on before q
 pub record Passed (r : List ℕ) (from to q : ℕ) : Type 0 where

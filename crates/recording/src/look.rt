@@ -2,15 +2,14 @@
 ghost use mathlib.Core.Path.{_≡_};
 ghost use Prim.Native.Nat.{_+_, _≤_};
 ghost use lib.ListN.{length};
-ghost use Rattle.recording.specs.Look.{commaIn, Passed, NoComma};
+ghost use Rattle.recording.specs.Look.{commaIn, begins, Passed, NoComma};
 
 // Symbols that are looked at together.
 const PIECE: usize = 64;
 
 // 1 for K28.5 in either form, else 0.
 fn comma(s: u16) -> u16
-    ensures comma { λ r. ⌜ r ≡ commaIn s ⌝ }
-    ensures small { λ r. ⌜ r ≤ 1 ⌝ }
+    ensures { λ r. ⌜ r ≡ commaIn s ⌝ }
 {
     if s == 0x17C {
         return 1;
@@ -36,15 +35,27 @@ fn commas(symbols: &[u16], from: usize, to: usize) -> u16
     found
 }
 
-// The first place, of those from one to another, at which K28.5 stands twice; the end where there is none.
+// Whether a span may begin with three symbols: K28.5 twice, and then something else.
+fn may_begin(a: u16, b: u16, c: u16) -> bool
+    ensures { λ r. ⌜ r ≡ begins a b c ⌝ }
+{
+    if comma(a) == 1 {
+        if comma(b) == 1 {
+            return comma(c) == 0;
+        }
+    }
+    false
+}
+
+// The first place, of those from one to another, at which a span may begin; the end where there is none.
 fn look_in(symbols: &[u16], from: usize, to: usize) -> usize
     requires { ⌜ from ≤ to ⌝ }
-    requires { ⌜ to + 1 ≤ length (now symbols) ⌝ }
+    requires { ⌜ to + 2 ≤ length (now symbols) ⌝ }
     ensures { λ q. ⌜ Passed (now (symbols .entry)) from to q ⌝ }
 {
     let mut i = from;
     while i < to {
-        if comma(symbols[i]) + comma(symbols[i + 1]) == 2 {
+        if may_begin(symbols[i], symbols[i + 1], symbols[i + 2]) {
             return i;
         }
         i += 1;
@@ -55,7 +66,7 @@ fn look_in(symbols: &[u16], from: usize, to: usize) -> usize
 // The same, piece by piece: most have no K28.5.
 pub(crate) fn look(symbols: &[u16], from: usize, to: usize) -> usize
     requires { ⌜ from ≤ to ⌝ }
-    requires { ⌜ to + 1 ≤ length (now symbols) ⌝ }
+    requires { ⌜ to + 2 ≤ length (now symbols) ⌝ }
     ensures { λ q. ⌜ Passed (now (symbols .entry)) from to q ⌝ }
 {
     let mut i = from;

@@ -33,7 +33,7 @@ loop-less : tie.Need-loop-less Inv-loop μ-loop
 loop-less c = search needs
 
 loop-again : tie.Need-loop-again Inv-loop μ-loop
-loop-again c = (search needs, gather-turn (c .before .before .before .before .before .args .symbols .now) (c .before .before .before .loop .inv .1) (c .comma .ensures .0))
+loop-again c = (search needs, gather-turn (c .before .before .before .before .before .args .symbols .now) (c .before .before .before .loop .inv .1) (c .comma .ensures))
 
 returns : tie.Need-returns Inv-loop μ-loop
 returns c =

@@ -1,6 +1,6 @@
 -- `recording::look::look_in` meets its contract.
 -- Assumes nothing.
-use mathlib.Core.Path.{_≡_}
+use mathlib.Core.Path.{_≡_, sym, _∙_}
 use native.Mathlib.Omega.{arith}
 use borrow.Author.Needs.{needs}
 use Prim.Native.Nat.{_-_}
@@ -18,29 +18,32 @@ abbrev μ-loop : tie.MeasureT-loop
 loop-holds : tie.Need-loop-holds Inv-loop μ-loop
 loop-holds c = nothing-yet (c .before .args .symbols .now) (c .before .pre .0)
 
-mul-comma : tie.Need-mul-comma Inv-loop μ-loop
-mul-comma c = search needs
+mul-may-begin : tie.Need-mul-may-begin Inv-loop μ-loop
+mul-may-begin c = search needs
 
-shared-slice-read-comma : tie.Need-shared-slice-read-comma Inv-loop μ-loop
-shared-slice-read-comma c = omega (arith, c .before .before .before .before .pre .1, c .before .loop-test .taken)
+shared-slice-read-may-begin : tie.Need-shared-slice-read-may-begin Inv-loop μ-loop
+shared-slice-read-may-begin c = search needs
 
-comma-requires : tie.Need-comma-requires Inv-loop μ-loop
-comma-requires c κs = search needs
+add-may-begin : tie.Need-add-may-begin Inv-loop μ-loop
+add-may-begin c = search needs
 
-add-comma : tie.Need-add-comma Inv-loop μ-loop
-add-comma c = search needs
+mul-may-begin-2 : tie.Need-mul-may-begin-2 Inv-loop μ-loop
+mul-may-begin-2 c = search needs
 
-mul-comma-2 : tie.Need-mul-comma-2 Inv-loop μ-loop
-mul-comma-2 c = search needs
+shared-slice-read-may-begin-2 : tie.Need-shared-slice-read-may-begin-2 Inv-loop μ-loop
+shared-slice-read-may-begin-2 c = search needs
 
-shared-slice-read-comma-2 : tie.Need-shared-slice-read-comma-2 Inv-loop μ-loop
-shared-slice-read-comma-2 c = search needs
+add-may-begin-2 : tie.Need-add-may-begin-2 Inv-loop μ-loop
+add-may-begin-2 c = search needs
 
-comma-requires-2 : tie.Need-comma-requires-2 Inv-loop μ-loop
-comma-requires-2 c κs = search needs
+mul-may-begin-3 : tie.Need-mul-may-begin-3 Inv-loop μ-loop
+mul-may-begin-3 c = search needs
 
-add-if1 : tie.Need-add-if1 Inv-loop μ-loop
-add-if1 c = search needs
+shared-slice-read-may-begin-3 : tie.Need-shared-slice-read-may-begin-3 Inv-loop μ-loop
+shared-slice-read-may-begin-3 c = search needs
+
+may-begin-requires : tie.Need-may-begin-requires Inv-loop μ-loop
+may-begin-requires c κs = search needs
 
 returns : tie.Need-returns Inv-loop μ-loop
 returns c = c .before .before .before .before .before .before .loop .inv
@@ -52,7 +55,7 @@ loop-less : tie.Need-loop-less Inv-loop μ-loop
 loop-less c = search needs
 
 loop-again : tie.Need-loop-again Inv-loop μ-loop
-loop-again c = without (c .before .before .before .before .before .before .before .before .args .symbols .now) (c .before .before .before .before .before .before .loop .inv) (c .before .before .before .before .before .loop-test .taken) (c .before .before .before .comma .ensures .0) (c .before .comma2 .ensures .0) (c .if1 .left)
+loop-again c = without (c .before .before .before .before .before .before .before .before .args .symbols .now) (c .before .before .before .before .before .before .loop .inv) (c .before .before .before .before .before .loop-test .taken) (sym (c .before .may-begin .ensures) ∙ c .if1 .left)
 
 returns-2 : tie.Need-returns-2 Inv-loop μ-loop
 returns-2 c =
@@ -68,14 +71,15 @@ look-in-spec =
     Inv-loop
     μ-loop
     loop-holds
-    mul-comma
-    shared-slice-read-comma
-    comma-requires
-    add-comma
-    mul-comma-2
-    shared-slice-read-comma-2
-    comma-requires-2
-    add-if1
+    mul-may-begin
+    shared-slice-read-may-begin
+    add-may-begin
+    mul-may-begin-2
+    shared-slice-read-may-begin-2
+    add-may-begin-2
+    mul-may-begin-3
+    shared-slice-read-may-begin-3
+    may-begin-requires
     returns
     add-i
     loop-less
