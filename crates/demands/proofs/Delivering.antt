@@ -9,25 +9,32 @@ use Prim.Native.Nat.{ℕ, zero, suc, _+_, _*_, _≤_, _<_}
 use native.Mathlib.Nat.{add-zero, zero-add}
 use native.Mathlib.Omega.{arith}
 use lib.ListN.{length, getD, set, take, drop}
-use Rattle.ground.specs.Answer.{given}
+use Rattle.ground.specs.Answer.{given, Answer}
 use Rattle.ground.specs.Bit.{inverted}
 use Rattle.span.specs.declared.format.Format.{Format}
 use Rattle.span.specs.Format.{isKnown, shapeOf, samplesIn, symbolsIn}
-use Rattle.read.proofs.Windows.{length-picture}
+use Rattle.read.proofs.Windows.{length-picture, read-is}
 use Rattle.delivery.specs.Delivery.{Found, followed, windowAt, readFrom, nextFrom as nextBy, deliver, deliveryFrom as deliverBy, movedBy, strung, placedFrom, Each}
 use Rattle.delivery.specs.Marked.{Whole, AllBehind}
 use Rattle.delivery.proofs.Cutting.{cut}
 use Rattle.delivery.proofs.Finding.{told, at-the-end, stands-whole, found-told, next-then}
 use Rattle.delivery.proofs.Spans.{ReadAs, nothing-of, exactly, in-place}
 use Rattle.delivery.proofs.Splitting.{split}
-use Rattle.delivery.proofs.Steps.{moved}
-use Rattle.recording.specs.Call.{spanned, nextOf}
+use Rattle.delivery.proofs.Steps.{moved, too-few}
+use Rattle.recording.specs.Call.{spanned, nextOf, findOf, nextRows, rowsNext}
 use Rattle.recording.specs.Look.{isComma}
 use Rattle.recording.specs.Recording.{limit, Reading, reading, findFrom, nextFrom, deliveryFrom}
-use Rattle.recording.proofs.Calling.{next-given}
+use Rattle.recording.proofs.Calling.{next-given, finds-place, finds-none}
 use Rattle.recording.proofs.Readings.{reading-told, span-whole, span-marked}
+use Rattle.recording.specs.declared.seek.Spanned.{Spanned}
+use Rattle.window.specs.declared.delivery.Delivery.{Delivery}
+use Rattle.window.specs.Read.{pictureOf, readOf, rowsLeft, rowsRead}
+use Rattle.window.proofs.Accepting.{row-passed}
+use Rattle.read.specs.Window.{IsWindow}
+use borrow.Author.Tests.{leb-true, eqb-true}
+use Rattle.demands.proofs.Refusing.{given-is}
 use Rattle.demands.specs.Form.{Sending, WasSent, symbolsOf, readingOf, stepsFrom}
-use Rattle.demands.proofs.Sendings.{sent-read, harmed-long, harmed-not-read}
+use Rattle.demands.proofs.Sendings.{sent-read, harmed-long, harmed-not-read, row-holds}
 
 module _ (f : Format) (known : isKnown f ≡ true) where
   abbrev n : ℕ
@@ -40,6 +47,7 @@ module _ (f : Format) (known : isKnown f ≡ true) where
       pub inside : e .place + n ≤ length r
       pub behind : p ≤ e .place
       pub room : length (e .reading .words) ≡ samplesIn (shapeOf f)
+      pub read : reading f (take n (drop (e .place) r)) ≡ some (e .reading)
 
     pub next-is : (e : Found Reading) → nextFrom f r p ≡ some e → IsNext e
     unfolding nextBy
@@ -58,7 +66,7 @@ module _ (f : Format) (known : isKnown f ≡ true) where
             let w = reading-told f (take n (drop k r)) a is in
             let size : length (a .words) ≡ samplesIn (shapeOf f) =
             ap length (w .words) ∙ length-picture f (take n (drop k r)) (record { known = known; long = w .long }) in
-            rw (← e-is) (record { inside = stands-whole n (reading f) whole r k (at .1); behind = at .0; room = size })
+            rw (← e-is) (record { inside = stands-whole n (reading f) whole r k (at .1); behind = at .0; room = size; read = is })
 
   -- ---- stepping with next span is delivery
   module _ (r : List ℕ) (short : length r ≤ limit) where
@@ -132,17 +140,29 @@ module _ (f : Format) (known : isKnown f ≡ true) where
   unfolding deliverBy
   nothing d h e = nothing-of n (reading f) (span-whole f known) 0 d h e
 
+  -- so what stands in the place of one of them and delivers nothing costs it alone
+  alone-lost : (xs ys : List Sending) (d : List ℕ) → Each (WasSent f) xs → Each (WasSent f) ys → length d ≤ n → reading f d ≡ none
+      → deliveryFrom f (strung (symbolsOf f) xs ++ (d ++ strung (symbolsOf f) ys)) 0
+      ≡ placedFrom n (readingOf f) 0 xs ++ placedFrom n (readingOf f) (n * length xs + length d) ys
+  unfolding movedBy
+  alone-lost xs ys d before behind h e = damaged xs ys d before behind ∙ rw (nothing d h e)
+
+  -- fewer symbols than a span has
+  pub fewer : (xs ys : List Sending) (d : List ℕ) → Each (WasSent f) xs → Each (WasSent f) ys → length d < n
+      → deliveryFrom f (strung (symbolsOf f) xs ++ (d ++ strung (symbolsOf f) ys)) 0
+      ≡ placedFrom n (readingOf f) 0 xs ++ placedFrom n (readingOf f) (n * length xs + length d) ys
+  fewer xs ys d before behind h =
+      alone-lost xs ys d before behind (omega arith) (too-few n (reading f) (span-whole f known) d h)
+
   -- one inverted bit
   pub one-inverted : (xs ys : List Sending) (x : Sending) (i k : ℕ) → Each (WasSent f) xs → WasSent f x → Each (WasSent f) ys → i < n → k < 10
       → let harmed = set (symbolsOf f x) i (inverted k (getD (symbolsOf f x) i 0)) in
       deliveryFrom f (strung (symbolsOf f) xs ++ (harmed ++ strung (symbolsOf f) ys)) 0
       ≡ placedFrom n (readingOf f) 0 xs ++ placedFrom n (readingOf f) (n * length xs + n) ys
-  unfolding movedBy
   one-inverted xs ys x i k before sent behind h l =
       let harmed = set (symbolsOf f x) i (inverted k (getD (symbolsOf f x) i 0)) in
       let long = harmed-long f x sent i k h l in
-      let none-of : deliveryFrom f harmed 0 ≡ [] = nothing harmed (omega (arith, long)) (harmed-not-read f x sent i k h l) in
-      damaged xs ys harmed before behind ∙ rw (none-of, long)
+      alone-lost xs ys harmed before behind (omega (arith, long)) (harmed-not-read f x sent i k h l) ∙ rw long
 
   -- the beginning of a recording
   pub beginning : (r : List ℕ) (m : ℕ)
@@ -151,3 +171,64 @@ module _ (f : Format) (known : isKnown f ≡ true) where
   beginning r m =
       let (rest, e, behind) = cut n (reading f) (span-whole f known) m 0 r in
       (rest, e, rw (zero-add m) at behind)
+
+-- ---- next span is finding and reading at once
+module _ (f : Format) (r : List ℕ) (start : ℕ) (entry : List ℕ) (o : Option Spanned) (e : nextOf f r start (length entry) ≡ given o) where
+  passed : (i : ℕ) → getD (nextRows f r start (length entry)) i (record { number = 0; fails = none }) .fails ≡ none
+  passed = row-passed (nextRows f r start (length entry)) (spanned (nextFrom f r start)) o e
+
+  known : isKnown f ≡ true
+  known = row-holds _ (passed 0)
+
+  short : length r ≤ limit
+  short = leb-true (length r) limit (row-holds _ (passed 1))
+
+  room : length entry ≡ samplesIn (shapeOf f)
+  room = eqb-true (length entry) (samplesIn (shapeOf f)) (row-holds _ (passed 2))
+
+  inside : start ≤ length r
+  inside = leb-true start (length r) (row-holds _ (passed 3))
+
+  is : spanned (nextFrom f r start) ≡ o
+  is = given-is (nextRows f r start (length entry)) (spanned (nextFrom f r start)) o e
+
+pub found-none : (f : Format) (r : List ℕ) (start : ℕ) (entry : List ℕ) → nextOf f r start (length entry) ≡ given none
+    → findOf f r start ≡ given none
+found-none f r start entry e =
+    sym (finds-none f r start (known f r start entry none e) (short f r start entry none e) (inside f r start entry none e)
+    (sym (is f r start entry none e)))
+
+pub found-and-read : (f : Format) (r : List ℕ) (start : ℕ) (entry : List ℕ) (s : Spanned) → nextOf f r start (length entry) ≡ given (some s)
+    → let w = take (symbolsIn (shapeOf f)) (drop (s .place) r) in
+    (findOf f r start ≡ given (some (s .place)))
+    × (readOf f w (length entry) ≡ given (s .delivery))
+    × (rowsNext f r start entry ≡ rowsRead f w entry)
+found-and-read f r start entry s e = go (nextFrom f r start) refl
+  where
+    k : isKnown f ≡ true
+    k = known f r start entry (some s) e
+
+    w : List ℕ
+    w = take (symbolsIn (shapeOf f)) (drop (s .place) r)
+
+    size : length entry ≡ samplesIn (shapeOf f)
+    size = room f r start entry (some s) e
+
+    place : findOf f r start ≡ given (some (s .place))
+    place = sym (finds-place f r start k (short f r start entry (some s) e) (inside f r start entry (some s) e) (sym (is f r start entry (some s) e)))
+
+    go : (x : Option (Found Reading)) → nextFrom f r start ≡ x
+        → (findOf f r start ≡ given (some (s .place)))
+        × (readOf f w (length entry) ≡ given (s .delivery))
+        × (rowsNext f r start entry ≡ rowsRead f w entry)
+    go none x = let z : _≡_ {A = ℕ} 0 1 = cc (sym (ap spanned x) ∙ is f r start entry (some s) e) in absurd (omega arith)
+    go (some a) x =
+        let same : some (record { place = a .place; delivery = a .reading .values }) ≡ some s = sym (ap spanned x) ∙ is f r start entry (some s) e in
+        let s-is : record { place = a .place; delivery = a .reading .values } ≡ s = cc same in
+        let at : a .place ≡ s .place = ap (λ (y : Spanned). y .place) s-is in
+        let told = reading-told f w (a .reading) (rw at at (next-is f k r start a x .read)) in
+        let window : IsWindow f w = record { known = k; long = told .long } in
+        let read : readOf f w (length entry) ≡ given (s .delivery) =
+        read-is f w window (length entry) size ∙ told .values ∙ ap (λ (y : Spanned). given (y .delivery)) s-is in
+        let rows : rowsNext f r start entry ≡ pictureOf f w = rw (e, x) (told .words) in
+        (place, read, rows ∙ sym (ap (λ (y : Answer Delivery). rowsLeft y entry (pictureOf f w)) read))

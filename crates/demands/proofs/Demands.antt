@@ -6,7 +6,7 @@ use mathlib.Core.List.{List, _++_}
 use mathlib.Core.Option.{Option, none, some}
 use Prim.Native.Nat.{ℕ, _+_, _%_, _≤_, _<_}
 use native.Mathlib.Omega.{arith}
-use lib.ListN.{length}
+use lib.ListN.{length, take, drop}
 use borrow.Author.Tests.{eqb-true}
 use Rattle.ground.specs.Answer.{refused, given}
 use Rattle.ground.specs.Bit.{inverted}
@@ -26,6 +26,7 @@ use Rattle.span.specs.Content.{contentOf}
 use Rattle.span.specs.Format.{isKnown, shapeOf, streams, symbolsIn}
 use Rattle.span.specs.Span.{spanSymbols, spanAfter}
 use Rattle.span.specs.Stream.{Asked, picture}
+use Rattle.span.specs.Numbers.{IsFormat, Symbols}
 use Rattle.window.specs.Encoded.{AreContent}
 use Rattle.window.specs.Read.{pictureOf, readOf}
 use Rattle.window.proofs.Accepting.{row-passed}
@@ -33,17 +34,17 @@ use Rattle.window.proofs.Exact.{exact-if, exact-only-if}
 use Rattle.window.proofs.RoundTrip.{round-trip, picture-back}
 use Rattle.window.proofs.TimingWords.{repaired-delivered, two-wrong as two-in-a-span}
 use Rattle.delivery.specs.Delivery.{Found}
-use Rattle.delivery.proofs.Finding.{untold, found-at, found-told, found-nowhere, nowhere-told, literally, stands-whole}
+use Rattle.delivery.proofs.Finding.{untold, not-at-the-end, found-at, found-told, found-nowhere, nowhere-told, literally, stands-whole}
 use Rattle.recording.specs.Call.{findRows, findOf}
-use Rattle.recording.specs.Recording.{limit, Reading, reading, findFrom, deliveryFrom}
+use Rattle.recording.specs.Recording.{accepts, limit, Reading, reading, findFrom, deliveryFrom}
 use Rattle.recording.proofs.Calling.{finds}
 use Rattle.recording.proofs.Readings.{span-whole}
 use Rattle.send.specs.Blanking.{fillOf, blankRow}
 use Rattle.send.specs.Send.{asked, refusals, sendOf, sentBuffer}
 use Rattle.send.proofs.GoodCalls.{GoodCall, good-is-sent}
-use Rattle.demands.specs.Form.{IsFormat, Symbols, Sending, WasSent, readingOf, Delivered}
+use Rattle.demands.specs.Form.{Sending, WasSent, readingOf, Delivered}
 use Rattle.demands.specs.Demands.{Demand1, Delivers, Demand2, Demand3, Beyond}
-use Rattle.demands.proofs.Delivering.{steps-are, delivered, anywhere, alone, damaged, nothing, one-inverted, beginning}
+use Rattle.demands.proofs.Delivering.{steps-are, delivered, anywhere, alone, damaged, nothing, fewer, one-inverted, beginning, found-none, found-and-read}
 use Rattle.demands.proofs.PictureBack.{images-two, images-four, two-good, two-back, four-good, four-back}
 use Rattle.demands.proofs.Refusing.{known-says, symbols-say, samples-say, given-is, meaning-tried, decode-tried, repair-tried, line-words-tried, read-line-words-tried, crcc-tried, pack-tried, place-tried, lent, split-tried, join-tried, lengths-tried, fill-tried, send-tried, judge-tried, read-tried, rows-left, find-tried, next-tried, next-refused, next-none, next-some}
 use Rattle.demands.proofs.Sendings.{row-holds, sendable}
@@ -196,6 +197,15 @@ demand-3 = record {
       finds f r start k short inside ∙ ap given (found-nowhere (symbolsIn (shapeOf f)) (reading f) (span-whole f k) r start never);
   noneOnlyIf = λ f r start e.
       nowhere-told (symbolsIn (shapeOf f)) (reading f) (span-whole f (asked-known f r start none e)) r start (answered f r start none e);
+  atTheEnd = λ f r known short.
+      let k = known-says f .holds known in
+      let n = symbolsIn (shapeOf f) in
+      let whole = span-whole f k in
+      let never : (j : ℕ) → length r ≤ j → accepts f (take n (drop j r)) ≡ false =
+      λ j h. not-at-the-end n (reading f) whole r j (omega (arith, whole .least)) in
+      finds f r (length r) k short (omega arith) ∙ ap given (found-nowhere n (reading f) whole r (length r) never);
+  nextIs = found-and-read;
+  nextIsNone = found-none;
   literally = λ f r k p known h. literally (symbolsIn (shapeOf f)) (reading f) (span-whole f (known-says f .holds known)) r k p h;
   stepping = λ f r rows k p known short room inside enough.
       steps-are f (known-says f .holds known) r short k p rows (eqb-true _ _ (samples-say f known (length rows) .holds room)) inside enough;
@@ -215,5 +225,7 @@ beyond = record {
   damaged = λ f xs ys d known before behind short.
       by-calls f known _ short _ (damaged f (known-says f .holds known) xs ys d before behind);
   nothing = λ f d known h e. nothing f (known-says f .holds known) d h (untold (reading f d) e);
+  fewer = λ f xs ys d known before behind h short.
+      by-calls f known _ short _ (fewer f (known-says f .holds known) xs ys d before behind h);
   cut = λ f r m known. beginning f (known-says f .holds known) r m;
 }

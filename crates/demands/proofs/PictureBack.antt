@@ -28,9 +28,10 @@ use Rattle.span.specs.Format.{numbered, shapeOf, streams, samplesIn}
 use Rattle.span.specs.Image.{imageOf}
 use Rattle.span.specs.Sample.{sampleWord}
 use Rattle.span.specs.Stream.{Asked, picture}
+use Rattle.span.specs.Numbers.{IsFormat, Symbols}
 use Rattle.send.specs.Send.{asked}
 use Rattle.send.proofs.GoodCalls.{GoodCall}
-use Rattle.demands.specs.Form.{IsFormat, Symbols, wordsFor, streamIn}
+use Rattle.demands.specs.Form.{wordsFor, streamIn}
 use Rattle.demands.specs.Demands.{IsRow}
 
 -- ---- one stream of all

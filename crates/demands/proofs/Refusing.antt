@@ -36,6 +36,7 @@ use Rattle.span.specs.Format.{isKnown, numbered, shapeOf, streams, samplesIn, p
 use Rattle.span.specs.Length.{lengthsOf}
 use Rattle.span.specs.Sample.{allowed}
 use Rattle.span.specs.Stream.{Asked}
+use Rattle.span.specs.Numbers.{IsFormat, Symbols, Samples}
 use Rattle.span.proofs.Formats.{is-known, known-told}
 use Rattle.send.specs.Blanking.{fillOf}
 use Rattle.send.specs.Send.{firstForbidden, sendOf}
@@ -50,7 +51,7 @@ use Rattle.recording.specs.declared.seek.Spanned.{Spanned}
 use Rattle.recording.specs.Call.{spanned, wordsOr, endOr, findOf, nextOf, afterNext, nextRows, rowsNext}
 use Rattle.recording.specs.Recording.{limit, Reading, reading, nextFrom}
 use Rattle.recording.proofs.Readings.{reading-told}
-use Rattle.demands.specs.Form.{IsFormat, Symbols, Samples, MaySend, Refusal, row, lowest, Tried, Lent, Rows}
+use Rattle.demands.specs.Form.{MaySend, Refusal, row, lowest, Tried, Lent, Rows}
 use Rattle.demands.specs.Demands.{Legal, tests}
 
 -- ---- the rows of a call against the rows of the table

@@ -33,6 +33,7 @@ use Rattle.span.specs.Image.{imageOf}
 use Rattle.span.specs.Length.{lengthsOf}
 use Rattle.span.specs.Span.{spanSymbols, spanAfter}
 use Rattle.span.specs.Stream.{Asked}
+use Rattle.span.specs.Numbers.{IsFormat, Symbols, Samples}
 use Rattle.window.specs.declared.delivery.Delivery.{Delivery}
 use Rattle.window.specs.Encoded.{charsOf, AreContent, Encodes, wordIn, Meets, IsXyz, Disturbed, wrongAt}
 use Rattle.window.specs.Read.{placed, pictureOf, readSpan, judgeOf, readOf, rowsRead}
@@ -46,7 +47,7 @@ use Rattle.recording.specs.Call.{findOf, nextOf, afterNext, rowsNext}
 use Rattle.recording.specs.Recording.{limit, Reading, reading, accepts, deliveryFrom}
 use Rattle.send.specs.Blanking.{fillOf, blankRow, filledRow}
 use Rattle.send.specs.Send.{asked, sendOf, sentBuffer}
-use Rattle.demands.specs.Form.{IsFormat, Symbols, Samples, MaySend, Refusal, row, lowest, Tried, Lent, Rows, Sending, WasSent, symbolsOf, readingOf, stepsFrom, Delivered, wordsFor, streamIn}
+use Rattle.demands.specs.Form.{MaySend, Refusal, row, lowest, Tried, Lent, Rows, Sending, WasSent, symbolsOf, readingOf, stepsFrom, Delivered, wordsFor, streamIn}
 
 -- ==== 1 ====
 
@@ -351,6 +352,20 @@ pub record Demand3 : Type 0 where
       → (j : ℕ)
       → start ≤ j
       → accepts f (take (symbolsIn (shapeOf f)) (drop j r)) ≡ false
+  -- a start that is the length gives none
+  pub atTheEnd : (f : Format) (r : List ℕ) → IsFormat f → length r ≤ limit → findOf f r (length r) ≡ given none
+  -- next span is both at once: the place is the finder's, and the values and the rows are the reader's for the window there
+  pub nextIs :
+      (f : Format) (r : List ℕ) (start : ℕ) (entry : List ℕ) (s : Spanned)
+      → nextOf f r start (length entry) ≡ given (some s)
+      → let w = take (symbolsIn (shapeOf f)) (drop (s .place) r) in
+      (findOf f r start ≡ given (some (s .place)))
+      × (readOf f w (length entry) ≡ given (s .delivery))
+      × (rowsNext f r start entry ≡ rowsRead f w entry)
+  pub nextIsNone :
+      (f : Format) (r : List ℕ) (start : ℕ) (entry : List ℕ)
+      → nextOf f r start (length entry) ≡ given none
+      → findOf f r start ≡ given none
   -- delivery is: find, read, find again from the end of that span, until none
   pub literally :
       (f : Format) (r : List ℕ) (k p : ℕ)
@@ -419,6 +434,17 @@ pub record Beyond : Type 0 where
       → length d ≤ symbolsIn (shapeOf f)
       → accepts f d ≡ false
       → deliveryFrom f d 0 ≡ []
+  -- fewer symbols than a span has in the place of one, as where some were lost: exactly the others
+  pub fewer :
+      (f : Format) (xs ys : List Sending) (d : List ℕ)
+      → IsFormat f
+      → Each (WasSent f) xs
+      → Each (WasSent f) ys
+      → length d < symbolsIn (shapeOf f)
+      → let n = symbolsIn (shapeOf f) in
+      let r = strung (symbolsOf f) xs ++ (d ++ strung (symbolsOf f) ys) in
+      length r ≤ limit
+      → Delivered f r (placedFrom n (readingOf f) 0 xs ++ placedFrom n (readingOf f) (n * length xs + length d) ys)
   -- the beginning of a recording delivers a beginning of what the whole delivers: what is left out ends behind the cut
   pub cut :
       (f : Format) (r : List ℕ) (m : ℕ)

@@ -4,7 +4,6 @@ use Prim.Native.Nat.{ℕ, zero, suc, _*_, _≤_, _<_}
 use mathlib.Core.Path.{_≡_}
 use mathlib.Core.Bool.{cond}
 use mathlib.Core.List.{List, [], _∷_}
-use mathlib.Core.Logic.{_⊎_}
 use mathlib.Core.Option.{Option, none, some}
 use lib.Dec.{eqb}
 use lib.ListN.{length, getD, replicate, take, drop}
@@ -14,6 +13,7 @@ use Rattle.symbol.specs.declared.disparity.Disparity.{Disparity}
 use Rattle.span.specs.declared.format.Format.{Format}
 use Rattle.span.specs.Content.{contentOf}
 use Rattle.span.specs.Format.{shapeOf, streams}
+use Rattle.span.specs.Numbers.{Samples}
 use Rattle.span.specs.Span.{spanSymbols, spanAfter}
 use Rattle.span.specs.Stream.{Asked, picture}
 use Rattle.window.specs.Encoded.{AreContent}
@@ -24,21 +24,6 @@ use Rattle.recording.specs.Recording.{Reading}
 use Rattle.send.specs.Send.{sendOf}
 
 -- ---- document 01's own numbers
-
--- a known format and depth
-abbrev pub IsFormat : Format → Type 0
-IsFormat f = (1 ≤ f .number) × (f .number ≤ 3) × ((f .depth ≡ 10) ⊎ (f .depth ≡ 12))
-
--- x is the first, second or third number where the format is 1, 2 or 3
-abbrev pub Of : ℕ → ℕ → ℕ → ℕ → ℕ → Type 0
-Of a b c number x = ((number ≡ 1) × (x ≡ a)) ⊎ (((number ≡ 2) × (x ≡ b)) ⊎ ((number ≡ 3) × (x ≡ c)))
-
--- the symbols of a span, and its samples
-abbrev pub Symbols : Format → ℕ → Type 0
-Symbols f = Of 7920 9504 19008 (f .number)
-
-abbrev pub Samples : Format → ℕ → Type 0
-Samples f = Of 3840 3840 7680 (f .number)
 
 -- x may be sent on stream line n
 pub record MaySend (f : Format) (n x : ℕ) : Type 0 where

@@ -5,13 +5,12 @@ use mathlib.Core.Bool.{true, false}
 use mathlib.Core.List.{List}
 use Prim.Native.Nat.{ℕ, _+_, _≤_, _<_}
 use native.Mathlib.Omega.{arith}
-use lib.Bits.{bitOr, or-add-and, and-le-l, and-le-r}
+use lib.Bits.{bitAnd, bitOr, or-add-and, and-le-l, and-le-r}
 use lib.Dec.{eqb, ltb}
-use lib.ListN.{getD}
 use borrow.Author.Tests.{ne-eqb, ltb-true, ltb-false}
 use Rattle.ground.proofs.Cases.{on-test}
 use Rattle.symbol.specs.Code.{symbolOf}
-use Rattle.recording.specs.Look.{isComma, commaIn, begins, mayBegin, Passed, NoComma}
+use Rattle.recording.specs.Look.{isComma, commaIn, begins, mayBegin, Passed}
 
 -- ---- one symbol
 
@@ -43,6 +42,23 @@ module _ (a b c : ℕ) where
   pub first-fails : (commaIn a ≡ 1 → ⊥) → begins a b c ≡ false
   first-fails n = rw (not-comma a n)
 
+  -- none, or not two of them, where the number is 0
+  pub no-comma : {x : ℕ} → x ≡ commaIn a → x ≡ 0 → begins a b c ≡ false
+  no-comma e z = rw (is-none a (sym e ∙ z))
+
+  pub no-two : {x y : ℕ} → x ≡ commaIn a → y ≡ commaIn b → bitAnd x y ≡ 0 → begins a b c ≡ false
+  no-two {x} {y} e g z =
+      on-test (isComma a)
+      (λ t.
+      on-test (isComma b)
+      (λ u.
+      let p : x ≡ 1 = e ∙ rw t in
+      let q : y ≡ 1 = g ∙ rw u in
+      let one : bitAnd 1 1 ≡ 0 = rw (p, q) at z in
+      absurd (omega arith))
+      (λ u. rw (t, u)))
+      (λ t. rw t)
+
   module _ (first : commaIn a ≡ 1) where
     pub second-fails : (commaIn b ≡ 1 → ⊥) → begins a b c ≡ false
     second-fails n = rw (is-comma a first, not-comma b n)
@@ -53,30 +69,6 @@ module _ (a b c : ℕ) where
         (on-test (isComma c) (λ t. rw t) (λ t. rw t))
 
 module _ (r : List ℕ) where
-  -- ---- a run of symbols, of which none is asked about by itself
-
-  pub record Gathers (from i found : ℕ) : Type 0 where
-    pub clean : found ≡ 0 → NoComma r from i
-
-  pub gather-begin : (from : ℕ) → Gathers from from 0
-  gather-begin from = record { clean = λ _. record { none = λ j h l. absurd (omega arith) } }
-
-  pub gather-turn : {from i found x : ℕ} → Gathers from i found → x ≡ commaIn (getD r i 0) → Gathers from (i + 1) (bitOr found x)
-  gather-turn {from} {i} {found} {x} g e = record { clean = λ z. record { none = λ j h l. step z j h l } }
-    where
-      left : bitOr found x ≡ 0 → found ≡ 0
-      left z = omega (arith, or-add-and found x, and-le-r found x)
-
-      right : bitOr found x ≡ 0 → x ≡ 0
-      right z = omega (arith, or-add-and found x, and-le-l found x)
-
-      step : bitOr found x ≡ 0 → (j : ℕ) → from ≤ j → j < i + 1 → isComma (getD r j 0) ≡ false
-      step z j h l =
-          on-test (ltb j i) (λ t. g .clean (left z) .none j h (ltb-true j i t))
-          (λ t.
-          let is : j ≡ i = omega (arith, ltb-false j i t) in
-          rw is (is-none (getD r i 0) (sym e ∙ right z)))
-
   -- ---- places passed over
 
   pub nothing-yet : {from to : ℕ} → from ≤ to → Passed r from to from
@@ -91,10 +83,6 @@ module _ (r : List ℕ) where
         none = λ j p l. on-test (ltb j mid) (λ t. a .none j p (ltb-true j mid t)) (λ t. b .none j (ltb-false j mid t) l);
       }
 
-  -- a run without K28.5
-  pub run-passed : {from to : ℕ} → from ≤ to → NoComma r from to → Passed r from to to
-  run-passed h n = record { at = h; below = omega arith; none = λ j p l. rw (n .none j p l) }
-
   -- one place
   one-passed : {q : ℕ} → mayBegin r q ≡ false → Passed r q (q + 1) (q + 1)
   one-passed {q} e =
@@ -106,3 +94,21 @@ module _ (r : List ℕ) where
 
   pub without : {from to q : ℕ} → Passed r from to q → q < to → mayBegin r q ≡ false → Passed r from to (q + 1)
   without p h e = further p (one-passed e) (omega arith)
+
+  -- ---- a run of symbols, of which none is asked about by itself: where nothing was found, no span begins up to i
+
+  pub record Gathers (from to i found : ℕ) : Type 0 where
+    pub clean : found ≡ 0 → Passed r from to i
+
+  pub gather-begin : {from to : ℕ} → from ≤ to → Gathers from to from 0
+  gather-begin h = record { clean = λ _. nothing-yet h }
+
+  pub gather-turn : {from to i found x : ℕ} → Gathers from to i found → i < to → (x ≡ 0 → mayBegin r i ≡ false)
+      → Gathers from to (i + 1) (bitOr found x)
+  gather-turn {from} {to} {i} {found} {x} g h none =
+      record {
+        clean = λ z.
+            let left : found ≡ 0 = omega (arith, or-add-and found x, and-le-r found x) in
+            let right : x ≡ 0 = omega (arith, or-add-and found x, and-le-l found x) in
+            without (g .clean left) h (none right);
+      }

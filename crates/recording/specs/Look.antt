@@ -32,7 +32,3 @@ pub record Passed (r : List ℕ) (from to q : ℕ) : Type 0 where
   pub at : from ≤ q
   pub below : q ≤ to
   pub none : (j : ℕ) → from ≤ j → j < q → mayBegin r j ≡ false
-
--- no symbol from one place to another is K28.5
-pub record NoComma (r : List ℕ) (from to : ℕ) : Type 0 where
-  pub none : (j : ℕ) → from ≤ j → j < to → isComma (getD r j 0) ≡ false

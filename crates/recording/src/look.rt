@@ -2,7 +2,7 @@
 ghost use mathlib.Core.Path.{_≡_};
 ghost use Prim.Native.Nat.{_+_, _≤_};
 ghost use lib.ListN.{length};
-ghost use Rattle.recording.specs.Look.{commaIn, begins, Passed, NoComma};
+ghost use Rattle.recording.specs.Look.{commaIn, begins, Passed};
 
 // Symbols that are looked at together.
 const PIECE: usize = 64;
@@ -24,12 +24,27 @@ fn comma(s: u16) -> u16
 fn commas(symbols: &[u16], from: usize, to: usize) -> u16
     requires { ⌜ from ≤ to ⌝ }
     requires { ⌜ to ≤ length (now symbols) ⌝ }
-    ensures { λ r. ⌜ (r ≡ 0 → NoComma (now (symbols .entry)) from to) ⌝ }
+    ensures { λ r. ⌜ (r ≡ 0 → Passed (now (symbols .entry)) from to to) ⌝ }
 {
     let mut found = 0;
     let mut i = from;
     while i < to {
         found = found | comma(symbols[i]);
+        i += 1;
+    }
+    found
+}
+
+// 0 only where it stands nowhere twice: so it is nearly everywhere in noise, even where K28.5 is in it.
+fn twice(symbols: &[u16], from: usize, to: usize) -> u16
+    requires { ⌜ from ≤ to ⌝ }
+    requires { ⌜ to + 1 ≤ length (now symbols) ⌝ }
+    ensures { λ r. ⌜ (r ≡ 0 → Passed (now (symbols .entry)) from to to) ⌝ }
+{
+    let mut found = 0;
+    let mut i = from;
+    while i < to {
+        found = found | comma(symbols[i]) & comma(symbols[i + 1]);
         i += 1;
     }
     found
@@ -73,9 +88,11 @@ pub(crate) fn look(symbols: &[u16], from: usize, to: usize) -> usize
     while i < to {
         let end = i + ground::least::least(PIECE, to - i);
         if commas(symbols, i, end) != 0 {
-            let q = look_in(symbols, i, end);
-            if q < end {
-                return q;
+            if twice(symbols, i, end) != 0 {
+                let q = look_in(symbols, i, end);
+                if q < end {
+                    return q;
+                }
             }
         }
         i = end;

@@ -3,6 +3,7 @@ pub mod Encoding
 pub mod Format
 pub mod Image
 pub mod Length
+pub mod Numbers
 pub mod Sample
 pub mod Span
 pub mod Stream

@@ -13,21 +13,11 @@ use borrow.Author.Tests.{eq-eqb, ne-eqb, le-ltb}
 use Rattle.ground.specs.Answer.{Answer, refused, given}
 use Rattle.span.specs.declared.format.Format.{Format}
 use Rattle.span.specs.Format.{numbered, shapeOf, samplesIn, symbolsIn}
+use Rattle.span.specs.Numbers.{Of, Symbols, Samples}
 use Rattle.span.proofs.Formats.{Known, is-known, unknown}
 use Rattle.window.specs.declared.delivery.Delivery.{Delivery}
 use Rattle.window.specs.Read.{pictureOf, readSpan, judgeOf, readOf, rowsLeft, rowsRead}
 use Rattle.window.proofs.Refusals.{numbers}
-
--- format 1, 2 or 3, and its number of three
-abbrev pub Of : ℕ → ℕ → ℕ → ℕ → ℕ → Type 0
-Of a b c number x = ((number ≡ 1) × (x ≡ a)) ⊎ (((number ≡ 2) × (x ≡ b)) ⊎ ((number ≡ 3) × (x ≡ c)))
-
--- the symbols of a span, and the words of its rows
-abbrev pub Symbols : ℕ → ℕ → Type 0
-Symbols = Of 7920 9504 19008
-
-abbrev pub Room : ℕ → ℕ → Type 0
-Room = Of 3840 3840 7680
 
 -- ---- the table of formats, in those numbers
 
@@ -44,22 +34,22 @@ module _ (g : ℕ → ℕ) where
   of-is (suc (suc (suc (suc n)))) x p q e = absurd (omega arith)
 
 module _ (f : Format) (x : ℕ) where
-  is-long : Symbols (f .number) x → eqb x (symbolsIn (shapeOf f)) ≡ true
+  is-long : Symbols f x → eqb x (symbolsIn (shapeOf f)) ≡ true
   unfolding shapeOf
   is-long h = eq-eqb x (symbolsIn (shapeOf f)) (is-of (λ n. symbolsIn (numbered n)) (f .number) x h)
 
-  is-room : Room (f .number) x → eqb x (samplesIn (shapeOf f)) ≡ true
+  is-room : Samples f x → eqb x (samplesIn (shapeOf f)) ≡ true
   unfolding shapeOf
   is-room h = eq-eqb x (samplesIn (shapeOf f)) (is-of (λ n. samplesIn (numbered n)) (f .number) x h)
 
   module _ (known : Known f) where
-    not-long : (Symbols (f .number) x → ⊥) → eqb x (symbolsIn (shapeOf f)) ≡ false
+    not-long : (Symbols f x → ⊥) → eqb x (symbolsIn (shapeOf f)) ≡ false
     unfolding shapeOf
     not-long h =
         ne-eqb x (symbolsIn (shapeOf f))
         (λ e. h (of-is (λ n. symbolsIn (numbered n)) (f .number) x (known .from) (known .to) e))
 
-    not-room : (Room (f .number) x → ⊥) → eqb x (samplesIn (shapeOf f)) ≡ false
+    not-room : (Samples f x → ⊥) → eqb x (samplesIn (shapeOf f)) ≡ false
     unfolding shapeOf
     not-room h =
         ne-eqb x (samplesIn (shapeOf f))
@@ -73,10 +63,10 @@ module _ (f : Format) (w : List ℕ) where
   judge-meets-1 x = simp (unknown f x)
 
   module _ (known : Known f) where
-    pub judge-meets-3 : (Symbols (f .number) (length w) → ⊥) → judgeOf f w ≡ refused 3 0
+    pub judge-meets-3 : (Symbols f (length w) → ⊥) → judgeOf f w ≡ refused 3 0
     judge-meets-3 x = simp (is-known f known, not-long f (length w) known x)
 
-    pub judged : Symbols (f .number) (length w) → judgeOf f w ≡ readSpan f w
+    pub judged : Symbols f (length w) → judgeOf f w ≡ readSpan f w
     unfolding readSpan
     judged x = simp (is-known f known, is-long f (length w) x)
 
@@ -86,19 +76,19 @@ module _ (f : Format) (w : List ℕ) where
     read-meets-1 x = simp (unknown f x)
 
     module _ (known : Known f) where
-      pub read-meets-3 : (Symbols (f .number) (length w) → ⊥) → readOf f w room ≡ refused 3 0
+      pub read-meets-3 : (Symbols f (length w) → ⊥) → readOf f w room ≡ refused 3 0
       read-meets-3 x = simp (is-known f known, not-long f (length w) known x)
 
-      module _ (long : Symbols (f .number) (length w)) where
-        pub read-meets-4 : (Room (f .number) room → ⊥) → readOf f w room ≡ refused 4 0
+      module _ (long : Symbols f (length w)) where
+        pub read-meets-4 : (Samples f room → ⊥) → readOf f w room ≡ refused 4 0
         read-meets-4 x = simp (is-known f known, is-long f (length w) long, not-room f room known x)
 
-        pub read : Room (f .number) room → readOf f w room ≡ readSpan f w
+        pub read : Samples f room → readOf f w room ≡ readSpan f w
         unfolding readSpan
         read x = simp (is-known f known, is-long f (length w) long, is-room f room x)
 
     -- into rows of the right length it is read as it is judged
-    pub read-as-judged : Room (f .number) room → readOf f w room ≡ judgeOf f w
+    pub read-as-judged : Samples f room → readOf f w room ≡ judgeOf f w
     read-as-judged x = simp (is-room f room x)
 
 -- ---- the rows
@@ -112,14 +102,14 @@ module _ (f : Format) (w entry : List ℕ) where
   rows-after-1 x = left (refused 1 0) (read-meets-1 f w (length entry) x)
 
   module _ (known : Known f) where
-    pub rows-after-3 : (Symbols (f .number) (length w) → ⊥) → rowsRead f w entry ≡ entry
+    pub rows-after-3 : (Symbols f (length w) → ⊥) → rowsRead f w entry ≡ entry
     rows-after-3 x = left (refused 3 0) (read-meets-3 f w (length entry) known x)
 
-    module _ (long : Symbols (f .number) (length w)) where
-      pub rows-after-4 : (Room (f .number) (length entry) → ⊥) → rowsRead f w entry ≡ entry
+    module _ (long : Symbols f (length w)) where
+      pub rows-after-4 : (Samples f (length entry) → ⊥) → rowsRead f w entry ≡ entry
       rows-after-4 x = left (refused 4 0) (read-meets-4 f w (length entry) known long x)
 
-      module _ (room : Room (f .number) (length entry)) where
+      module _ (room : Samples f (length entry)) where
         -- one that meets 20 to 26 leaves nothing in them
         pub rows-after-refusal : {number place : ℕ} → readSpan f w ≡ refused number place → rowsRead f w entry ≡ replicate (length entry) 0
         rows-after-refusal {number} {place} e =

@@ -2,20 +2,21 @@
 -- Assumes nothing.
 use mathlib.Core.Path.{_≡_}
 use native.Mathlib.Omega.{arith}
+use lib.ListN.{getD}
 use borrow.Author.Needs.{needs}
 use Prim.Native.Nat.{_-_, _≤_}
-use Rattle.recording.proofs.Looking.{Gathers, gather-begin, gather-turn}
+use Rattle.recording.proofs.Looking.{no-comma, Gathers, gather-begin, gather-turn}
 use Rattle.recording.proofs.look.commas.Statement.{statement}
 use Rattle.recording.proofs.look.commas.Tie as tie
 
 abbrev Inv-loop : tie.InvT-loop
-Inv-loop symbols from to found₀ i₀ found i = (i ≤ to) × Gathers symbols from i found
+Inv-loop symbols from to found₀ i₀ found i = (i ≤ to) × Gathers symbols from to i found
 
 abbrev μ-loop : tie.MeasureT-loop
 μ-loop symbols from to found₀ i₀ found i = to - i
 
 loop-holds : tie.Need-loop-holds Inv-loop μ-loop
-loop-holds c = (c .before .pre .0, gather-begin (c .before .args .symbols .now) (c .before .args .from))
+loop-holds c = (c .before .pre .0, gather-begin (c .before .args .symbols .now) (c .before .pre .0))
 
 mul-comma : tie.Need-mul-comma Inv-loop μ-loop
 mul-comma c = search needs
@@ -33,7 +34,10 @@ loop-less : tie.Need-loop-less Inv-loop μ-loop
 loop-less c = search needs
 
 loop-again : tie.Need-loop-again Inv-loop μ-loop
-loop-again c = (search needs, gather-turn (c .before .before .before .before .before .args .symbols .now) (c .before .before .before .loop .inv .1) (c .comma .ensures))
+loop-again c =
+    let r = c .before .before .before .before .before .args .symbols .now in
+    let v = c .before .before .before .loop in
+    (search needs, gather-turn r (v .inv .1) (c .before .before .loop-test .taken) (no-comma (getD r (v .i) 0) _ _ (c .comma .ensures)))
 
 returns : tie.Need-returns Inv-loop μ-loop
 returns c =

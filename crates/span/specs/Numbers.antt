@@ -1,0 +1,22 @@
+-- Document 01's own numbers: which formats and depths there are, and how long a span of each is. Laws that say which calls are good are stated
+-- in these, and not in what is made of the table of formats.
+-- Assumes nothing.
+use Prim.Native.Nat.{ℕ, _≤_}
+use mathlib.Core.Path.{_≡_}
+use mathlib.Core.Logic.{_⊎_}
+use Rattle.span.specs.declared.format.Format.{Format}
+
+-- a known format and depth
+abbrev pub IsFormat : Format → Type 0
+IsFormat f = (1 ≤ f .number) × (f .number ≤ 3) × ((f .depth ≡ 10) ⊎ (f .depth ≡ 12))
+
+-- x is the first, second or third number where the format is 1, 2 or 3
+abbrev pub Of : ℕ → ℕ → ℕ → ℕ → ℕ → Type 0
+Of a b c number x = ((number ≡ 1) × (x ≡ a)) ⊎ (((number ≡ 2) × (x ≡ b)) ⊎ ((number ≡ 3) × (x ≡ c)))
+
+-- the symbols of a span, and its samples
+abbrev pub Symbols : Format → ℕ → Type 0
+Symbols f = Of 7920 9504 19008 (f .number)
+
+abbrev pub Samples : Format → ℕ → Type 0
+Samples f = Of 3840 3840 7680 (f .number)
