@@ -18,8 +18,8 @@ use Rattle.word.specs.Repair.{legalWord, repairOf}
 use Rattle.word.specs.Timing.{timing}
 use Rattle.word.proofs.Repairs.{one-wrong, two-wrong}
 use Rattle.picture.specs.Division.{w}
-use Rattle.picture.specs.Row.{divided, joined, splitOf, joinOf}
-use Rattle.picture.proofs.RoundTrip.{join-split, split-join, place-agrees}
+use Rattle.dividing.specs.Row.{divided, joined, splitOf, joinOf}
+use Rattle.dividing.proofs.RoundTrip.{join-split, split-join, place-agrees}
 use Rattle.span.specs.declared.content.Content.{Content}
 use Rattle.span.specs.declared.format.Format.{Format}
 use Rattle.span.specs.Content.{contentOf}
@@ -39,7 +39,7 @@ use Rattle.recording.specs.Call.{findRows, findOf}
 use Rattle.recording.specs.Recording.{accepts, limit, Reading, reading, findFrom, deliveryFrom}
 use Rattle.recording.proofs.Calling.{finds}
 use Rattle.recording.proofs.Readings.{span-whole}
-use Rattle.send.specs.Blanking.{fillOf, blankRow}
+use Rattle.blanking.specs.Blanking.{fillOf, blankRow}
 use Rattle.send.specs.Send.{asked, refusals, sendOf, sentBuffer}
 use Rattle.send.proofs.GoodCalls.{GoodCall, good-is-sent}
 use Rattle.demands.specs.Form.{Sending, WasSent, readingOf, Delivered}

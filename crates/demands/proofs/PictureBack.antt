@@ -19,9 +19,9 @@ use Rattle.ground.proofs.Writing.{length-upto, getD-upto, length-table, getD-ta
 use Rattle.line.specs.Stream.{isActive}
 use Rattle.picture.specs.Division.{h, w, lineFrom, sampleFrom}
 use Rattle.picture.specs.Place.{placedOf}
-use Rattle.picture.specs.Row.{divided, joined, rowBy}
+use Rattle.dividing.specs.Row.{divided, joined, rowBy}
 use Rattle.picture.proofs.Places.{found}
-use Rattle.picture.proofs.Rows.{length-divided, sample-divided, length-joined, sample-joined}
+use Rattle.dividing.proofs.Rows.{length-divided, sample-divided, length-joined, sample-joined}
 use Rattle.span.specs.declared.content.Content.{Content}
 use Rattle.span.specs.declared.format.Format.{Format}
 use Rattle.span.specs.Format.{numbered, shapeOf, streams, samplesIn}

@@ -29,7 +29,7 @@ use Rattle.word.specs.LineNumber.{ln0, ln1, names, lineOf, numberedOf, namedOf}
 use Rattle.word.specs.Repair.{distance, legalWord, near, nearest, repairOf}
 use Rattle.word.specs.Timing.{timing}
 use Rattle.picture.specs.Place.{placedOf}
-use Rattle.picture.specs.Row.{areRows, splitOf, joinOf}
+use Rattle.dividing.specs.Row.{areRows, splitOf, joinOf}
 use Rattle.line.specs.Stream.{isActive}
 use Rattle.span.specs.declared.format.Format.{Format}
 use Rattle.span.specs.Format.{isKnown, numbered, shapeOf, streams, samplesIn, pairsIn, symbolsIn}
@@ -38,7 +38,7 @@ use Rattle.span.specs.Sample.{allowed}
 use Rattle.span.specs.Stream.{Asked}
 use Rattle.span.specs.Numbers.{IsFormat, Symbols, Samples}
 use Rattle.span.proofs.Formats.{is-known, known-told}
-use Rattle.send.specs.Blanking.{fillOf}
+use Rattle.blanking.specs.Blanking.{fillOf}
 use Rattle.send.specs.Send.{firstForbidden, sendOf}
 use Rattle.window.specs.Read.{placed, tests as testsOf, pictureOf, judgeOf, readOf, rowsLeft}
 use Rattle.window.specs.Scan.{holds20}

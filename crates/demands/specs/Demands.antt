@@ -22,7 +22,7 @@ use Rattle.word.specs.Repair.{distance, repairOf}
 use Rattle.word.specs.Timing.{timing}
 use Rattle.picture.specs.Division.{lineFrom, sampleFrom}
 use Rattle.picture.specs.Place.{placedOf}
-use Rattle.picture.specs.Row.{divided, joined, splitOf, splitFirst, splitSecond, joinOf, joinRow}
+use Rattle.dividing.specs.Row.{divided, joined, splitOf, splitFirst, splitSecond, joinOf, joinRow}
 use Rattle.span.specs.declared.content.Content.{Content}
 use Rattle.span.specs.declared.content.ContentBytes.{ContentBytes}
 use Rattle.span.specs.declared.format.Format.{Format}
@@ -45,7 +45,7 @@ use Rattle.delivery.specs.Marked.{AllBehind}
 use Rattle.recording.specs.declared.seek.Spanned.{Spanned}
 use Rattle.recording.specs.Call.{findOf, nextOf, afterNext, rowsNext}
 use Rattle.recording.specs.Recording.{limit, Reading, reading, accepts, deliveryFrom}
-use Rattle.send.specs.Blanking.{fillOf, blankRow, filledRow}
+use Rattle.blanking.specs.Blanking.{fillOf, blankRow, filledRow}
 use Rattle.send.specs.Send.{asked, sendOf, sentBuffer}
 use Rattle.demands.specs.Form.{MaySend, Refusal, row, lowest, Tried, Lent, Rows, Sending, WasSent, symbolsOf, readingOf, stepsFrom, Delivered, wordsFor, streamIn}
 

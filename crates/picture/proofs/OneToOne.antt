@@ -1,17 +1,12 @@
 -- The paper's values tell the answers apart.
 -- Assumes nothing.
 use mathlib.Core.Path.{_≡_, refl}
-use mathlib.Core.Bool.{cond}
-use lib.Dec.{eqb}
 use Rattle.ground.specs.Answer.{Answer, refused, given, OneToOne}
 use Rattle.ground.proofs.Answers.{told-again}
 use Rattle.picture.specs.declared.place.Place.{Place}
 use Rattle.picture.specs.declared.place.Placed.{Placed}
 use Rattle.picture.specs.declared.place.Placed.the-variants.{At, Outside}
-use Rattle.picture.specs.declared.row.Copied.{Copied}
-use Rattle.picture.specs.declared.row.Copied.the-variants.{Done, WrongInput, WrongOutput}
 use Rattle.picture.specs.Place.{paperPlaced}
-use Rattle.picture.specs.Row.{paperCopied}
 
 abbrev placedAgain : Answer Place → Placed
 placedAgain (refused n place) = Outside
@@ -23,15 +18,3 @@ placed-one-to-one = told-again placedAgain again
     again : (r : Placed) → placedAgain (paperPlaced r) ≡ r
     again (At p) = refl
     again Outside = refl
-
-abbrev copiedAgain : Answer (Unit {0}) → Copied
-copiedAgain (refused n place) = cond (eqb n 3) WrongInput WrongOutput
-copiedAgain (given a) = Done
-
-pub copied-one-to-one : OneToOne paperCopied
-copied-one-to-one = told-again copiedAgain again
-  where
-    again : (r : Copied) → copiedAgain (paperCopied r) ≡ r
-    again Done = refl
-    again WrongInput = refl
-    again WrongOutput = refl

@@ -1,4 +1,3 @@
 pub mod Choice
 pub mod Division
 pub mod Place
-pub mod Row

@@ -6,9 +6,9 @@ use Prim.Native.Nat.{ℕ}
 use lib.Dec.{eqb}
 use Rattle.ground.specs.Answer.{OneToOne}
 use Rattle.ground.proofs.Answers.{told-again}
-use Rattle.picture.specs.declared.row.Copied.{Copied}
-use Rattle.picture.specs.declared.row.Copied.the-variants.{Done, WrongInput, WrongOutput}
-use Rattle.picture.specs.Row.{paperCopied}
+use Rattle.dividing.specs.declared.row.Copied.{Copied}
+use Rattle.dividing.specs.declared.row.Copied.the-variants.{Done, WrongInput, WrongOutput}
+use Rattle.dividing.specs.Row.{paperCopied}
 use Rattle.picture_run.specs.Number.{numberOf}
 
 abbrev again : ℕ → Copied

@@ -1,7 +1,7 @@
 // Dividing and joining rows, exported: the loops that are measured (rust/picture_bench.rs).
-use picture::row::Copied;
+use dividing::row::Copied;
 ghost use mathlib.Core.Path.{_≡_};
-ghost use Rattle.picture.specs.Row.{paperCopied, splitOf, splitFirst, splitSecond, joinOf, joinRow};
+ghost use Rattle.dividing.specs.Row.{paperCopied, splitOf, splitFirst, splitSecond, joinOf, joinRow};
 ghost use Rattle.picture_run.specs.Number.{numberOf};
 
 // The number of a refusal, or 0.
@@ -22,7 +22,7 @@ pub extern "C" fn brazulint_split(row: &[u16], first: &mut [u16], second: &mut [
     ensures first { λ _. ⌜ now (first .exit) ≡ splitFirst (now (row .entry)) (now (first .entry)) (now (second .entry)) ⌝ }
     ensures second { λ _. ⌜ now (second .exit) ≡ splitSecond (now (row .entry)) (now (first .entry)) (now (second .entry)) ⌝ }
 {
-    refusal_number(picture::split::split(row, first, second))
+    refusal_number(dividing::split::split(row, first, second))
 }
 
 // The rows of two images into that of their picture.
@@ -31,5 +31,5 @@ pub extern "C" fn brazulint_join(first: &[u16], second: &[u16], row: &mut [u16])
     ensures answer { λ n. ⌜ n ≡ numberOf (joinOf (now (first .entry)) (now (second .entry)) (now (row .entry))) ⌝ }
     ensures row { λ _. ⌜ now (row .exit) ≡ joinRow (now (first .entry)) (now (second .entry)) (now (row .entry)) ⌝ }
 {
-    refusal_number(picture::join::join(first, second, row))
+    refusal_number(dividing::join::join(first, second, row))
 }

@@ -1,9 +1,9 @@
 // Writes the places of samples at the corners of a picture and beyond them, the ends of rows divided and joined, and which row a line
 // carries, to be compared with an outside program's.
+use dividing::row::Copied;
 use libc::STDOUT_FILENO;
 use picture::place::Place;
 use picture::place::Placed;
-use picture::row::Copied;
 
 fn write_next(n: u64) {
     io::write_all(STDOUT_FILENO, b" ");
@@ -99,13 +99,13 @@ fn write_answer(r: Copied) {
 }
 
 fn write_split(row: &[u16], first: &mut [u16], second: &mut [u16]) {
-    write_answer(picture::split::split(row, first, second));
+    write_answer(dividing::split::split(row, first, second));
     write_row(first);
     write_row(second);
 }
 
 fn write_join(first: &[u16], second: &[u16], row: &mut [u16]) {
-    write_answer(picture::join::join(first, second, row));
+    write_answer(dividing::join::join(first, second, row));
     write_row(row);
 }
 

@@ -75,7 +75,7 @@ fn fill(f: Format, depth: u8, line: u16, samples: &mut [u16]) {
     if line::stream::is_active(line::stream::stream_line(line)) {
         make::fill_samples(samples, depth, line);
     } else {
-        send::blanking::fill_blanking(f, samples);
+        blanking::blanking::fill_blanking(f, samples);
     }
 }
 

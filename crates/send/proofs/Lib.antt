@@ -1,4 +1,3 @@
-pub mod Blank
 pub mod Checking
 pub mod GoodCalls
 pub mod OneToOne

@@ -6,11 +6,8 @@ use lib.Dec.{eqb}
 use Rattle.ground.specs.Answer.{Answer, refused, given, OneToOne}
 use Rattle.ground.proofs.Answers.{told-again}
 use Rattle.symbol.specs.declared.disparity.Disparity.{Disparity}
-use Rattle.send.specs.declared.blanking.Filled.{Filled}
-use Rattle.send.specs.declared.blanking.Filled.the-variants.{Done, UnknownFormat as NoFormat, WrongOutput as WrongRow}
 use Rattle.send.specs.declared.send.Sent.{Sent}
 use Rattle.send.specs.declared.send.Sent.the-variants.{After, UnknownFormat, NoLine, WrongInput, WrongOutput, NotAllowed}
-use Rattle.send.specs.Blanking.{paperFilled}
 use Rattle.send.specs.Send.{paperSent}
 
 abbrev sentAgain : Answer Disparity → Sent
@@ -29,15 +26,3 @@ sent-one-to-one = told-again sentAgain again
     again WrongInput = refl
     again WrongOutput = refl
     again (NotAllowed place) = refl
-
-abbrev filledAgain : Answer (Unit {0}) → Filled
-filledAgain (refused n place) = cond (eqb n 1) NoFormat WrongRow
-filledAgain (given a) = Done
-
-pub filled-one-to-one : OneToOne paperFilled
-filled-one-to-one = told-again filledAgain again
-  where
-    again : (r : Filled) → filledAgain (paperFilled r) ≡ r
-    again Done = refl
-    again NoFormat = refl
-    again WrongRow = refl

@@ -1,4 +1,3 @@
-pub mod Blanking
 pub mod Check
 pub mod Put
 pub mod Send

@@ -1,5 +1,4 @@
-// Sending a span, and filling a row with blanking samples.
-pub mod blanking;
+// Sending a span.
 mod check;
 mod coder;
 mod parts;

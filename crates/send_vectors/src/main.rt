@@ -47,7 +47,7 @@ fn fill_line(samples: &mut [u16], format: u8, depth: u8, line: u16) {
     if line::stream::is_active(line::stream::stream_line(line)) {
         fill_samples(samples, depth, line);
     } else {
-        send::blanking::fill_blanking(span::format::format_of(format, depth), samples);
+        blanking::blanking::fill_blanking(span::format::format_of(format, depth), samples);
     }
 }
 

@@ -2,8 +2,8 @@
 -- Assumes nothing.
 use mathlib.Core.Path.{sym, ap}
 use borrow.Author.Needs.{needs}
-use Rattle.picture.specs.declared.row.Copied.{Copied}
-use Rattle.picture.specs.Row.{paperCopied}
+use Rattle.dividing.specs.declared.row.Copied.{Copied}
+use Rattle.dividing.specs.Row.{paperCopied}
 use Rattle.picture_run.specs.Number.{numberOf}
 use Rattle.picture_run.proofs.refusal_number.Statement.{statement}
 use Rattle.picture_run.proofs.refusal_number.Tie as tie

@@ -1,0 +1,2 @@
+pub mod Blank
+pub mod OneToOne

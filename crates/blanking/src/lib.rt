@@ -1,0 +1,2 @@
+// Filling a row with blanking samples.
+pub mod blanking;

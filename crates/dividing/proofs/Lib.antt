@@ -1,0 +1,4 @@
+pub mod Lengths
+pub mod OneToOne
+pub mod RoundTrip
+pub mod Rows

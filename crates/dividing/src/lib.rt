@@ -1,0 +1,4 @@
+// Rows of a picture divided into the rows of two images, and joined.
+pub mod join;
+pub mod row;
+pub mod split;
