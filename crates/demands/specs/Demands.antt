@@ -72,8 +72,9 @@ tests f w =
 
 -- Every public call ends with a defined answer for all input. A bad call, and no good one, returns its refusal number, that of the first row
 -- of the table that applies, and touches no lent buffer; a refused span returns its number and place and leaves its rows all zero. What is
--- good is said in document 01's own numbers. A call that is not named here has no refusal to answer: encoding a character, the CRCC words
--- of a register, three bytes as words, a timing word, and the choice between two rows.
+-- good is said in document 01's own numbers; the finder's limit, 2,097,152 there, by its name. A call that is not named here has no refusal to
+-- answer: the disparity before a fresh signal, encoding a character, the tables, a timing word, the CRCC words of a register, three bytes as
+-- words, and the choice between two rows.
 pub record Demand1 : Type 0 where
   -- the meaning of a symbol: 7
   pub meaning : (s : ℕ) → Tried (meaningOf s) (row 7 (s ≤ 1023) ∷ [])

@@ -11,7 +11,7 @@ use Rattle.symbol.specs.declared.special.Special.the-variants.{«K28_5»}
 use Rattle.symbol.specs.Character.{numberOf}
 use Rattle.symbol.specs.Code.{symbolOf}
 
--- K28.5 in either form
+-- K28.5 in either form; the code calls the run of bits that it brings a comma
 unfoldable pub isComma : ℕ → Bool
 isComma s = eqb s (symbolOf Negative (numberOf «K28_5»)) || eqb s (symbolOf Positive (numberOf «K28_5»))
 

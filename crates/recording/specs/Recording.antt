@@ -14,7 +14,7 @@ use Rattle.window.specs.declared.delivery.Delivery.{Delivery}
 use Rattle.window.specs.Read.{pictureOf, readSpan}
 use Rattle.delivery.specs.Delivery.{Found, findFrom as findBy, nextFrom as nextBy, deliveryFrom as deliverBy}
 
--- the symbols that a recording may have. No law asks what the number is.
+-- document 01: the finder takes a recording of at most 2,097,152 symbols. No law asks what the number is.
 unfoldable pub limit : ℕ
 limit = 2097152
 
