@@ -1,0 +1,47 @@
+-- What the program that lists spans prints (document 01, "Values to hold against it"), as ASCII codes.
+-- Assumes nothing.
+use Prim.Native.Nat.{ℕ}
+use mathlib.Core.Bool.{cond}
+use mathlib.Core.List.{List, [], _∷_, _++_}
+use lib.Dec.{ltb}
+use lib.ListN.{length, getD, drop}
+use Rattle.span.specs.declared.format.Format.{Format}
+use Rattle.span.specs.Format.{isKnown}
+use Rattle.delivery.specs.Delivery.{Found}
+use Rattle.recording.specs.declared.seek.Spanned.{Spanned}
+use Rattle.recording.specs.Recording.{Reading, deliveryFrom}
+use Rattle.text.specs.Number.{decimal}
+use Rattle.text.specs.Words.{countOf, wordsOf}
+
+abbrev space : ℕ
+space = 32
+
+abbrev newline : ℕ
+newline = 10
+
+-- a span's place and line number, decimal, one space between
+abbrev pub lineOf : Spanned → List ℕ
+lineOf s = decimal (s .place) ++ (space ∷ (decimal (s .delivery .line .0) ++ (newline ∷ [])))
+
+-- one line for each span delivered
+abbrev pub linesOf : List (Found Reading) → List ℕ
+linesOf [] = []
+linesOf (e ∷ more) = lineOf (record { place = e .place; delivery = e .reading .values }) ++ linesOf more
+
+-- "refused 1"
+abbrev pub refusedText : List ℕ
+refusedText = 114 ∷ 101 ∷ 102 ∷ 117 ∷ 115 ∷ 101 ∷ 100 ∷ 32 ∷ 49 ∷ newline ∷ []
+
+-- the input: one byte of format, one byte of depth
+abbrev pub formatIn : List ℕ → Format
+formatIn input = record { number = getD input 0 0; depth = getD input 1 0 }
+
+-- and then symbols, low byte first, at most 32,767 of them; an odd last byte and what follows that many are ignored
+abbrev pub symbolsOf : List ℕ → List ℕ
+symbolsOf input = wordsOf (countOf 32767 (length (drop 2 input))) (drop 2 input)
+
+-- what is printed: the lines of all that is delivered; where the input is shorter than two bytes, or the format or depth unknown, that it is refused
+abbrev pub listing : List ℕ → List ℕ
+listing input =
+    cond (ltb (length input) 2) refusedText
+    (cond (isKnown (formatIn input)) (linesOf (deliveryFrom (formatIn input) (symbolsOf input) 0)) refusedText)

@@ -1,0 +1,72 @@
+// The text that is printed for an input, put into a lent buffer.
+use recording::next::NextSpan;
+use recording::seek::Spanned;
+use span::format::Format;
+ghost use mathlib.Core.Path.{_≡_};
+ghost use mathlib.Core.Bool.{true};
+ghost use Prim.Native.Nat.{_+_, _≤_};
+ghost use lib.ListN.{length};
+ghost use lib.Seq.{sets};
+ghost use Rattle.io.specs.Counts.{Counts};
+ghost use Rattle.span.specs.Format.{isKnown, shapeOf, samplesIn};
+ghost use Rattle.recording.specs.Recording.{deliveryFrom};
+ghost use Rattle.list_spans.specs.Listing.{lineOf, linesOf, listing};
+
+// The line of one span: its place and its line number.
+fn put_line(s: Spanned, out: &mut [u8], at: usize) -> usize
+    requires { ⌜ at + 43 ≤ length (now out) ⌝ }
+    ensures end { λ r. ⌜ r ≡ at + length (lineOf s) ⌝ }
+    ensures written { λ _. ⌜ now (out .exit) ≡ sets (now (out .entry)) at (lineOf s) ⌝ }
+{
+    let a = text::number::put_decimal(s.place as u64, out, at);
+    let b = text::put::put_text(b" ", out, a);
+    let c = text::number::put_decimal(line::stream::number_of(s.delivery.line) as u64, out, b);
+    text::put::put_text(b"\n", out, c)
+}
+
+// The lines of all spans, step by step from the beginning. A line is shorter than a span, so the text never runs ahead of the place.
+fn put_spans(f: Format, symbols: &[u16], rows: &mut [u16], out: &mut [u8]) -> usize
+    requires { ⌜ isKnown f ≡ true ⌝ }
+    requires { ⌜ length (now symbols) ≤ 32767 ⌝ }
+    requires { ⌜ length (now rows) ≡ samplesIn (shapeOf f) ⌝ }
+    requires { ⌜ 65536 ≤ length (now out) ⌝ }
+    ensures end { λ r. ⌜ r ≡ length (linesOf (deliveryFrom f (now (symbols .entry)) 0)) ⌝ }
+    ensures written { λ _. ⌜ now (out .exit) ≡ sets (now (out .entry)) 0 (linesOf (deliveryFrom f (now (symbols .entry)) 0)) ⌝ }
+{
+    let mut place = 0;
+    let mut at = 0;
+    while place < symbols.len() {
+        let next = recording::next::next_span(f, symbols, place, rows);
+        match next.answer {
+            NextSpan::Delivered(s) => {
+                at = put_line(s, out, at);
+                place = next.after;
+            }
+            _ => {
+                return at;
+            }
+        }
+    }
+    at
+}
+
+// All that is printed: the lines, or that the format or depth is unknown.
+pub(crate) fn put_listing(input: &[u8], out: &mut [u8]) -> usize
+    requires { ⌜ 65536 ≤ length (now out) ⌝ }
+    ensures counts { λ r. ⌜ Counts r (now (out .exit)) ⌝ }
+    ensures end { λ r. ⌜ r ≡ length (listing (now (input .entry))) ⌝ }
+    ensures written { λ _. ⌜ now (out .exit) ≡ sets (now (out .entry)) 0 (listing (now (input .entry))) ⌝ }
+{
+    if input.len() < 2 {
+        return text::put::put_text(b"refused 1\n", out, 0);
+    }
+    let f = span::format::format_of(input[0], input[1]);
+    if span::format::is_known(f) {
+        let mut symbols = [0u16; 32767];
+        let n = text::words::read_words(&input[2..], &mut symbols);
+        let mut rows = [0u16; 7680];
+        let m = span::length::span_lengths(f).samples;
+        return put_spans(f, &symbols[..n], &mut rows[..m], out);
+    }
+    text::put::put_text(b"refused 1\n", out, 0)
+}

@@ -1,0 +1,14 @@
+// Lists the spans of a recording: a byte of format, a byte of depth and symbols from standard input, low byte first, at most 32,767 of
+// them; a line of text for each span that is delivered.
+mod list;
+
+use libc::STDIN_FILENO;
+use libc::STDOUT_FILENO;
+
+fn main() {
+    let mut input = io::large_buffer();
+    let mut out = io::large_buffer();
+    let n = io::read_full(STDIN_FILENO, &mut input);
+    let end = list::put_listing(&input[..n], &mut out);
+    io::write_all(STDOUT_FILENO, &out[..end]);
+}

@@ -1,0 +1,3 @@
+pub mod Number
+pub mod Put
+pub mod Words

@@ -1,0 +1,19 @@
+-- A text, as ASCII codes, that is put into a lent buffer.
+-- Assumes nothing.
+use Prim.Native.Nat.{ℕ, _+_}
+use mathlib.Core.Bool.{Bool, cond}
+use mathlib.Core.List.{List}
+use lib.Dec.{leb}
+use lib.ListN.{length}
+use lib.Seq.{sets}
+
+-- whether so much room has place for it from a place on
+abbrev pub fits : ℕ → ℕ → List ℕ → Bool
+fits room at text = leb (at + length text) room
+
+-- where it ends, and the buffer afterwards; where it does not fit, nothing is put
+abbrev pub endOf : ℕ → ℕ → List ℕ → ℕ
+endOf room at text = cond (fits room at text) (at + length text) at
+
+abbrev pub putOf : List ℕ → ℕ → List ℕ → List ℕ
+putOf out at text = cond (fits (length out) at text) (sets out at text) out
