@@ -3,12 +3,12 @@
 use mathlib.Core.Path.{_≡_, refl, sym, ap, _∙_}
 use mathlib.Core.List.{List, [], _∷_}
 use mathlib.Core.Option.{Option, none, some}
-use Prim.Native.Nat.{ℕ, zero, suc, _+_, _-_, _<_}
+use Prim.Native.Nat.{ℕ, zero, suc, _+_, _-_, _≤_, _<_}
 use native.Mathlib.Nat.{add-zero, add-suc}
 use native.Mathlib.Omega.{arith}
-use lib.ListN.{length, take, drop}
+use lib.ListN.{length, take, drop, length-drop}
 use lib.Seq.{take-nil}
-use Rattle.delivery.specs.Delivery.{Found, either, deliver, movedBy}
+use Rattle.delivery.specs.Delivery.{Found, either, deliver, deliveryFrom, movedBy}
 use Rattle.delivery.specs.Marked.{Whole}
 
 -- nothing is read of too few symbols
@@ -68,3 +68,20 @@ module _ {A : Type 0} (n : ℕ) (read : List ℕ → Option A) where
           ≡ movedBy k (either p o (deliver n read (suc p) 0 l) (deliver n read (suc p) (n - 1) l))
       go none on behind = on
       go (some a) on behind = ap (λ (more : List (Found A)). record { place = k + p; reading = a } ∷ more) behind
+
+module _ {A : Type 0} (n : ℕ) (read : List ℕ → Option A) where
+  -- no more is delivered than there are symbols
+  few-of : (p skip : ℕ) (l : List ℕ) → length (deliver n read p skip l) ≤ length l
+  unfolding deliver
+  few-of p skip [] = omega arith
+  few-of p (suc skip) (x ∷ l) = omega (arith, few-of (suc p) skip l)
+  few-of p zero (x ∷ l) = go (read (take n (x ∷ l))) (few-of (suc p) zero l) (few-of (suc p) (n - 1) l)
+    where
+      go : (o : Option A) → length (deliver n read (suc p) zero l) ≤ length l → length (deliver n read (suc p) (n - 1) l) ≤ length l
+          → length (either p o (deliver n read (suc p) zero l) (deliver n read (suc p) (n - 1) l)) ≤ length (x ∷ l)
+      go none on behind = omega (arith, on)
+      go (some a) on behind = omega (arith, behind)
+
+  pub few : (r : List ℕ) (p : ℕ) → length (deliveryFrom n read r p) ≤ length r - p
+  unfolding deliveryFrom
+  few r p = rw (← length-drop p r) (few-of p 0 (drop p r))

@@ -3,12 +3,12 @@
 -- Assumes nothing.
 use mathlib.Core.Path.{_≡_, refl, sym, ap, _∙_}
 use mathlib.Core.Bool.{true}
-use mathlib.Core.List.{List, [], _∷_, _++_}
+use mathlib.Core.List.{List, [], _∷_, _++_, map}
 use mathlib.Core.Option.{Option, none, some}
-use Prim.Native.Nat.{ℕ, zero, suc, _+_, _*_, _≤_, _<_}
+use Prim.Native.Nat.{ℕ, zero, suc, _+_, _-_, _*_, _≤_, _<_}
 use native.Mathlib.Nat.{add-zero, zero-add}
 use native.Mathlib.Omega.{arith}
-use lib.ListN.{length, getD, set, take, drop}
+use lib.ListN.{length, getD, set, take, drop, replicate}
 use Rattle.ground.specs.Answer.{given, Answer}
 use Rattle.ground.specs.Bit.{inverted}
 use Rattle.span.specs.declared.format.Format.{Format}
@@ -20,7 +20,7 @@ use Rattle.delivery.proofs.Cutting.{cut}
 use Rattle.delivery.proofs.Finding.{told, at-the-end, stands-whole, found-told, next-then}
 use Rattle.delivery.proofs.Spans.{ReadAs, nothing-of, exactly, in-place}
 use Rattle.delivery.proofs.Splitting.{split}
-use Rattle.delivery.proofs.Steps.{moved, too-few}
+use Rattle.delivery.proofs.Steps.{moved, too-few, few}
 use Rattle.recording.specs.Call.{spanned, nextOf, findOf, nextRows, rowsNext}
 use Rattle.recording.specs.Look.{isComma}
 use Rattle.recording.specs.Recording.{limit, Reading, reading, findFrom, nextFrom, deliveryFrom}
@@ -33,66 +33,32 @@ use Rattle.window.proofs.Accepting.{row-passed}
 use Rattle.read.specs.Window.{IsWindow}
 use borrow.Author.Tests.{leb-true, eqb-true}
 use Rattle.demands.proofs.Refusing.{given-is}
-use Rattle.demands.specs.Form.{Sending, WasSent, symbolsOf, readingOf, stepsFrom}
+use Rattle.demands.specs.Form.{Sending, WasSent, symbolsOf, readingOf, spansOf, stepsFrom}
+use Rattle.stepping.specs.Steps.{spanStep, endStep, lastRows}
+use Rattle.stepping.proofs.Delivering.{steps-deliver}
+use Rattle.stepping.proofs.Nexts.{next-is}
 use Rattle.demands.proofs.Sendings.{sent-read, harmed-long, harmed-not-read, row-holds}
 
 module _ (f : Format) (known : isKnown f ≡ true) where
   abbrev n : ℕ
   n = symbolsIn (shapeOf f)
 
-  -- ---- a step
-  module _ (r : List ℕ) (p : ℕ) where
-    -- what the next span is, if there is one
-    pub record IsNext (e : Found Reading) : Type 0 where
-      pub inside : e .place + n ≤ length r
-      pub behind : p ≤ e .place
-      pub room : length (e .reading .words) ≡ samplesIn (shapeOf f)
-      pub read : reading f (take n (drop (e .place) r)) ≡ some (e .reading)
-
-    pub next-is : (e : Found Reading) → nextFrom f r p ≡ some e → IsNext e
-    unfolding nextBy
-    next-is e x = go (findFrom f r p) refl x
-      where
-        whole : Whole n (reading f)
-        whole = span-whole f known
-
-        go : (o : Option ℕ) → findFrom f r p ≡ o → readFrom n (reading f) r (findFrom f r p) ≡ some e → IsNext e
-        go none q x = let z : _≡_ {A = ℕ} 0 1 = cc (rw q at x) in absurd (omega arith)
-        go (some k) q x =
-            let at = found-told n (reading f) whole r p k q in
-            let (a, is) = told (reading f (windowAt n (reading f) r k)) (at .1) in
-            let same : some (record { place = k; reading = a }) ≡ some e = rw (q, is) at x in
-            let e-is : record { place = k; reading = a } ≡ e = cc same in
-            let w = reading-told f (take n (drop k r)) a is in
-            let size : length (a .words) ≡ samplesIn (shapeOf f) =
-            ap length (w .words) ∙ length-picture f (take n (drop k r)) (record { known = known; long = w .long }) in
-            rw (← e-is) (record { inside = stands-whole n (reading f) whole r k (at .1); behind = at .0; room = size; read = is })
-
   -- ---- stepping with next span is delivery
+  spans-given : (ds : List (Found Reading)) (k : ℕ) (rows : List ℕ) → spansOf (map spanStep ds ++ replicate k (endStep rows)) ≡ ds
+  spans-given [] zero rows = refl
+  spans-given [] (suc k) rows = refl
+  spans-given (d ∷ ds) k rows = ap (λ (l : List (Found Reading)). d ∷ l) (spans-given ds k rows)
+
   module _ (r : List ℕ) (short : length r ≤ limit) where
     pub steps-are : (k p : ℕ) (rows : List ℕ) → length rows ≡ samplesIn (shapeOf f) → p ≤ length r → length r ≤ p + k
         → stepsFrom k f r p rows ≡ deliveryFrom f r p
-    unfolding stepsFrom
-    steps-are zero p rows room inside enough = sym (at-the-end n (reading f) (span-whole f known) r p (omega arith))
-    steps-are (suc k) p rows room inside enough =
-        go (nextFrom f r p) refl (λ q words size l m. steps-are k q words size l m) ∙ sym (next-then n (reading f) (span-whole f known) r p)
-      where
-        answer : nextOf f r p (length rows) ≡ given (spanned (nextFrom f r p))
-        answer = next-given f r p rows known short room inside
-
-        go : (o : Option (Found Reading)) → nextFrom f r p ≡ o
-            → ((q : ℕ) (words : List ℕ) → length words ≡ samplesIn (shapeOf f) → q ≤ length r → length r ≤ q + k
-            → stepsFrom k f r q words ≡ deliveryFrom f r q)
-            → stepsFrom (suc k) f r p rows ≡ followed (nextFrom f r p) (λ e. deliveryFrom f r (e .place + n))
-        go none x more = rw (answer, x)
-        go (some e) x more =
-            let next = next-is r p e x in
-            rw (answer, x)
-            (ap (λ (l : List (Found Reading)). e ∷ l)
-            (more (e .place + n) (e .reading .words) (next .room) (next .inside) (omega (arith, next .behind, known-long))))
-          where
-            known-long : 1 ≤ n
-            known-long = span-whole f known .least
+    steps-are k p rows room inside enough =
+        let ds = deliveryFrom f r p in
+        let j = k - length ds in
+        let all : k ≡ length ds + j = omega (arith, few n (reading f) r p) in
+        ap (λ (m : ℕ). stepsFrom m f r p rows) all
+        ∙ ap spansOf (steps-deliver f known r short p rows room inside j)
+        ∙ spans-given ds j (lastRows rows ds)
 
     pub delivered : (list : List (Found Reading)) → deliveryFrom f r 0 ≡ list → (rows : List ℕ) → length rows ≡ samplesIn (shapeOf f)
         → (k : ℕ) → length r ≤ k → stepsFrom k f r 0 rows ≡ list

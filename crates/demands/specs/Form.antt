@@ -19,8 +19,8 @@ use Rattle.span.specs.Stream.{Asked, picture}
 use Rattle.window.specs.Encoded.{AreContent}
 use Rattle.delivery.specs.Delivery.{Found}
 use Rattle.recording.specs.declared.seek.Spanned.{Spanned}
-use Rattle.recording.specs.Call.{nextOf, afterNext, rowsNext}
 use Rattle.recording.specs.Recording.{Reading}
+use Rattle.stepping.specs.Steps.{Step, runFrom}
 use Rattle.send.specs.Send.{sendOf}
 
 -- ---- document 01's own numbers
@@ -114,11 +114,13 @@ abbrev pub onward : Answer (Option Spanned) → List ℕ → List (Found Reading
 onward (refused number place) words more = []
 onward (given o) words more = stepOf o words more
 
-unfoldable pub stepsFrom : ℕ → Format → List ℕ → ℕ → List ℕ → List (Found Reading)
-stepsFrom zero f r p rows = []
-stepsFrom (suc k) f r p rows =
-    onward (nextOf f r p (length rows)) (rowsNext f r p rows)
-    (stepsFrom k f r (afterNext f r p (length rows)) (rowsNext f r p rows))
+-- the spans of a run of steps, up to the first that gives none
+abbrev pub spansOf : List Step → List (Found Reading)
+spansOf [] = []
+spansOf (s ∷ more) = onward (s .answer) (s .rows) (spansOf more)
+
+abbrev pub stepsFrom : ℕ → Format → List ℕ → ℕ → List ℕ → List (Found Reading)
+stepsFrom k f r p rows = spansOf (runFrom k f r p rows)
 
 -- a recording is delivered as a list: with rows of the right length and as many steps as it has symbols, or more, it is what the calls give
 abbrev pub Delivered : Format → List ℕ → List (Found Reading) → Type 0

@@ -1,52 +1,67 @@
--- How long the lines are.
+-- How long the lines are, and one line after the other.
 -- Assumes nothing.
-use mathlib.Core.Path.{refl, sym}
-use mathlib.Core.List.{List}
-use Prim.Native.Nat.{ℕ, _+_, _≤_, _<_}
+use mathlib.Core.Path.{_≡_, refl, sym, ap₂}
+use mathlib.Core.Bool.{Bool, true, false}
+use mathlib.Core.List.{List, [], _∷_, _++_}
+use mathlib.Core.Option.{Option, none, some, Option·getD}
+use Prim.Native.Nat.{ℕ, zero, suc, _+_, _*_, _≤_, _<_}
 use native.Mathlib.Omega.{arith}
-use lib.Dec.{ltb}
-use borrow.Author.Tests.{ltb-true, ltb-false}
-use Rattle.io.specs.Digits.{Fewest}
 use lib.ListN.{length, length-append}
-use Rattle.ground.specs.Answer.{Answer, refused, given}
+use lib.Seq.{sets}
+use borrow.Author.Tests.{leb-true}
+use Rattle.ground.specs.Answer.{Answer, refused, given, unless, checked}
+use Rattle.ground.specs.Search.{isSome}
 use Rattle.ground.specs.Written.{upto}
+use Rattle.ground.proofs.Searches.{hit}
 use Rattle.ground.proofs.Writing.{upto-more}
-use Rattle.ground.proofs.Cases.{on-test}
+use Rattle.text.specs.Number.{decimal, hexadecimal}
+use Rattle.text.specs.Words.{wordAt}
+use Rattle.text.proofs.Numbers.{length-digits, places-below, places-most-16}
+use Rattle.text.proofs.Putting.{Put, then, put-as}
 use Rattle.word.specs.declared.repair.Repaired.{Repaired}
-use Rattle.word.specs.Repair.{repairOf}
-use Rattle.list_repairs.specs.Text.{placesOf, outcome, lineText, wordAt, listed}
-use Rattle.list_repairs.proofs.Digits.{length-digits, Put, then, put-as}
+use Rattle.word.specs.Repair.{distance, legalWord, near, nearest, repairOf}
+use Rattle.word.specs.Word.{isWord}
+use Rattle.list_repairs.specs.Text.{outcome, lineText, lineCount, listed}
 
--- a number of sixteen bits by how many digits it takes
-by-places : (P : ℕ → Type 0) (n : ℕ) → (n < 10 → P 1) → (10 ≤ n → n < 100 → P 2) → (100 ≤ n → n < 1000 → P 3)
-    → (1000 ≤ n → n < 10000 → P 4) → (10000 ≤ n → P 5) → P (placesOf n)
-by-places P n one two three four five =
-    on-test (ltb n 10) (λ t. simp t (one (ltb-true n 10 t)))
-    (λ t.
-    on-test (ltb n 100) (λ u. simp (t, u) (two (ltb-false n 10 t) (ltb-true n 100 u)))
-    (λ u.
-    on-test (ltb n 1000) (λ v. simp (t, u, v) (three (ltb-false n 100 u) (ltb-true n 1000 v)))
-    (λ v.
-    on-test (ltb n 10000) (λ w. simp (t, u, v, w) (four (ltb-false n 1000 v) (ltb-true n 10000 w)))
-    (λ w. simp (t, u, v, w) (five (ltb-false n 10000 w))))))
+-- how far a word was from the one it is repaired to
+abbrev pub distanceIn : Answer Repaired → ℕ
+distanceIn (given r) = r .distance
+distanceIn (refused number place) = 0
 
-pub places-most : (n : ℕ) → placesOf n ≤ 5
-places-most n =
-    by-places (λ k. k ≤ 5) n (λ a. omega arith) (λ a b. omega arith) (λ a b. omega arith) (λ a b. omega arith) (λ a. omega arith)
+-- at most one bit
+near-if : (w : ℕ) (b : Bool) (o : Option ℕ) → ((k : ℕ) → o ≡ some k → distance w (legalWord k) ≤ 1)
+    → distanceIn
+    (checked (unless 7 b ∷ unless 8 (isSome o) ∷ [])
+    (record { word = legalWord (Option·getD o 0); distance = distance w (legalWord (Option·getD o 0)) })) ≤ 1
+near-if w false o h = omega arith
+near-if w true none h = omega arith
+near-if w true (some k) h = h k refl
 
--- no leading zero: they are the fewest digits that hold the number
-pub places-fewest : (n : ℕ) → n < 65536 → Fewest 10 1 n (placesOf n)
-places-fewest n h =
-    by-places (Fewest 10 1 n) n (λ a. (omega arith, a, λ l. absurd (omega arith))) (λ a b. (omega arith, b, λ l. a))
-    (λ a b. (omega arith, b, λ l. a)) (λ a b. (omega arith, b, λ l. a)) (λ a. (omega arith, omega arith, λ l. a))
+pub near-enough : (w : ℕ) → distanceIn (repairOf w) ≤ 1
+unfolding nearest
+near-enough w = near-if w (isWord w) (nearest w) (λ k e. leb-true (distance w (legalWord k)) 1 (hit (near w) 4 k e .holds))
 
-outcome-most : (a : Answer Repaired) → length (outcome a) ≤ 8
-outcome-most (given r) = omega arith
-outcome-most (refused number place) = omega arith
+pub index-most : (n : ℕ) → n < 65536 → length (decimal n) ≤ 5
+index-most n h = rw length-digits (places-most-16 n h)
 
-pub line-most : (index w : ℕ) → length (lineText index w) ≤ 19
-line-most index w =
-    rw (length-append, length-append, length-digits) (omega (arith, places-most index, outcome-most (repairOf w)))
+pub one-digit : (n : ℕ) → n ≤ 1 → length (decimal n) ≤ 1
+one-digit n h = rw length-digits (places-below n 1 (omega arith) (omega arith))
+
+outcome-most : (a : Answer Repaired) → distanceIn a ≤ 1 → length (outcome a) ≤ 8
+outcome-most (given r) h = rw length-append (omega (arith, one-digit (r .distance) h))
+outcome-most (refused number place) h = omega arith
+
+-- what stands before it in its line
+abbrev pub lineStart : ℕ → ℕ → List ℕ
+lineStart index w = decimal index ++ (32 ∷ []) ++ hexadecimal w ++ (32 ∷ [])
+
+pub start-most : (index w : ℕ) → index < 65536 → length (lineStart index w) ≤ 11
+start-most index w h = simp length-append (omega (arith, index-most index h))
+
+pub line-most : (index w : ℕ) → index < 65536 → length (lineText index w) ≤ 19
+line-most index w h =
+    rw (length-append (lineStart index w) (outcome (repairOf w)))
+    (omega (arith, start-most index w h, outcome-most (repairOf w) (near-enough w)))
 
 -- ---- one line after the other
 
@@ -55,6 +70,17 @@ module _ (input : List ℕ) (from : ℕ) where
   unfolding upto
   none-listed out = record { written = refl; ends = refl }
 
-  pub one-more : {out₀ out out₁ : List ℕ} {at end : ℕ} (i : ℕ) → Put out₀ out 0 at (listed input from i)
-      → Put out out₁ at end (lineText (from + i) (wordAt input (from + i))) → Put out₀ out₁ 0 end (listed input from (i + 1))
-  one-more i f g = put-as (sym (upto-more i (λ k. lineText (from + k) (wordAt input (from + k))))) (then f g)
+  -- a line more, of the word that comes next
+  pub one-more : {out₀ out out₁ : List ℕ} {at end index w : ℕ} (i : ℕ) → Put out₀ out 0 at (listed input from i)
+      → end ≡ at + length (lineText index w) → out₁ ≡ sets out at (lineText index w) → index ≡ from + i → w ≡ wordAt input (from + i)
+      → Put out₀ out₁ 0 end (listed input from (i + 1))
+  one-more {out₀} {out} {out₁} {at} {end} {index} {w} i f ends written p q =
+      let g : Put out out₁ at end (lineText index w) = record { written = written; ends = ends } in
+      put-as (sym (upto-more i (λ k. lineText (from + k) (wordAt input (from + k))))) (then f (put-as (ap₂ lineText p q) g))
+
+  pub listed-most : (i : ℕ) → i ≤ lineCount (length input) from → length (listed input from i) ≤ 19 * i
+  unfolding upto
+  listed-most zero h = omega arith
+  listed-most (suc i) h =
+      rw (length-append (listed input from i))
+      (omega (arith, listed-most i (omega arith), line-most (from + i) (wordAt input (from + i)) (omega arith)))

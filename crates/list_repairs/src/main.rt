@@ -1,5 +1,5 @@
 // Lists the repair of timing words: words from standard input, low byte first, up to 64 KiB; a line of text for each.
-mod text;
+mod listing;
 
 use libc::STDIN_FILENO;
 use libc::STDOUT_FILENO;
@@ -12,7 +12,7 @@ fn list(input: &[u8], out: &mut [u8])
 {
     let mut from = 0;
     while from < 32768 {
-        let end = text::put_lines(input, from, out);
+        let end = listing::put_lines(input, from, out);
         if io::write_all(STDOUT_FILENO, &out[..end]) {
             from += 2048;
         } else {

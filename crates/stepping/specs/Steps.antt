@@ -1,0 +1,52 @@
+-- Steps through a recording: what one gives, and what a run of them gives (document 01, "Which form goes where" and "Receiving and finding").
+-- Assumes nothing.
+use Prim.Native.Nat.{ℕ, zero, suc}
+use mathlib.Core.List.{List, [], _∷_}
+use mathlib.Core.Option.{Option, none, some}
+use lib.ListN.{length}
+use denote.Ref.{now}
+use Rattle.ground.specs.Answer.{Answer, given}
+use Rattle.span.specs.declared.format.Format.{Format}
+use Rattle.delivery.specs.Delivery.{Found}
+use Rattle.recording.specs.declared.seek.Spanned.{Spanned}
+use Rattle.recording.specs.Recording.{Reading}
+use Rattle.recording.specs.Call.{nextOf, afterNext, rowsNext}
+use Rattle.stepping.specs.declared.reader.Reader.{Reader}
+
+-- ---- one step of a reader, with rows lent: what it answers, the reader afterwards, the rows afterwards. It is the next span from the reader's place.
+abbrev pub answerOf : Format → Reader → List ℕ → Answer (Option Spanned)
+answerOf f r rows = nextOf f (now (r .symbols)) (r .place) (length rows)
+
+abbrev pub movedOf : Format → Reader → List ℕ → Reader
+movedOf f r rows = record { symbols = r .symbols; place = afterNext f (now (r .symbols)) (r .place) (length rows) }
+
+abbrev pub rowsOf : Format → Reader → List ℕ → List ℕ
+rowsOf f r rows = rowsNext f (now (r .symbols)) (r .place) rows
+
+-- ---- a run of steps, with the same rows lent again and again
+pub record Step : Type 0 where
+  pub answer : Answer (Option Spanned)
+  pub rows : List ℕ
+
+-- k steps from place p of a recording: of each its answer, and the rows after it
+unfoldable pub runFrom : ℕ → Format → List ℕ → ℕ → List ℕ → List Step
+runFrom zero f r p rows = []
+runFrom (suc k) f r p rows =
+    record { answer = nextOf f r p (length rows); rows = rowsNext f r p rows } ∷ runFrom k f r (afterNext f r p (length rows)) (rowsNext f r p rows)
+
+-- k steps of a reader (that each is a step of the reader as the step before left it: law `step-by-step`)
+abbrev pub runOf : ℕ → Format → Reader → List ℕ → List Step
+runOf k f r rows = runFrom k f (now (r .symbols)) (r .place) rows
+
+-- the step that gives a span
+abbrev pub spanStep : Found Reading → Step
+spanStep e = record { answer = given (some (record { place = e .place; delivery = e .reading .values })); rows = e .reading .words }
+
+-- the step at the end, which leaves the rows
+abbrev pub endStep : List ℕ → Step
+endStep rows = record { answer = given none; rows = rows }
+
+-- the rows after the last of some spans; those lent where there is none
+abbrev pub lastRows : List ℕ → List (Found Reading) → List ℕ
+lastRows rows [] = rows
+lastRows rows (e ∷ more) = lastRows (e .reading .words) more

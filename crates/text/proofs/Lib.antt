@@ -1,0 +1,3 @@
+pub mod Numbers
+pub mod Putting
+pub mod WordsRead
