@@ -29,6 +29,20 @@ use Rattle.recording.specs.Look.{mayBegin, Passed}
 use Rattle.recording.specs.Recording.{Reading, reading, accepts, nextFrom}
 use Rattle.recording.proofs.Readings.{is-read, not-read, span-whole, accepted-begins}
 
+-- what is not delivered is refused
+refused-told : (a : Read) → ((d : Delivery) → a ≡ Delivered d → ⊥) → (number : ℕ) × (place : ℕ) × (paperRead a ≡ refused number place)
+refused-told (Delivered d) x = absurd (x d refl)
+refused-told UnknownFormat x = (1, 0, refl)
+refused-told WrongInput x = (3, 0, refl)
+refused-told WrongOutput x = (4, 0, refl)
+refused-told (WrongSymbol place) x = (20, place, refl)
+refused-told (WrongTiming place) x = (21, place, refl)
+refused-told (WrongLine place) x = (22, place, refl)
+refused-told (WrongV place) x = (23, place, refl)
+refused-told (WrongCrcc place) x = (24, place, refl)
+refused-told (WrongSample place) x = (25, place, refl)
+refused-told (WrongFill place) x = (26, place, refl)
+
 module _ (f : Format) (r : List ℕ) where
   abbrev n : ℕ
   n = symbolsIn (shapeOf f)
@@ -71,7 +85,7 @@ module _ (f : Format) (r : List ℕ) where
       answer = read-is f w (record { known = known; long = long }) room enough
 
       -- a window that is refused
-      pub refuse : {number place : ℕ} → readOf f w room ≡ refused number place → Sofar start (q + 1)
+      refuse : {number place : ℕ} → readOf f w room ≡ refused number place → Sofar start (q + 1)
       refuse e =
           record {
             at = omega (arith, s .at);
@@ -81,6 +95,9 @@ module _ (f : Format) (r : List ℕ) where
                 let here : j ≡ q = omega (arith, ltb-false j q t) in
                 rw here (ap (accepts f) (sym window) ∙ ap isSome (not-read f w long (sym answer ∙ e))));
           }
+
+      pub refuse-by : (a : Read) → paperRead a ≡ readOf f w room → ((d : Delivery) → a ≡ Delivered d → ⊥) → Sofar start (q + 1)
+      refuse-by a e x = let (number, place, told) = refused-told a x in refuse (sym e ∙ told)
 
       -- one that is delivered
       pub deliver : {d : Delivery} → readOf f w room ≡ given d
@@ -123,17 +140,3 @@ no-key =
     (⊎-elim (λ z. omega arith)
     (⊎-elim (λ z. omega arith)
     (⊎-elim (λ z. omega arith) (λ z. omega arith)))))))))
-
--- what is not delivered is refused
-pub refused-told : (a : Read) → ((d : Delivery) → a ≡ Delivered d → ⊥) → (number : ℕ) × (place : ℕ) × (paperRead a ≡ refused number place)
-refused-told (Delivered d) x = absurd (x d refl)
-refused-told UnknownFormat x = (1, 0, refl)
-refused-told WrongInput x = (3, 0, refl)
-refused-told WrongOutput x = (4, 0, refl)
-refused-told (WrongSymbol place) x = (20, place, refl)
-refused-told (WrongTiming place) x = (21, place, refl)
-refused-told (WrongLine place) x = (22, place, refl)
-refused-told (WrongV place) x = (23, place, refl)
-refused-told (WrongCrcc place) x = (24, place, refl)
-refused-told (WrongSample place) x = (25, place, refl)
-refused-told (WrongFill place) x = (26, place, refl)

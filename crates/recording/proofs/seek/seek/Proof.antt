@@ -12,7 +12,7 @@ use Rattle.span.specs.declared.length.SpanLengths.{SpanLengths}
 use Rattle.span.specs.Format.{shapeOf, samplesIn}
 use Rattle.read.specs.Call.{paperRead}
 use Rattle.recording.proofs.Readings.{three}
-use Rattle.recording.proofs.Seeking.{Sofar, begin, pass, refuse, deliver, nothing, none-answered, some-answered, no-key, refused-told}
+use Rattle.recording.proofs.Seeking.{Sofar, begin, pass, refuse-by, deliver, nothing, none-answered, some-answered, no-key}
 use Rattle.recording.proofs.seek.seek.Statement.{statement}
 use Rattle.recording.proofs.seek.seek.Tie as tie
 
@@ -112,8 +112,8 @@ loop-again c =
     let inside : q + m ≤ length r = omega (arith, c .before .before .before .before .before .before .if2 .taken, c .before .before .before .before .before .before .before .before .before .before .if1 .left) in
     let sofar = pass (s .args .f) r (s .pre .0) (c .before .before .before .before .before .before .before .before .before .loop .inv .0) (c .before .before .before .before .before .before .before .look .ensures) in
     let read = c .before .before .before .read .ensures in
-    let (number, place, e) = refused-told (c .before .before .before .read .result) (λ d z. no-key (rw z at (c .match .keys2))) in
-    (refuse (s .args .f) r (s .pre .0) sofar n inside (c .before .before .before .before .before .before .before .before .before .loop .inv .1) (sym (read .0) ∙ e), search needs)
+    let enough = c .before .before .before .before .before .before .before .before .before .loop .inv .1 in
+    (refuse-by (s .args .f) r (s .pre .0) sofar n inside enough (c .before .before .before .read .result) (read .0) (λ d z. no-key (rw z at (c .match .keys2))), search needs)
 
 loop-less-2 : tie.Need-loop-less-2 Inv-loop μ-loop
 loop-less-2 c = omega (arith, c .before .look .ensures .at, c .if2 .left, c .before .before .loop-test .taken)
