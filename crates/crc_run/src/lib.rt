@@ -2,7 +2,7 @@
 ghost use mathlib.Core.Path.{_≡_};
 ghost use Prim.Native.Nat.{_+_, _*_, _^_};
 ghost use lib.ListN.{drop};
-ghost use Rattle.word.specs.Crcc.{crc};
+ghost use Rattle.crcc.specs.Crcc.{crc};
 
 // The register after the words from an index on, of which twelve bits each count.
 pub fn crc_from(c: u32, words: &[u16], from: usize) -> u32
@@ -11,7 +11,7 @@ pub fn crc_from(c: u32, words: &[u16], from: usize) -> u32
     let mut register = c;
     let mut i = from;
     while i < words.len() {
-        register = word::crcc::crc_word(register, words[i]);
+        register = crcc::crcc::crc_word(register, words[i]);
         i += 1;
     }
     register
@@ -35,8 +35,8 @@ pub extern "C" fn brazulint_crc_two(a: &[u16], b: &[u16]) -> u64
     let mut second = 0;
     let mut i = 0;
     while i < n {
-        first = word::crcc::crc_word(first, a[i]);
-        second = word::crcc::crc_word(second, b[i]);
+        first = crcc::crcc::crc_word(first, a[i]);
+        second = crcc::crcc::crc_word(second, b[i]);
         i += 1;
     }
     let above = crc_from(second, b, n) as u64;

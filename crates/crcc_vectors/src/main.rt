@@ -1,10 +1,10 @@
 // Writes the CRCC words of runs of 1, 2, 40 and 1,926 words, to be compared with those of a polynomial long division.
+use crcc::crcc::Crcc;
 use libc::STDOUT_FILENO;
-use word::crcc::Crcc;
 
 // A run's length in decimal, and the words CRCC0 and CRCC1 in hexadecimal.
 fn write_line(n: usize, c: u32) {
-    let words = word::crcc::crcc_words(c);
+    let words = crcc::crcc::crcc_words(c);
     io::print_decimal(STDOUT_FILENO, n as u64);
     io::write_all(STDOUT_FILENO, b" ");
     io::print_hex(STDOUT_FILENO, words.crcc0 as u64, 3);
@@ -16,7 +16,7 @@ fn write_line(n: usize, c: u32) {
 // The line of the first n words.
 fn write_run(words: &[u16], n: usize) {
     if n <= words.len() {
-        match word::crcc::crcc_of(&words[..n]) {
+        match crcc::crcc::crcc_of(&words[..n]) {
             Crcc::Register(c) => write_line(n, c),
             Crcc::Above4095 => {
                 io::write_all(STDOUT_FILENO, b"refused 7\n");

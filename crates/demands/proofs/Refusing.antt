@@ -24,7 +24,7 @@ use Rattle.symbol.specs.Code.{symbolOf, charOf}
 use Rattle.decoder.specs.Decode.{decodeOf}
 use Rattle.decoder.specs.Meaning.{meaningOf}
 use Rattle.packing.specs.Bytes.{packedOf}
-use Rattle.word.specs.Crcc.{allWords, crccOf}
+use Rattle.crcc.specs.Crcc.{allWords, crccOf}
 use Rattle.word.specs.LineNumber.{ln0, ln1, names, lineOf, numberedOf, namedOf}
 use Rattle.word.specs.Repair.{distance, legalWord, near, nearest, repairOf}
 use Rattle.word.specs.Timing.{timing}

@@ -16,7 +16,7 @@ use Rattle.symbol.specs.Code.{symbolOf, afterOf}
 use Rattle.decoder.specs.Decode.{decodeOf}
 use Rattle.decoder.specs.Meaning.{meaningOf}
 use Rattle.packing.specs.Bytes.{packedOf}
-use Rattle.word.specs.Crcc.{crccOf}
+use Rattle.crcc.specs.Crcc.{crccOf}
 use Rattle.word.specs.LineNumber.{ln0, ln1, numberedOf, namedOf}
 use Rattle.word.specs.Repair.{distance, repairOf}
 use Rattle.word.specs.Timing.{timing}

@@ -15,7 +15,7 @@ use Rattle.span.specs.declared.format.Shape.{Shape}
 use Rattle.span.specs.Format.{streams}
 use Rattle.packing.specs.declared.bytes.TwoWords.{TwoWords}
 use Rattle.packing.specs.Bytes.{wordsOf}
-use Rattle.word.specs.Crcc.{crc, crcWord, crccWords}
+use Rattle.crcc.specs.Crcc.{crc, crcWord, crccWords}
 use Rattle.word.specs.LineNumber.{lineOf, namedOf}
 use Rattle.window.specs.Tests.{wordOf, repaired, wrongBits, sumOf, nextLine, lineRead, repairs}
 use Rattle.window.specs.Words.{fixedByte, byteAt, pairAt, wordAt}

@@ -12,8 +12,8 @@ use Rattle.span.specs.declared.format.Format.{Format}
 use Rattle.span.specs.declared.format.Shape.{Shape}
 use Rattle.span.specs.Format.{streams}
 use Rattle.span.specs.Span.{fillWord}
-use Rattle.word.specs.declared.crcc.CrccWords.{CrccWords}
-use Rattle.word.specs.Crcc.{crc, crccWords}
+use Rattle.crcc.specs.declared.crcc.CrccWords.{CrccWords}
+use Rattle.crcc.specs.Crcc.{crc, crccWords}
 use Rattle.packing.specs.Sample.{allowedWord}
 use Rattle.window.specs.declared.sums.Sums.{Sums}
 use Rattle.window.specs.Read.{placed}

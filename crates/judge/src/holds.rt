@@ -1,9 +1,9 @@
 // The tests at one interleaved place, and the lowest place at which one does not hold.
+use crcc::crcc::CrccWords;
 use line::stream::StreamLine;
 use span::format::Format;
 use span::format::Shape;
 use window::sums::Sums;
-use word::crcc::CrccWords;
 use word::line_number::Named;
 ghost use mathlib.Core.Path.{_≡_};
 ghost use Prim.Native.Nat.{_*_, _/_, _%_, _≤_, _<_};
@@ -97,13 +97,13 @@ fn crcc_behind(t: &[u16; 1024], p: Shape, symbols: &[u16], i: usize, c: u32) -> 
 {
     let s = 2 * p.half;
     let at = 1924 * s + i;
-    let c1 = word::crcc::crc_word(c, crate::words::word_at(t, p, symbols, at));
-    let c2 = word::crcc::crc_word(c1, crate::words::word_at(t, p, symbols, at + s));
-    let c3 = word::crcc::crc_word(c2, crate::words::word_at(t, p, symbols, at + 2 * s));
+    let c1 = crcc::crcc::crc_word(c, crate::words::word_at(t, p, symbols, at));
+    let c2 = crcc::crcc::crc_word(c1, crate::words::word_at(t, p, symbols, at + s));
+    let c3 = crcc::crcc::crc_word(c2, crate::words::word_at(t, p, symbols, at + 2 * s));
     let xyz = crate::words::word_at(t, p, symbols, at + 3 * s);
-    let c4 = word::crcc::crc_word(c3, timing_code::timing::repaired_word(xyz));
-    let c5 = word::crcc::crc_word(c4, crate::words::word_at(t, p, symbols, at + 4 * s));
-    word::crcc::crcc_words(word::crcc::crc_word(
+    let c4 = crcc::crcc::crc_word(c3, timing_code::timing::repaired_word(xyz));
+    let c5 = crcc::crcc::crc_word(c4, crate::words::word_at(t, p, symbols, at + 4 * s));
+    crcc::crcc::crcc_words(crcc::crcc::crc_word(
         c5,
         crate::words::word_at(t, p, symbols, at + 5 * s),
     ))

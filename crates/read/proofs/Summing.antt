@@ -10,9 +10,9 @@ use lib.ListN.{take}
 use Rattle.span.specs.declared.format.Format.{Format}
 use Rattle.span.specs.declared.format.Shape.{Shape}
 use Rattle.span.specs.Format.{shapeOf, streams, pairsIn}
-use Rattle.word.specs.declared.crcc.CrccWords.{CrccWords}
-use Rattle.word.specs.Crcc.{crc, crccWords}
-use Rattle.word.proofs.Crc.{crc-append}
+use Rattle.crcc.specs.declared.crcc.CrccWords.{CrccWords}
+use Rattle.crcc.specs.Crcc.{crc, crccWords}
+use Rattle.crcc.proofs.Crc.{crc-append}
 use Rattle.rows.specs.Picture.{columnOf, sumsOf}
 use Rattle.judge.specs.Holds.{crccBehind, holds24By}
 use Rattle.judge.specs.Verdict.{serviceTests}

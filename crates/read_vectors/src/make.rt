@@ -141,7 +141,7 @@ fn register(words: &[u16], s: usize, t: usize) -> u32
     let mut c = 0u32;
     let mut k = 4 * s + t;
     while k < 1930 * s {
-        c = word::crcc::crc_word(c, at(words, k));
+        c = crcc::crcc::crc_word(c, at(words, k));
         k += s;
     }
     c
@@ -152,7 +152,7 @@ fn put_crcc(words: &mut [u16], s: usize)
     requires { ⌜ s ≤ 4 ⌝ }
 {
     for t in 0..s {
-        let c = word::crcc::crcc_words(register(words, s, t));
+        let c = crcc::crcc::crcc_words(register(words, s, t));
         put(words, 1930 * s + t, c.crcc0);
         put(words, 1931 * s + t, c.crcc1);
     }

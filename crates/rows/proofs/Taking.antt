@@ -8,8 +8,8 @@ use lib.ListN.{length, set}
 use lib.Seq.{sets, set-comm, length-sets}
 use Rattle.ground.specs.Written.{upto, table}
 use Rattle.ground.proofs.Writing.{sets-upto, upto-more}
-use Rattle.word.specs.Crcc.{crc, crcWord}
-use Rattle.word.proofs.Crc.{crc-append}
+use Rattle.crcc.specs.Crcc.{crc, crcWord}
+use Rattle.crcc.proofs.Crc.{crc-append}
 
 -- a store before a run of stores may come after it
 store-before : {A : Type 0} (ys l : List A) (k i : ℕ) (x : A) → k < i → set (sets l i ys) k x ≡ sets (set l k x) i ys

@@ -9,7 +9,7 @@ use lib.Seq.{sets}
 use Rattle.span.specs.declared.format.Format.{Format}
 use Rattle.span.specs.declared.format.Shape.{Shape}
 use Rattle.span.specs.Format.{shapeOf, streams}
-use Rattle.word.specs.Crcc.{crc}
+use Rattle.crcc.specs.Crcc.{crc}
 use Rattle.packing.specs.Sample.{allowedWord}
 use Rattle.window.specs.Read.{pictureOf}
 use Rattle.window.specs.Tests.{column}

@@ -45,8 +45,8 @@ fn take_out(
         let w = crate::words::pair_from(t, symbols, o);
         rows[low + j] = w.a;
         rows[high + j] = w.b;
-        a = word::crcc::crc_word(a, w.a);
-        b = word::crcc::crc_word(b, w.b);
+        a = crcc::crcc::crc_word(a, w.a);
+        b = crcc::crcc::crc_word(b, w.b);
         j += 1;
     }
     Two { a, b }

@@ -11,8 +11,8 @@ use Rattle.ground.proofs.Cases.{on-test}
 use Rattle.ground.proofs.Writing.{upto-more, length-upto}
 use Rattle.encoder.specs.Tables.{offsetOf, ofOffset}
 use Rattle.span.specs.Encoding.{symbolsFrom, afterRun}
-use Rattle.word.specs.Crcc.{crc, crcWord}
-use Rattle.word.proofs.Crc.{crc-append}
+use Rattle.crcc.specs.Crcc.{crc, crcWord}
+use Rattle.crcc.proofs.Crc.{crc-append}
 use Rattle.send.specs.declared.picture.Passed.{Passed}
 use Rattle.send.specs.Put.{behind, put, pairChars, groupChars, scaled, pictureChars, sumOf, passedAt, summed, stepped}
 use Rattle.send.proofs.Putting.{made, then, is-offset, behind-is, one-offset, length-group, group-of-two, group-of-four}

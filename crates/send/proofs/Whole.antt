@@ -13,11 +13,11 @@ use Rattle.line.specs.Stream.{vOf, lineAfter}
 use Rattle.symbol.specs.declared.disparity.Disparity.{Disparity}
 use Rattle.encoder.specs.Tables.{offsetOf, ofOffset}
 use Rattle.encoder.proofs.Entries.{offset-again}
-use Rattle.word.specs.declared.crcc.CrccWords.{CrccWords}
-use Rattle.word.specs.Crcc.{crc, crccWords}
+use Rattle.crcc.specs.declared.crcc.CrccWords.{CrccWords}
+use Rattle.crcc.specs.Crcc.{crc, crccWords}
+use Rattle.crcc.proofs.Crc.{crc-append}
 use Rattle.word.specs.LineNumber.{lineWords}
 use Rattle.word.specs.Timing.{timing}
-use Rattle.word.proofs.Crc.{crc-append}
 use Rattle.span.specs.declared.content.ContentBytes.{ContentBytes}
 use Rattle.span.specs.declared.format.Format.{Format}
 use Rattle.span.specs.declared.format.Shape.{Shape}

@@ -16,9 +16,9 @@ use Rattle.symbol.specs.Code.{symbolOf, afterOf}
 use Rattle.encoder.specs.Tables.{offsetOf, ofOffset}
 use Rattle.packing.specs.Bytes.{bytesOf}
 use Rattle.line.specs.Stream.{vOf, lineAfter}
-use Rattle.word.specs.declared.crcc.CrccWords.{CrccWords}
+use Rattle.crcc.specs.declared.crcc.CrccWords.{CrccWords}
+use Rattle.crcc.specs.Crcc.{crc, crcWord, crccWords}
 use Rattle.word.specs.declared.line_number.LineWords.{LineWords}
-use Rattle.word.specs.Crcc.{crc, crcWord, crccWords}
 use Rattle.word.specs.LineNumber.{lineWords}
 use Rattle.word.specs.Timing.{timing}
 use Rattle.span.specs.declared.content.ContentBytes.{ContentBytes}

@@ -1,10 +1,10 @@
 // A span out of its parts.
 use crate::picture::Passed;
 use crate::put::Four;
+use crcc::crcc::CrccWords;
 use line::stream::StreamLine;
 use span::content::ContentBytes;
 use span::format::Shape;
-use word::crcc::CrccWords;
 use word::line_number::LineWords;
 ghost use mathlib.Core.Path.{_≡_};
 ghost use Prim.Native.Nat.{_+_, _*_, _≤_};
@@ -18,12 +18,12 @@ ghost use Rattle.send.specs.Put.{behind, put, crccBehind, crccChars, beh
 fn crcc_behind(c: u32, xyz: u16, n: LineWords) -> CrccWords
     ensures { λ r. ⌜ r ≡ crccBehind c xyz n ⌝ }
 {
-    let c1 = word::crcc::crc_word(c, 0xFFF);
-    let c2 = word::crcc::crc_word(c1, 0x000);
-    let c3 = word::crcc::crc_word(c2, 0x000);
-    let c4 = word::crcc::crc_word(c3, xyz);
-    let c5 = word::crcc::crc_word(c4, n.ln0);
-    word::crcc::crcc_words(word::crcc::crc_word(c5, n.ln1))
+    let c1 = crcc::crcc::crc_word(c, 0xFFF);
+    let c2 = crcc::crcc::crc_word(c1, 0x000);
+    let c3 = crcc::crcc::crc_word(c2, 0x000);
+    let c4 = crcc::crcc::crc_word(c3, xyz);
+    let c5 = crcc::crcc::crc_word(c4, n.ln0);
+    crcc::crcc::crcc_words(crcc::crcc::crc_word(c5, n.ln1))
 }
 
 // The CRCC words of each stream.

@@ -41,8 +41,8 @@ fn put_place(
     let a = samples[j] * factor;
     let b = samples[1920 + j] * factor;
     let low = crate::put::put_pair(symbols, turns, p.offset, a, b, out, at);
-    let first = word::crcc::crc_word(p.first, a);
-    let second = word::crcc::crc_word(p.second, b);
+    let first = crcc::crcc::crc_word(p.first, a);
+    let second = crcc::crcc::crc_word(p.second, b);
     if half == 1 {
         return Passed {
             offset: low,
@@ -55,8 +55,8 @@ fn put_place(
     let c = samples[3840 + j] * factor;
     let e = samples[5760 + j] * factor;
     let offset = crate::put::put_pair(symbols, turns, low, c, e, out, at + 3);
-    let third = word::crcc::crc_word(p.third, c);
-    let fourth = word::crcc::crc_word(p.fourth, e);
+    let third = crcc::crcc::crc_word(p.third, c);
+    let fourth = crcc::crcc::crc_word(p.fourth, e);
     Passed {
         offset,
         first,

@@ -15,7 +15,7 @@ use Rattle.symbol.specs.Character.{numberOf}
 use Rattle.symbol.specs.Code.{symbolOf, TwoForms}
 use Rattle.symbol.proofs.Forms.{two-forms}
 use Rattle.packing.specs.Bytes.{bytesOf}
-use Rattle.word.specs.Crcc.{crccWords}
+use Rattle.crcc.specs.Crcc.{crccWords}
 use Rattle.word.specs.LineNumber.{ln0, ln1}
 use Rattle.word.specs.Timing.{timing}
 use Rattle.span.specs.declared.content.ContentBytes.{ContentBytes}

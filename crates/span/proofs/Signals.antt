@@ -5,8 +5,8 @@ use mathlib.Core.List.{List, [], _∷_, _++_}
 use Prim.Native.Nat.{ℕ}
 use Rattle.symbol.specs.declared.disparity.Disparity.{Disparity}
 use Rattle.symbol.specs.declared.disparity.Disparity.the-variants.{Negative}
-use Rattle.word.specs.Crcc.{crc}
-use Rattle.word.proofs.Crc.{crc-append}
+use Rattle.crcc.specs.Crcc.{crc}
+use Rattle.crcc.proofs.Crc.{crc-append}
 use Rattle.span.specs.declared.format.Format.{Format}
 use Rattle.span.specs.Encoding.{symbolsFrom}
 use Rattle.span.specs.Span.{spanChars, spanSymbols, spanAfter, signalFrom, signal}

@@ -7,8 +7,8 @@ use mathlib.Core.List.{List, [], _∷_, _++_}
 use lib.ListN.{getD, replicate}
 use Rattle.ground.specs.Written.{table}
 use Rattle.line.specs.Stream.{vOf, lineAfter}
-use Rattle.word.specs.declared.crcc.CrccWords.{CrccWords}
-use Rattle.word.specs.Crcc.{crc, crccWords}
+use Rattle.crcc.specs.declared.crcc.CrccWords.{CrccWords}
+use Rattle.crcc.specs.Crcc.{crc, crccWords}
 use Rattle.word.specs.LineNumber.{ln0, ln1}
 use Rattle.word.specs.Timing.{timingCode}
 use Rattle.span.specs.declared.content.Content.{Content}

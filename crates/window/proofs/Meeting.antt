@@ -18,7 +18,7 @@ use Rattle.line.proofs.Lines.{after-before}
 use Rattle.span.specs.declared.format.Format.{Format}
 use Rattle.span.specs.Format.{shapeOf, streams, pairsIn}
 use Rattle.span.specs.Span.{fillWord}
-use Rattle.word.specs.Crcc.{crccWords}
+use Rattle.crcc.specs.Crcc.{crccWords}
 use Rattle.word.specs.LineNumber.{ln0, ln1, names, lineOf}
 use Rattle.word.specs.Repair.{nearest}
 use Rattle.word.specs.Timing.{timing}

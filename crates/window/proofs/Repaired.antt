@@ -19,7 +19,7 @@ use Rattle.ground.proofs.Ranges.{from-low, to-high, not-within}
 use Rattle.ground.proofs.Writing.{upto-same}
 use Rattle.line.specs.Stream.{vOf, lineAfter}
 use Rattle.line.proofs.Lines.{after-is-line, before-after}
-use Rattle.word.specs.Crcc.{crccWords}
+use Rattle.crcc.specs.Crcc.{crccWords}
 use Rattle.word.specs.LineNumber.{ln0, ln1, lineOf}
 use Rattle.word.specs.Repair.{distance}
 use Rattle.word.specs.Timing.{timing}

@@ -12,7 +12,7 @@ use Rattle.ground.specs.Written.{upto, table}
 use Rattle.ground.proofs.Cases.{on-test}
 use Rattle.ground.proofs.Writing.{replicate-table, table-same}
 use Rattle.line.specs.Stream.{isActive, vOf, lineAfter}
-use Rattle.word.specs.Crcc.{crc, crccWords}
+use Rattle.crcc.specs.Crcc.{crc, crccWords}
 use Rattle.word.specs.LineNumber.{ln0, ln1}
 use Rattle.packing.specs.Sample.{allowed as allowedAt, sampleWord as wordAt, allowedWord}
 use Rattle.word.specs.Timing.{timing, timingCode}

@@ -24,7 +24,7 @@ use Rattle.span.specs.Stream.{Asked, register}
 use Rattle.span.proofs.Formats.{known-told}
 use Rattle.span.proofs.Lengths.{known-has-streams, length-words}
 use Rattle.span.proofs.Places.{sav-words, picture-word, eav-words, line-number-words, crcc-words, ancillary-blank, fill-word}
-use Rattle.word.specs.Crcc.{crccWords}
+use Rattle.crcc.specs.Crcc.{crccWords}
 use Rattle.packing.specs.Sample.{allowedWord}
 use Rattle.packing.proofs.Samples.{received-ten, received-twelve}
 use Rattle.window.specs.Encoded.{charsOf, AreContent, Meets, Sendable, sampleIn, askedFor, askedAgain}

@@ -15,7 +15,7 @@ use Rattle.line.specs.Stream.{isActive, vOf, lineBefore}
 use Rattle.span.specs.declared.format.Format.{Format}
 use Rattle.span.specs.Format.{shapeOf}
 use Rattle.span.specs.Span.{fillWord}
-use Rattle.word.specs.Crcc.{crc, crccWords}
+use Rattle.crcc.specs.Crcc.{crc, crccWords}
 use Rattle.word.specs.LineNumber.{lineOf}
 use Rattle.word.specs.Repair.{distance, legalWord, nearest}
 use Rattle.packing.specs.Sample.{allowedWord}

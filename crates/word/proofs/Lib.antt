@@ -1,5 +1,4 @@
 pub mod Agree
-pub mod Crc
 pub mod Guards
 pub mod LineNumbers
 pub mod OneToOne

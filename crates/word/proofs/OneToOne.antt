@@ -2,13 +2,10 @@
 -- Assumes nothing.
 use mathlib.Core.Path.{_≡_, refl}
 use mathlib.Core.Bool.{cond}
-use Prim.Native.Nat.{ℕ}
 use lib.Dec.{eqb}
 use Rattle.ground.specs.Answer.{Answer, refused, given, OneToOne}
 use Rattle.ground.proofs.Answers.{told-again}
 use Rattle.line.specs.declared.stream.StreamLine.{StreamLine}
-use Rattle.word.specs.declared.crcc.Crcc.{Crcc}
-use Rattle.word.specs.declared.crcc.Crcc.the-variants as Crcc
 use Rattle.word.specs.declared.line_number.LineWords.{LineWords}
 use Rattle.word.specs.declared.line_number.Numbered.{Numbered}
 use Rattle.word.specs.declared.line_number.Numbered.the-variants as Numbered
@@ -17,7 +14,6 @@ use Rattle.word.specs.declared.line_number.Named.the-variants as Named
 use Rattle.word.specs.declared.repair.Repaired.{Repaired}
 use Rattle.word.specs.declared.repair.Repair.{Repair}
 use Rattle.word.specs.declared.repair.Repair.the-variants as Repair
-use Rattle.word.specs.Crcc.{paperCrcc}
 use Rattle.word.specs.LineNumber.{paperNumbered, paperNamed}
 use Rattle.word.specs.Repair.{paperRepair}
 
@@ -55,14 +51,3 @@ named-one-to-one = told-again namedAgain again
     again (Named.Line l) = refl
     again Named.Above4095 = refl
     again Named.Nameless = refl
-
-abbrev crccAgain : Answer ℕ → Crcc
-crccAgain (refused n place) = Crcc.Above4095
-crccAgain (given c) = Crcc.Register c
-
-pub crcc-one-to-one : OneToOne paperCrcc
-crcc-one-to-one = told-again crccAgain again
-  where
-    again : (r : Crcc) → crccAgain (paperCrcc r) ≡ r
-    again (Crcc.Register c) = refl
-    again Crcc.Above4095 = refl

@@ -1,4 +1,3 @@
-pub mod Crcc
 pub mod LineNumber
 pub mod Repair
 pub mod Timing

@@ -1,6 +1,5 @@
-// The twelve-bit words of a stream: timing words, line numbers and the CRCC.
-pub mod crcc;
-mod guard;
+// The twelve-bit words of a stream: timing words and line numbers, and the guard bit of line number and CRCC words.
+pub mod guard;
 pub mod line_number;
 pub mod repair;
 pub mod timing;

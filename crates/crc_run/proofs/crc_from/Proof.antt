@@ -5,8 +5,8 @@ use Prim.Native.Nat.{ℕ, _+_, _-_, _≤_, _<_}
 use native.Mathlib.Omega.{arith}
 use lib.ListN.{length, drop}
 use borrow.Author.Needs.{needs}
-use Rattle.word.specs.Crcc.{crc}
-use Rattle.word.proofs.Crc.{crc-turn, crc-done}
+use Rattle.crcc.specs.Crcc.{crc}
+use Rattle.crcc.proofs.Crc.{crc-turn, crc-done}
 use Rattle.crc_run.proofs.crc_from.Statement.{statement}
 use Rattle.crc_run.proofs.crc_from.Tie as tie
 

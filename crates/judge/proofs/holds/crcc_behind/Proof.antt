@@ -4,7 +4,7 @@ use mathlib.Core.Path.{_≡_, ap, ap₂, _∙_}
 use Prim.Native.Nat.{ℕ, _+_, _*_, _%_}
 use native.Mathlib.Omega.{arith}
 use Rattle.span.specs.Format.{streams}
-use Rattle.word.specs.Crcc.{crcWord, crccWords}
+use Rattle.crcc.specs.Crcc.{crcWord, crccWords}
 use Rattle.window.specs.Tests.{repaired}
 use Rattle.window.specs.Words.{wordAt}
 use Rattle.judge.proofs.Reading.{six}

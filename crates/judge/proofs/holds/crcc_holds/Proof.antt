@@ -5,7 +5,7 @@ use Prim.Native.Nat.{ℕ, _/_, _%_, _≤_}
 use native.Mathlib.Omega.{arith}
 use lib.Dec.{eqb}
 use Rattle.span.specs.Format.{streams}
-use Rattle.word.specs.declared.crcc.CrccWords.{CrccWords}
+use Rattle.crcc.specs.declared.crcc.CrccWords.{CrccWords}
 use Rattle.window.proofs.Placing.{stream-below}
 use Rattle.judge.specs.Holds.{crccBehind}
 use Rattle.judge.proofs.Reading.{here}

@@ -2,7 +2,7 @@
 -- Assumes nothing.
 use mathlib.Core.Path.{ap, _∙_}
 use Prim.Native.Nat.{ℕ}
-use Rattle.word.specs.Crcc.{crc, crcWord, crccWords}
+use Rattle.crcc.specs.Crcc.{crc, crcWord, crccWords}
 use borrow.Author.Needs.{needs}
 use Rattle.send.proofs.parts.crcc_behind.Statement.{statement}
 use Rattle.send.proofs.parts.crcc_behind.Tie as tie

@@ -3,7 +3,7 @@
 use mathlib.Core.Path.{sym, ap}
 use Prim.Native.Nat.{ℕ, _+_}
 use native.Mathlib.Omega.{arith}
-use Rattle.word.specs.declared.crcc.CrccWords.{CrccWords}
+use Rattle.crcc.specs.declared.crcc.CrccWords.{CrccWords}
 use Rattle.send.specs.Put.{wordIn, sumIn, crccBehind, crccChars}
 use Rattle.send.proofs.Putting.{made, renamed, then, is-offset, same-size, length-group, same-four}
 use borrow.Author.Needs.{needs}

@@ -3,7 +3,7 @@
 use mathlib.Core.Path.{_≡_, refl, sym, ap, _∙_}
 use Prim.Native.Nat.{ℕ, _+_}
 use native.Mathlib.Omega.{arith}
-use Rattle.word.specs.Crcc.{crcWord}
+use Rattle.crcc.specs.Crcc.{crcWord}
 use Rattle.send.specs.Put.{pairChars, groupChars, scaled}
 use Rattle.send.proofs.Putting.{made, renamed, then, is-offset, same-size, group-of-two, group-of-four}
 use Rattle.send.proofs.Passing.{stepped-two, stepped-four, first-scaled}

@@ -15,9 +15,9 @@ use Rattle.ground.specs.Xor.{_⊕_}
 use Rattle.ground.proofs.Cases.{on-test}
 use Rattle.ground.proofs.Reading.{next-left}
 use Rattle.ground.proofs.Xors.{⊕-zero, ⊕-assoc, ⊕-comm, ⊕-middle, ⊕-below, ⊕-div, ⊕-mod, ⊕-times, ⊕-shifted}
-use Rattle.word.specs.Crcc.{taps, bitStep, bitSteps, crcWord, crc, crccFrom, crccWords}
+use Rattle.crcc.specs.Crcc.{taps, bitStep, bitSteps, crcWord, crc, crccFrom, crccWords}
 use Rattle.word.specs.Word.{guarded}
 use Rattle.word.proofs.Guards.{guard-kept}
 
 -- The CRCC words of the words 001, 100, 800 and FFF alone, as polynomial long division gives them (rust/crcc_vectors.rs).
 pub long-division : map (λ (w : ℕ). crccWords (crc 0 (w ∷ []))) (0x001 ∷ 0x100 ∷ 0x800 ∷ 0xFFF ∷ [])

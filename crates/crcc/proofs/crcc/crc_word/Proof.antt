@@ -1,10 +1,10 @@
--- `word::crcc::crc_word` meets its contract by the law of the branch-free step.
+-- `crcc::crcc::crc_word` meets its contract by the law of the branch-free step.
 -- Assumes nothing.
 use borrow.Author.Needs.{needs}
 use Rattle.ground.specs.Xor.{_⊕_}
-use Rattle.word.proofs.Crc.{word-step}
-use Rattle.word.proofs.crcc.crc_word.Statement.{statement}
-use Rattle.word.proofs.crcc.crc_word.Tie as tie
+use Rattle.crcc.proofs.Crc.{word-step}
+use Rattle.crcc.proofs.crcc.crc_word.Statement.{statement}
+use Rattle.crcc.proofs.crcc.crc_word.Tie as tie
 
 mul-result : tie.Need-mul-result
 mul-result c = search needs

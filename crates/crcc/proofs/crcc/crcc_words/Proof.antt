@@ -1,8 +1,8 @@
--- `word::crcc::crcc_words` meets its contract by that of the guard bit.
+-- `crcc::crcc::crcc_words` meets its contract by that of the guard bit.
 -- Assumes nothing.
 use borrow.Author.Needs.{needs}
-use Rattle.word.proofs.crcc.crcc_words.Statement.{statement}
-use Rattle.word.proofs.crcc.crcc_words.Tie as tie
+use Rattle.crcc.proofs.crcc.crcc_words.Statement.{statement}
+use Rattle.crcc.proofs.crcc.crcc_words.Tie as tie
 
 cast-guarded : tie.Need-cast-guarded
 cast-guarded c = search needs

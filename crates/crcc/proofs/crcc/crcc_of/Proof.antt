@@ -1,4 +1,4 @@
--- `word::crcc::crcc_of` meets its contract: what is left, from the register so far, is the whole from 0.
+-- `crcc::crcc::crcc_of` meets its contract: what is left, from the register so far, is the whole from 0.
 -- Assumes nothing.
 use mathlib.Core.Path.{_≡_, refl, sym, ap, _∙_}
 use Prim.Native.Nat.{ℕ, _+_, _-_, _≤_, _<_}
@@ -6,10 +6,10 @@ use native.Mathlib.Omega.{arith}
 use lib.ListN.{length, getD, drop, drop-of-length-le}
 use borrow.Author.Needs.{needs}
 use Rattle.ground.proofs.Reading.{next-left}
-use Rattle.word.specs.Crcc.{crccFrom}
-use Rattle.word.proofs.Crc.{none-left, bad-word, good-word}
-use Rattle.word.proofs.crcc.crcc_of.Statement.{statement}
-use Rattle.word.proofs.crcc.crcc_of.Tie as tie
+use Rattle.crcc.specs.Crcc.{crccFrom}
+use Rattle.crcc.proofs.Crc.{none-left, bad-word, good-word}
+use Rattle.crcc.proofs.crcc.crcc_of.Statement.{statement}
+use Rattle.crcc.proofs.crcc.crcc_of.Tie as tie
 
 abbrev Inv-loop : tie.InvT-loop
 Inv-loop words c₀ i₀ c i = (i ≤ length words) × (crccFrom c (drop i words) ≡ crccFrom 0 words)

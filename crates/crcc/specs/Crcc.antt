@@ -5,10 +5,10 @@ use mathlib.Core.Bool.{Bool, true, _&&_}
 use mathlib.Core.List.{List, [], _∷_}
 use Rattle.ground.specs.Answer.{Answer, refused, given, unless, checked}
 use Rattle.ground.specs.Xor.{_⊕_}
-use Rattle.word.specs.declared.crcc.Crcc.{Crcc}
-use Rattle.word.specs.declared.crcc.Crcc.the-variants.{Register, Above4095}
-use Rattle.word.specs.declared.crcc.CrccWords.{CrccWords}
+use Rattle.crcc.specs.declared.crcc.Crcc.{Crcc}
+use Rattle.crcc.specs.declared.crcc.Crcc.the-variants.{Register, Above4095}
+use Rattle.crcc.specs.declared.crcc.CrccWords.{CrccWords}
 use Rattle.word.specs.Word.{isWord, guarded}
 
 -- 6.4 b: X^18 + X^5 + X^4 + 1. CRCC0 is the coefficient of X^17, so X^k stands at bit 17 - k of the register.
 unfoldable pub taps : ℕ

@@ -1,6 +1,6 @@
 // The error detection code of a line (004, 6.4).
 ghost use mathlib.Core.Path.{_≡_};
-ghost use Rattle.word.specs.Crcc.{crcWord, crccWords, paperCrcc, crccOf};
+ghost use Rattle.crcc.specs.Crcc.{crcWord, crccWords, paperCrcc, crccOf};
 
 pub enum Crcc {
     // The register: bit i is CRCCi.
@@ -45,7 +45,7 @@ pub fn crcc_words(c: u32) -> CrccWords
     ensures { λ r. ⌜ r ≡ crccWords c ⌝ }
 {
     CrccWords {
-        crcc0: crate::guard::guarded((c % 512) as u16 * 4),
-        crcc1: crate::guard::guarded((c / 512 % 512) as u16 * 4),
+        crcc0: word::guard::guarded((c % 512) as u16 * 4),
+        crcc1: word::guard::guarded((c / 512 % 512) as u16 * 4),
     }
 }
