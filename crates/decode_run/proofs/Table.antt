@@ -8,8 +8,9 @@ use Prim.Native.Nat.{ℕ, zero, suc, _%_}
 use lib.Dec.{ltb}
 use Rattle.symbol.specs.declared.disparity.Disparity.{Disparity}
 use Rattle.symbol.specs.Code.{charOf, afterOf}
-use Rattle.decoder.specs.Decoder.{entryOf, maskOf, decodingTable}
-use Rattle.decoder.proofs.Masks.{legal-mask, after-mask}
+use Rattle.decoder.specs.Decoder.{entryOf, decodingTable}
+use Rattle.mask.specs.Mask.{maskOf}
+use Rattle.mask.proofs.Masks.{legal-mask, after-mask}
 use Rattle.decoder.proofs.Reading.{entry-in, legal-is, number-is}
 use Rattle.decode_run.specs.Run.{bytesBy, bytesOf}
 

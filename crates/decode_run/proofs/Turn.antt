@@ -10,7 +10,8 @@ use borrow.Author.Tests.{lt-ltb, le-ltb}
 use lib.ListN.{length, getD, take, drop, set, length-set, take-append-drop, drop-of-length-le}
 use lib.Seq.{length-take-le, drop-drop, drop-set-lt, take-suc-set}
 use Rattle.ground.proofs.Reading.{next-left}
-use Rattle.decoder.specs.Decoder.{entryIn, legalBy, afterBy}
+use Rattle.decoder.specs.Decoder.{entryIn}
+use Rattle.mask.specs.Mask.{legalBy, afterBy}
 use Rattle.decode_run.specs.Run.{over, bytesBy}
 
 -- After i bytes: they and what is left are the whole, and the rest of the buffer is as it was.

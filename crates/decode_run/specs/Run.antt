@@ -9,7 +9,8 @@ use lib.ListN.{length, drop}
 use Rattle.symbol.specs.declared.disparity.Disparity.{Disparity}
 use Rattle.symbol.specs.declared.disparity.Disparity.the-variants.{Negative, Positive}
 use Rattle.symbol.specs.Code.{charOf, afterOf}
-use Rattle.decoder.specs.Decoder.{entryIn, legalBy, afterBy}
+use Rattle.decoder.specs.Decoder.{entryIn}
+use Rattle.mask.specs.Mask.{legalBy, afterBy}
 
 abbrev pub start : Bool → Disparity
 start positive = cond positive Positive Negative

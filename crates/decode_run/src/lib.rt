@@ -19,9 +19,9 @@ pub fn decode_by(t: &[u16; 1024], m: u16, symbols: &[u16], bytes: &mut [u8]) -> 
         if 255 < c {
             return i;
         }
-        if decoder::table::legal_by(before, e) {
+        if mask::mask::legal_by(before, e) {
             bytes[i] = c as u8;
-            before = decoder::table::after_by(before, e);
+            before = mask::mask::after_by(before, e);
             i += 1;
         } else {
             return i;
@@ -47,6 +47,6 @@ pub extern "C" fn brazulint_decode_run(positive: bool, symbols: &[u16], bytes: &
     ensures written { λ _. ⌜ now (bytes .exit) ≡ over (bytesOf (start positive) (now (symbols .entry)) (length (now (bytes .entry)))) (now (bytes .entry)) ⌝ }
 {
     let t = decoder::table::decoding_table();
-    let m = decoder::table::mask_of(disparity(positive));
+    let m = mask::mask::mask_of(disparity(positive));
     decode_by(&t, m, symbols, bytes)
 }

@@ -1,4 +1,3 @@
 pub mod Entries
-pub mod Masks
 pub mod Paper
 pub mod Reading

@@ -1,10 +1,9 @@
 -- What the decoding table holds, and what its entries say (document 01, "Receiving and finding").
 -- Assumes nothing.
 use Prim.Native.Nat.{ℕ, _+_, _*_, _/_, _%_}
-use mathlib.Core.Bool.{Bool, not, cond}
+use mathlib.Core.Bool.{Bool, cond}
 use mathlib.Core.List.{List, [], _∷_}
 use mathlib.Core.Option.{Option, none, some}
-use lib.Bits.{bitAnd, bitXor}
 use lib.Dec.{eqb, ltb}
 use lib.ListN.{getD}
 use Rattle.ground.specs.Answer.{Answer, given, unless, checked}
@@ -54,18 +53,3 @@ meaningBy e =
       negative = legalBit Negative e;
       positive = legalBit Positive e;
     })
-
--- ---- the same for a loop, which keeps the disparity as the bit of an entry that says whether it is legal there
-
-abbrev pub maskOf : Disparity → ℕ
-maskOf Negative = 512
-maskOf Positive = 1024
-
-abbrev pub ofMask : ℕ → Disparity
-ofMask m = cond (eqb m 512) Negative Positive
-
-unfoldable pub legalBy : ℕ → ℕ → Bool
-legalBy m e = not (eqb (bitAnd e m) 0)
-
-unfoldable pub afterBy : ℕ → ℕ → ℕ
-afterBy m e = bitXor m (bitAnd (e / 4) 1536)

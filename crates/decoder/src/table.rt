@@ -2,7 +2,7 @@
 use symbol::disparity::Disparity;
 ghost use mathlib.Core.Path.{_≡_};
 ghost use Prim.Native.Nat.{_%_};
-ghost use Rattle.decoder.specs.Decoder.{decodingTable, entryOf, entryIn, legalBit, entryAfter, maskOf, ofMask, legalBy, afterBy};
+ghost use Rattle.decoder.specs.Decoder.{decodingTable, entryOf, entryIn, legalBit, entryAfter};
 
 // An entry for each symbol: the character's number in bits 0 to 8 (a byte is its own number, the special characters are 256 to 267),
 // bit 9 where it is legal at negative disparity, bit 10 at positive, bits 11 and 12 where it turns the disparity; 0 for no symbol.
@@ -1080,40 +1080,4 @@ pub(crate) fn after_entry(d: Disparity, e: u16) -> Disparity
     ensures { λ r. ⌜ r ≡ entryAfter d e ⌝ }
 {
     symbol::disparity::turned_if(e / 2048 % 2 == 1, d)
-}
-
-// ---- The same for a loop, which keeps the disparity as the bit of an entry that says whether it is legal there.
-
-// The bit for a disparity.
-pub fn mask_of(d: Disparity) -> u16
-    ensures { λ r. ⌜ r ≡ maskOf d ⌝ }
-{
-    match d {
-        Disparity::Negative => 512,
-        Disparity::Positive => 1024,
-    }
-}
-
-// The disparity of a bit.
-pub fn disparity_of(m: u16) -> Disparity
-    ensures { λ r. ⌜ r ≡ ofMask m ⌝ }
-{
-    if m == 512 {
-        return Disparity::Negative;
-    }
-    Disparity::Positive
-}
-
-// Whether an entry has the bit.
-pub fn legal_by(m: u16, e: u16) -> bool
-    ensures { λ r. ⌜ r ≡ legalBy m e ⌝ }
-{
-    e & m != 0
-}
-
-// The bit after an entry's symbol: bits 11 and 12, moved to 9 and 10, turn it.
-pub fn after_by(m: u16, e: u16) -> u16
-    ensures { λ r. ⌜ r ≡ afterBy m e ⌝ }
-{
-    m ^ e / 4 & 1536
 }

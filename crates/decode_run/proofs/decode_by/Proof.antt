@@ -6,7 +6,8 @@ use native.Mathlib.Omega.{arith}
 use lib.ListN.{length, getD}
 use Prim.Native.Nat.{_%_}
 use mathlib.Core.Bool.{true, false}
-use Rattle.decoder.specs.Decoder.{entryIn, legalBy}
+use Rattle.decoder.specs.Decoder.{entryIn}
+use Rattle.mask.specs.Mask.{legalBy}
 use lib.Dec.{ltb}
 use borrow.Author.Tests.{ltb-true, ltb-false}
 use borrow.Author.Needs.{needs}

@@ -1,8 +1,8 @@
--- `decoder::table::disparity_of` meets its contract: the test says which case of the definition holds.
+-- `mask::mask::disparity_of` meets its contract: the test says which case of the definition holds.
 -- Assumes nothing.
 use borrow.Author.Tests.{ne-eqb}
-use Rattle.decoder.proofs.table.disparity_of.Statement.{statement}
-use Rattle.decoder.proofs.table.disparity_of.Tie as tie
+use Rattle.mask.proofs.mask.disparity_of.Statement.{statement}
+use Rattle.mask.proofs.mask.disparity_of.Tie as tie
 
 returns : tie.Need-returns
 returns c = rw (c .if1 .taken)

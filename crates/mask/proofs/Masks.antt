@@ -12,10 +12,11 @@ use Rattle.symbol.specs.declared.disparity.Disparity.{Disparity}
 use Rattle.symbol.specs.declared.disparity.Disparity.the-variants.{Negative, Positive}
 use Rattle.symbol.specs.Code.{charOf, afterOf, turns, bit}
 use Rattle.symbol.specs.Disparity.{turnedIf}
-use Rattle.decoder.specs.Decoder.{entryOf, legalBit, maskOf, ofMask, legalBy, afterBy}
 use Rattle.symbol.proofs.Inverse.{decoded-below}
 use Rattle.symbol.proofs.Ones.{turns-both}
+use Rattle.decoder.specs.Decoder.{entryOf, legalBit}
 use Rattle.decoder.proofs.Reading.{turn-is}
+use Rattle.mask.specs.Mask.{maskOf, ofMask, legalBy, afterBy}
 
 pub mask-again : (d : Disparity) → ofMask (maskOf d) ≡ d
 mask-again Negative = refl
