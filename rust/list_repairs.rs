@@ -1,8 +1,9 @@
 //! What the program that lists repairs must print, worked out from document 01 and tables 6 and 7 of 004, and compared with what the
 //! program given as the argument prints, for input whole and in small pieces.
 
-use std::io::{Read, Write};
-use std::process::{Command, Stdio};
+mod printed;
+
+use printed::printed;
 
 /// 1, F = 0, V, H, P3 to P0, and four zeros; table 7 has the P bits as exclusive ors of V and H.
 fn legal_words() -> Vec<u16> {
@@ -27,19 +28,6 @@ fn listing(input: &[u8]) -> String {
             None => format!("{index} {word:04x} refused\n"),
         };
     }
-    text
-}
-
-/// What the program prints when the input arrives in pieces. It may stop reading where it has enough.
-fn printed(program: &str, input: &[u8], piece: usize) -> String {
-    let mut child = Command::new(program).stdin(Stdio::piped()).stdout(Stdio::piped()).spawn().expect("the program starts");
-    let mut stdin = child.stdin.take().unwrap();
-    let pieces = input.to_vec();
-    let feeder = std::thread::spawn(move || pieces.chunks(piece).try_for_each(|c| stdin.write_all(c)).is_ok());
-    let mut text = String::new();
-    child.stdout.take().unwrap().read_to_string(&mut text).expect("the program prints text");
-    feeder.join().unwrap();
-    assert!(child.wait().unwrap().success());
     text
 }
 

@@ -19,9 +19,13 @@ space = 32
 abbrev newline : ℕ
 newline = 10
 
--- a span's place and line number, decimal, one space between
+-- place and line number, decimal, one space between
+abbrev pub lineText : ℕ → ℕ → List ℕ
+lineText place number = decimal place ++ (space ∷ (decimal number ++ (newline ∷ [])))
+
+-- the line of a span
 abbrev pub lineOf : Spanned → List ℕ
-lineOf s = decimal (s .place) ++ (space ∷ (decimal (s .delivery .line .0) ++ (newline ∷ [])))
+lineOf s = lineText (s .place) (s .delivery .line .0)
 
 -- one line for each span delivered
 abbrev pub linesOf : List (Found Reading) → List ℕ

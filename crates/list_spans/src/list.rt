@@ -1,6 +1,5 @@
 // The text that is printed for an input, put into a lent buffer.
 use recording::next::NextSpan;
-use recording::seek::Spanned;
 use span::format::Format;
 ghost use mathlib.Core.Path.{_≡_};
 ghost use mathlib.Core.Bool.{true};
@@ -10,17 +9,18 @@ ghost use lib.Seq.{sets};
 ghost use Rattle.io.specs.Counts.{Counts};
 ghost use Rattle.span.specs.Format.{isKnown, shapeOf, samplesIn};
 ghost use Rattle.recording.specs.Recording.{deliveryFrom};
-ghost use Rattle.list_spans.specs.Listing.{lineOf, linesOf, listing};
+ghost use Rattle.list_spans.specs.Listing.{lineText, linesOf, listing};
 
-// The line of one span: its place and its line number.
-fn put_line(s: Spanned, out: &mut [u8], at: usize) -> usize
-    requires { ⌜ at + 43 ≤ length (now out) ⌝ }
-    ensures end { λ r. ⌜ r ≡ at + length (lineOf s) ⌝ }
-    ensures written { λ _. ⌜ now (out .exit) ≡ sets (now (out .entry)) at (lineOf s) ⌝ }
+// The line of one span: its place and its line number, of at most 20 digits and 5.
+fn put_line(place: usize, number: u16, out: &mut [u8], at: usize) -> usize
+    requires { ⌜ at + 27 ≤ length (now out) ⌝ }
+    ensures end { λ r. ⌜ r ≡ at + length (lineText place number) ⌝ }
+    ensures most { λ r. ⌜ r ≤ at + 27 ⌝ }
+    ensures written { λ _. ⌜ now (out .exit) ≡ sets (now (out .entry)) at (lineText place number) ⌝ }
 {
-    let a = text::number::put_decimal(s.place as u64, out, at);
+    let a = text::number::put_decimal(place as u64, out, at);
     let b = text::put::put_text(b" ", out, a);
-    let c = text::number::put_decimal(line::stream::number_of(s.delivery.line) as u64, out, b);
+    let c = text::number::put_decimal(number as u64, out, b);
     text::put::put_text(b"\n", out, c)
 }
 
@@ -31,15 +31,18 @@ fn put_spans(f: Format, symbols: &[u16], rows: &mut [u16], out: &mut [u8]) -> us
     requires { ⌜ length (now rows) ≡ samplesIn (shapeOf f) ⌝ }
     requires { ⌜ 65536 ≤ length (now out) ⌝ }
     ensures end { λ r. ⌜ r ≡ length (linesOf (deliveryFrom f (now (symbols .entry)) 0)) ⌝ }
+    ensures most { λ r. ⌜ r ≤ 32767 ⌝ }
     ensures written { λ _. ⌜ now (out .exit) ≡ sets (now (out .entry)) 0 (linesOf (deliveryFrom f (now (symbols .entry)) 0)) ⌝ }
 {
     let mut place = 0;
     let mut at = 0;
     while place < symbols.len() {
-        let next = recording::next::next_span(f, symbols, place, rows);
-        match next.answer {
+        let next = stepping::reader::step_at(f, symbols, place, rows);
+        let answer = next.answer;
+        match answer {
             NextSpan::Delivered(s) => {
-                at = put_line(s, out, at);
+                let number = line::stream::number_of(s.delivery.line);
+                at = put_line(s.place, number, out, at);
                 place = next.after;
             }
             _ => {
@@ -50,7 +53,7 @@ fn put_spans(f: Format, symbols: &[u16], rows: &mut [u16], out: &mut [u8]) -> us
     at
 }
 
-// All that is printed: the lines, or that the format or depth is unknown.
+// All that is printed: the lines, or that it is refused, where the input names no known format and depth.
 pub(crate) fn put_listing(input: &[u8], out: &mut [u8]) -> usize
     requires { ⌜ 65536 ≤ length (now out) ⌝ }
     ensures counts { λ r. ⌜ Counts r (now (out .exit)) ⌝ }

@@ -1,0 +1,4 @@
+pub mod Left
+pub mod Lines
+pub mod Listings
+pub mod Stepping
