@@ -13,18 +13,18 @@ use Rattle.ground.specs.Answer.{given, Answer}
 use Rattle.ground.specs.Bit.{inverted}
 use Rattle.span.specs.declared.format.Format.{Format}
 use Rattle.span.specs.Format.{isKnown, shapeOf, samplesIn, symbolsIn}
-use Rattle.read.proofs.Windows.{length-picture, read-is}
-use Rattle.delivery.specs.Delivery.{Found, followed, windowAt, readFrom, nextFrom as nextBy, deliver, deliveryFrom as deliverBy, movedBy, strung, placedFrom, Each}
-use Rattle.delivery.specs.Marked.{Whole, AllBehind}
+use Rattle.read.proofs.Windows.{read-is}
+use Rattle.delivery.specs.Delivery.{Found, deliver, deliveryFrom as deliverBy, movedBy, strung, placedFrom, Each}
+use Rattle.delivery.specs.Marked.{AllBehind}
 use Rattle.delivery.proofs.Cutting.{cut}
-use Rattle.delivery.proofs.Finding.{told, at-the-end, stands-whole, found-told, next-then}
+use Rattle.delivery.proofs.Finding.{told}
 use Rattle.delivery.proofs.Spans.{ReadAs, nothing-of, exactly, in-place}
 use Rattle.delivery.proofs.Splitting.{split}
 use Rattle.delivery.proofs.Steps.{moved, too-few, few}
 use Rattle.recording.specs.Call.{spanned, nextOf, findOf, nextRows, rowsNext}
 use Rattle.recording.specs.Look.{isComma}
-use Rattle.recording.specs.Recording.{limit, Reading, reading, findFrom, nextFrom, deliveryFrom}
-use Rattle.recording.proofs.Calling.{next-given, finds-place, finds-none}
+use Rattle.recording.specs.Recording.{limit, Reading, reading, nextFrom, deliveryFrom}
+use Rattle.recording.proofs.Calling.{finds-place, finds-none}
 use Rattle.recording.proofs.Readings.{reading-told, span-whole, span-marked}
 use Rattle.recording.specs.declared.seek.Spanned.{Spanned}
 use Rattle.window.specs.declared.delivery.Delivery.{Delivery}

@@ -1,5 +1,5 @@
--- `stepping::reader::place` meets its contract: a walk of its MIR, by hand. A number is read from a field of the struct, and the struct is seen at exit as it was passed.
--- That the number fits its type is in the struct's relation, at the field's place.
+-- `stepping::reader::place` meets its contract: a walk of what it is compiled to. The place is read from the reader, which stays as it was; that
+-- it fits its type is what whoever holds a reader knows.
 -- Assumes nothing.
 use mathlib.Core.Path.{refl}
 use Prim.Native.Nat.{_<_, _^_}
@@ -57,7 +57,8 @@ module _ {M : Type 1} (𝓤 : URA M) (H : Heap 𝓤) (A : Atoms 𝓤) (W : Given
   exits : d .place < 2 ^ 64 → ent 𝓤 (onEntry 𝓤 H A place.signature (κ, tt) (q, tt) (d, tt) (mach ∷ [], tt)) (Post (vint w64 (d .place)))
   exits g =
       qed W ((‵ (flft κ q) ⊛ ‵ ftrue) ∷ ‵ (owns (B (κ, tt) ∷ []) (d, tt) (mach ∷ [], tt)) ∷ []) ∵
-      suffices ! _ (ends-at 𝓤 H A place.ended stayed (place.clauses 𝓤 H A mem run) W (((κ, tt), (q, tt), tt, (d, tt), (mach ∷ [], tt)), tt) (vint w64 (d .place)) (d .place) (tt, tt) (tt, tt)) $ says ! refl $
+      suffices ! _ (ends-at 𝓤 H A place.ended stayed (place.clauses 𝓤 H A mem run) W (((κ, tt), (q, tt), tt, (d, tt), (mach ∷ [], tt)), tt) (vint w64 (d .place)) (d .place) (tt, tt) (tt, tt)) $
+      says ! refl $
       frame ! $ frame ! $ owned ! usize (Is usize) (uint-makes 𝓤 H A W w64) (d .place) _ (refl, g) $ done !
 
   module _ (C : Calls 𝓤 H) (Λ : Loops 𝓤 H) where
@@ -65,9 +66,11 @@ module _ {M : Type 1} (𝓤 : URA M) (H : Heap 𝓤) (A : Atoms 𝓤) (W : Given
     walk p =
         qed W ((‵ (flft κ q) ⊛ ‵ ftrue) ∷ ‵ (owns (B (κ, tt) ∷ []) (d, tt) (mach ∷ [], tt)) ∷ []) ∵ enter ! C Λ code.function (mach ∷ []) _ $
         alloc1 ! (λ l₀. alloc1 ! (λ l₁. alloc0 ! $ params1 ! $
-        pass1 ! (init ! 0 refl (LL.lawful (T.the-type (namedLft 1 0 tt (κ, tt))) (T′.the-laws (namedLft 1 0 tt (κ, tt))) 𝓤 H A W .typed d (mach ∷ []) p .0)) $ pass0 ! $
+        pass1 ! (init ! 0 refl (LL.lawful (T.the-type (namedLft 1 0 tt (κ, tt))) (T′.the-laws (namedLft 1 0 tt (κ, tt))) 𝓤 H A W .typed d (mach ∷ []) p .0)) $
+        pass0 ! $
         assigns ! (of-opd ! (load ! (from ! (fld ! refl (stop !))) (look-in ! 0 (sub ! 1 refl (whole !))))) (from ! (stop !)) (init ! 2 refl (tt, record { fits = p .1 .1 .1 .0 .1 })) $
-        returns ! (look ! 2 refl) $ forget ! 0 refl $ forget ! 2 refl $ move ! (2 ∷ 3 ∷ []) $ free1 ! $ free1 ! $ free0 ! $ by ! (exits (p .1 .1 .1 .0 .1))))
+        returns ! (look ! 2 refl) $ forget ! 0 refl $ forget ! 2 refl $ move ! (2 ∷ 3 ∷ []) $ free1 ! $ free1 ! $ free0 ! $
+        by ! (exits (p .1 .1 .1 .0 .1))))
 
 module _ {M : Type 1} (𝓤 : URA M) (H : Heap 𝓤) (A : Atoms 𝓤) (W : Given 𝓤 H A) (mem : Memory → SProp 𝓤) (run : Routine → Fun 𝓤) where
   place-walks : (C : Calls 𝓤 H) (Λ : Loops 𝓤 H) → Walks 𝓤 H A place.ended stayed (WpFn 𝓤 H C Λ code.function) (place.clauses 𝓤 H A mem run)
