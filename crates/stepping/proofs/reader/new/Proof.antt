@@ -73,7 +73,7 @@ module _ {M : Type 1} (𝓤 : URA M) (H : Heap 𝓤) (A : Atoms 𝓤) (W : Given
       says ! refl $
       frame ! $ fsplit ! $ use1 W (‵ Own ⊛ ‵ Own) (shr-slice-copy 𝓤 H A W (named 0) κ u16 .twice s (v ∷ [])) $ split ! $ move ! (0 ∷ 2 ∷ []) $
       fjoin ! $ frame ! $
-      -- [what src owns]: what the fields own together, of it and of at's facts, is what the struct owns
+      -- [what the recording owns]: with the facts of the place it is what the reader owns
       nothing ! $ owned ! usize (Is usize) (uint-makes 𝓤 H A W w64) 0 _ (refl, lit< tt) $ fjoin ! $ move ! (1 ∷ 0 ∷ []) $ fjoin ! $
       by ! (own-shut 𝓤 H A W (T.the-type α) (T′.the-laws α) (s, (0, tt)))
 
