@@ -6,15 +6,10 @@ use lib.ListN.{length}
 use Rattle.ground.specs.Answer.{Answer, refused, given}
 use Rattle.ground.specs.Written.{upto}
 use Rattle.text.specs.Number.{decimal, hexadecimal}
+use Rattle.text.specs.Put.{space, newline}
 use Rattle.text.specs.Words.{wordAt, countOf}
 use Rattle.word.specs.declared.repair.Repaired.{Repaired}
 use Rattle.word.specs.Repair.{repairOf}
-
-abbrev space : ℕ
-space = 32
-
-abbrev newline : ℕ
-newline = 10
 
 -- "refused"
 abbrev pub refusedText : List ℕ

@@ -11,13 +11,8 @@ use Rattle.delivery.specs.Delivery.{Found}
 use Rattle.recording.specs.declared.seek.Spanned.{Spanned}
 use Rattle.recording.specs.Recording.{Reading, deliveryFrom}
 use Rattle.text.specs.Number.{decimal}
+use Rattle.text.specs.Put.{space, newline}
 use Rattle.text.specs.Words.{countOf, wordsOf}
-
-abbrev space : ℕ
-space = 32
-
-abbrev newline : ℕ
-newline = 10
 
 -- place and line number, decimal, one space between
 abbrev pub lineText : ℕ → ℕ → List ℕ

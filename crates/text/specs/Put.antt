@@ -7,6 +7,12 @@ use lib.Dec.{leb}
 use lib.ListN.{length}
 use lib.Seq.{sets}
 
+abbrev pub space : ℕ
+space = 32
+
+abbrev pub newline : ℕ
+newline = 10
+
 -- whether so much room has place for it from a place on
 abbrev pub fits : ℕ → ℕ → List ℕ → Bool
 fits room at text = leb (at + length text) room
