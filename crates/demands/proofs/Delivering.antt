@@ -32,7 +32,7 @@ use Rattle.window.specs.Read.{pictureOf, readOf, rowsLeft, rowsRead}
 use Rattle.window.proofs.Accepting.{row-passed}
 use Rattle.read.specs.Window.{IsWindow}
 use borrow.Author.Tests.{leb-true, eqb-true}
-use Rattle.demands.proofs.Refusing.{given-is}
+use Rattle.ground.proofs.Answers.{given-is}
 use Rattle.demands.specs.Form.{Sending, WasSent, symbolsOf, readingOf, spansOf, stepsFrom}
 use Rattle.stepping.specs.Steps.{spanStep, endStep, lastRows}
 use Rattle.stepping.proofs.Delivering.{steps-deliver}

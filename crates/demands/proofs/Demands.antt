@@ -11,7 +11,7 @@ use borrow.Author.Tests.{eqb-true}
 use Rattle.ground.specs.Answer.{refused, given}
 use Rattle.ground.specs.Bit.{inverted}
 use Rattle.ground.specs.Written.{upto}
-use Rattle.ground.proofs.Answers.{when-given}
+use Rattle.ground.proofs.Answers.{given-is, when-given}
 use Rattle.symbol.specs.declared.disparity.Disparity.{Disparity}
 use Rattle.decoder.proofs.Paper.{decodes}
 use Rattle.word.specs.Repair.{legalWord, repairOf}
@@ -46,7 +46,8 @@ use Rattle.demands.specs.Form.{Sending, WasSent, readingOf, Delivered}
 use Rattle.demands.specs.Demands.{Demand1, Delivers, Demand2, Demand3, Beyond}
 use Rattle.demands.proofs.Delivering.{steps-are, delivered, anywhere, alone, damaged, nothing, fewer, one-inverted, beginning, found-none, found-and-read}
 use Rattle.demands.proofs.PictureBack.{images-two, images-four, two-good, two-back, four-good, four-back}
-use Rattle.demands.proofs.Refusing.{known-says, symbols-say, samples-say, given-is, meaning-tried, decode-tried, repair-tried, line-words-tried, read-line-words-tried, crcc-tried, pack-tried, place-tried, lent, split-tried, join-tried, lengths-tried, fill-tried, send-tried, judge-tried, read-tried, rows-left, find-tried, next-tried, next-refused, next-none, next-some}
+use Rattle.stepping.proofs.Delivering.{refused-stays, end-stays, steps-deliver}
+use Rattle.demands.proofs.Refusing.{known-says, symbols-say, samples-say, meaning-tried, decode-tried, repair-tried, line-words-tried, read-line-words-tried, crcc-tried, pack-tried, place-tried, lent, split-tried, join-tried, lengths-tried, fill-tried, send-tried, judge-tried, read-tried, rows-left, find-tried, next-tried, next-some}
 use Rattle.demands.proofs.Sendings.{row-holds, sendable}
 
 -- ==== 1 ====
@@ -77,8 +78,8 @@ demand-1 = record {
   read = λ f w entry. (read-tried f w (length entry), rows-left (readOf f w (length entry)) entry (pictureOf f w));
   find = find-tried;
   next = λ f r start entry. next-tried f r start (length entry);
-  nextRefused = next-refused;
-  nextNone = next-none;
+  nextRefused = refused-stays;
+  nextNone = end-stays;
   nextSome = next-some;
 }
 
@@ -228,4 +229,6 @@ beyond = record {
   fewer = λ f xs ys d known before behind h short.
       by-calls f known _ short _ (fewer f (known-says f .holds known) xs ys d before behind h);
   cut = λ f r m known. beginning f (known-says f .holds known) r m;
+  forEver = λ f r rows k p known short room inside.
+      steps-deliver f (known-says f .holds known) r short p rows (eqb-true _ _ (samples-say f known (length rows) .holds room)) inside k;
 }

@@ -14,7 +14,7 @@ use borrow.Author.Tests.{eqb-true, eq-eqb, ne-eqb, ltb-true, lt-ltb, le-ltb, leb
 use Rattle.ground.specs.Answer.{Answer, refused, given, Row, unless, checked, unlessRefused}
 use Rattle.ground.specs.Range.{within}
 use Rattle.ground.specs.Search.{firstBelow, isSome}
-use Rattle.ground.proofs.Answers.{when-refused, when-given}
+use Rattle.ground.proofs.Answers.{given-is, when-refused, when-given}
 use Rattle.ground.proofs.Cases.{on-test}
 use Rattle.ground.proofs.Ranges.{is-within, not-within, from-low, to-high, outside}
 use Rattle.ground.proofs.Searches.{hit, miss}
@@ -46,7 +46,7 @@ use Rattle.window.specs.Tests.{holds21, holds22, holds23, holds24, holds25, hol
 use Rattle.window.specs.Words.{wordAt}
 use Rattle.window.proofs.Accepting.{all-hold, none-fails}
 use Rattle.window.proofs.Calls.{is-of, of-is}
-use Rattle.delivery.specs.Delivery.{Found, nextFrom as nextBy, findFrom as findBy, readFrom, foundAt}
+use Rattle.delivery.specs.Delivery.{nextFrom as nextBy, findFrom as findBy, readFrom, foundAt}
 use Rattle.recording.specs.declared.seek.Spanned.{Spanned}
 use Rattle.recording.specs.Call.{spanned, wordsOr, endOr, findOf, nextOf, afterNext, nextRows, rowsNext}
 use Rattle.recording.specs.Recording.{limit, Reading, reading, nextFrom}
@@ -417,15 +417,6 @@ find-tried f r start =
 
 -- ---- the next span
 
--- what is given is what was asked for
-pub given-is : {A : Type 0} (rs : List Row) (a b : A) → checked rs a ≡ given b → a ≡ b
-given-is [] a b e = cc
-given-is (x ∷ rs) a b e = go (x .fails) refl (given-is rs a b)
-  where
-    go : (o : Option ℕ) → x .fails ≡ o → (checked rs a ≡ given b → a ≡ b) → a ≡ b
-    go none q more = more (rw q at e)
-    go (some k) q more = cc (rw q at e)
-
 module _ (f : Format) (r : List ℕ) (start : ℕ) where
   abbrev n : ℕ
   n = symbolsIn (shapeOf f)
@@ -450,11 +441,7 @@ module _ (f : Format) (r : List ℕ) (start : ℕ) where
     next-is : (o : Option Spanned) → answer ≡ given o → spanned (nextFrom f r start) ≡ o
     next-is o e = given-is (nextRows f r start (length entry)) (spanned (nextFrom f r start)) o e
 
-    -- so the rows are as they were, or have the picture at its place
-    no-words : (o : Option (Found Reading)) → spanned o ≡ none → wordsOr entry o ≡ entry
-    no-words none e = refl
-    no-words (some x) e = cc
-
+    -- so the rows have the picture at its place
     words-at : (s : Spanned) (q : ℕ) (o : Option Reading) → reading f (take n (drop q r)) ≡ o → spanned (foundAt q o) ≡ some s
         → wordsOr entry (foundAt q o) ≡ pictureOf f (take n (drop (s .place) r))
     words-at s q none is e = cc
@@ -472,16 +459,7 @@ module _ (f : Format) (r : List ℕ) (start : ℕ) where
     unfolding nextBy
     next-words s e = words-from s (findBy n (reading f) r start) e
 
-    -- the rows and the place after, for each answer
-    pub next-refused :
-        (number place : ℕ)
-        → answer ≡ refused number place
-        → (rowsNext f r start entry ≡ entry) × (afterNext f r start (length entry) ≡ start)
-    next-refused number place e = (sym (when-refused entry _ e), ap (endOr n start) e)
-
-    pub next-none : answer ≡ given none → (rowsNext f r start entry ≡ entry) × (afterNext f r start (length entry) ≡ start)
-    next-none e = (sym (when-given entry _ e) ∙ no-words (nextFrom f r start) (next-is none e), ap (endOr n start) e)
-
+    -- the rows and the place after
     pub next-some :
         (s : Spanned)
         → answer ≡ given (some s)

@@ -4,10 +4,10 @@
 use Prim.Native.Nat.{ℕ, _+_, _-_, _*_, _/_, _%_, _≤_, _<_}
 use mathlib.Core.Path.{_≡_}
 use mathlib.Core.Bool.{Bool, true, false}
-use mathlib.Core.List.{List, [], _∷_, _++_}
+use mathlib.Core.List.{List, [], _∷_, _++_, map}
 use mathlib.Core.Logic.{_⊎_}
 use mathlib.Core.Option.{none, some}
-use lib.ListN.{length, getD, set, take, drop}
+use lib.ListN.{length, getD, set, take, drop, replicate}
 use Rattle.ground.specs.Answer.{refused, given}
 use Rattle.ground.specs.Bit.{inverted}
 use Rattle.symbol.specs.declared.disparity.Disparity.{Disparity}
@@ -45,6 +45,7 @@ use Rattle.delivery.specs.Marked.{AllBehind}
 use Rattle.recording.specs.declared.seek.Spanned.{Spanned}
 use Rattle.recording.specs.Call.{findOf, nextOf, afterNext, rowsNext}
 use Rattle.recording.specs.Recording.{limit, Reading, reading, accepts, deliveryFrom}
+use Rattle.stepping.specs.Steps.{runFrom, spanStep, endStep, lastRows}
 use Rattle.blanking.specs.Blanking.{fillOf, blankRow, filledRow}
 use Rattle.send.specs.Send.{asked, sendOf, sentBuffer}
 use Rattle.demands.specs.Form.{MaySend, Refusal, row, lowest, Tried, Lent, Rows, Sending, WasSent, symbolsOf, readingOf, stepsFrom, Delivered, wordsFor, streamIn}
@@ -74,7 +75,7 @@ tests f w =
 -- of the table that applies, and touches no lent buffer; a refused span returns its number and place and leaves its rows all zero. What is
 -- good is said in document 01's own numbers; the finder's limit, 2,097,152 there, by its name. A call that is not named here has no refusal to
 -- answer: the disparity before a fresh signal, encoding a character, the tables, a timing word, the CRCC words of a register, three bytes as
--- words, and the choice between two rows.
+-- words, the choice between two rows, and making a reader of a recording and asking its place.
 pub record Demand1 : Type 0 where
   -- the meaning of a symbol: 7
   pub meaning : (s : ℕ) → Tried (meaningOf s) (row 7 (s ≤ 1023) ∷ [])
@@ -144,7 +145,8 @@ pub record Demand1 : Type 0 where
   pub find :
       (f : Format) (r : List ℕ) (start : ℕ)
       → Tried (findOf f r start) (row 1 (IsFormat f) ∷ row 3 (length r ≤ limit) ∷ row 5 (start ≤ length r) ∷ [])
-  -- the next span: 1, 3, 4, 5; the rows are touched, and the place after is another one, only where a span is delivered
+  -- the next span, and a step of the stepping reader, which answers it from the reader's place: 1, 3, 4, 5; the rows are touched, and the place
+  -- after is another one, only where a span is delivered
   pub next :
       (f : Format) (r : List ℕ) (start : ℕ) (entry : List ℕ)
       → Tried (nextOf f r start (length entry))
@@ -373,7 +375,7 @@ pub record Demand3 : Type 0 where
       → IsFormat f
       → length r ≤ p + k
       → foundFrom (symbolsIn (shapeOf f)) (reading f) k r p ≡ deliveryFrom f r p
-  -- stepping with next span gives it, rows included
+  -- stepping with next span, or with the stepping reader, gives it, rows included
   pub stepping :
       (f : Format) (r rows : List ℕ) (k p : ℕ)
       → IsFormat f
@@ -453,3 +455,12 @@ pub record Beyond : Type 0 where
       → (rest : List (Found Reading))
       × (deliveryFrom f r 0 ≡ deliveryFrom f (take m r) 0 ++ rest)
       × AllBehind (symbolsIn (shapeOf f)) m rest
+  -- as many steps as there are spans give them, rows included, and every further step answers none and leaves the rows
+  pub forEver :
+      (f : Format) (r rows : List ℕ) (k p : ℕ)
+      → IsFormat f
+      → length r ≤ limit
+      → Samples f (length rows)
+      → p ≤ length r
+      → let spans = deliveryFrom f r p in
+      runFrom (length spans + k) f r p rows ≡ map spanStep spans ++ replicate k (endStep (lastRows rows spans))

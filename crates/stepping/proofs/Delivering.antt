@@ -8,11 +8,13 @@ use Prim.Native.Nat.{ℕ, zero, suc, _+_, _≤_}
 use native.Mathlib.Nat.{zero-add, suc-add}
 use native.Mathlib.Omega.{arith}
 use lib.ListN.{length, replicate}
-use Rattle.ground.specs.Answer.{refused}
+use Rattle.ground.specs.Answer.{refused, given}
+use Rattle.ground.proofs.Answers.{given-is, when-refused, when-given}
 use Rattle.span.specs.declared.format.Format.{Format}
 use Rattle.span.specs.Format.{isKnown, shapeOf, samplesIn, symbolsIn}
 use Rattle.delivery.specs.Delivery.{Found, followed}
 use Rattle.delivery.proofs.Finding.{next-then}
+use Rattle.recording.specs.Call.{spanned, nextRows, nextOf, endOr, afterNext, wordsOr, rowsNext}
 use Rattle.recording.specs.Recording.{limit, Reading, reading, nextFrom, deliveryFrom}
 use Rattle.recording.proofs.Calling.{next-given}
 use Rattle.recording.proofs.Readings.{span-whole}
@@ -31,9 +33,20 @@ module _ (f : Format) where
     unfolding runFrom
     step-by-step k = refl
 
-    -- a refused step leaves reader and rows
-    pub refused-stays : (number place : ℕ) → answerOf f r rows ≡ refused number place → (movedOf f r rows ≡ r) × (rowsOf f r rows ≡ rows)
-    refused-stays number place e = (rw e refl, rw e refl)
+  -- a refused step, and a step at the end, leave rows and place
+  module _ (r : List ℕ) (p : ℕ) (rows : List ℕ) where
+    pub refused-stays : (number place : ℕ) → nextOf f r p (length rows) ≡ refused number place
+        → (rowsNext f r p rows ≡ rows) × (afterNext f r p (length rows) ≡ p)
+    refused-stays number place e = (sym (when-refused rows _ e), ap (endOr n p) e)
+
+    no-words : (o : Option (Found Reading)) → spanned o ≡ none → wordsOr rows o ≡ rows
+    no-words none e = refl
+    no-words (some x) e = cc
+
+    pub end-stays : nextOf f r p (length rows) ≡ given none → (rowsNext f r p rows ≡ rows) × (afterNext f r p (length rows) ≡ p)
+    end-stays e =
+        let none-next = given-is (nextRows f r p (length rows)) (spanned (nextFrom f r p)) none e in
+        (sym (when-given rows _ e) ∙ no-words (nextFrom f r p) none-next, ap (endOr n p) e)
 
   module _ (known : isKnown f ≡ true) (r : List ℕ) (short : length r ≤ limit) where
     then : (p : ℕ) → deliveryFrom f r p ≡ followed (nextFrom f r p) (λ e. deliveryFrom f r (e .place + n))
