@@ -1,4 +1,4 @@
--- Numbers as text.
+-- Numbers as text, as the programs of document 01, "Values to hold against it", print them.
 -- Assumes nothing.
 use Prim.Native.Nat.{ℕ, zero, suc, _/_}
 use mathlib.Core.Bool.{cond}
@@ -6,7 +6,8 @@ use mathlib.Core.List.{List}
 use lib.Dec.{ltb}
 use Rattle.io.specs.Digits.{digits}
 
--- how many decimal digits a number takes: one below ten, else one more than its tenth. No number takes more than itself says.
+-- how many decimal digits a number takes: one below ten, else one more than its tenth takes. `most` bounds the steps, and the number itself is
+-- bound enough: they are the fewest digits that hold it (law `places-fewest`).
 abbrev pub placesIn : ℕ → ℕ → ℕ
 placesIn zero n = 1
 placesIn (suc most) n = cond (ltb n 10) 1 (suc (placesIn most (n / 10)))

@@ -1,4 +1,4 @@
--- Words of sixteen bits in bytes, the low byte first.
+-- Words of sixteen bits in bytes, the low byte first, as the programs of document 01, "Values to hold against it", read them.
 -- Assumes nothing.
 use Prim.Native.Nat.{ℕ, _+_, _*_, _/_, min}
 use mathlib.Core.List.{List}
