@@ -19,7 +19,7 @@ use Rattle.crcc.specs.Crcc.{taps, bitStep, bitSteps, crcWord, crc, crccF
 use Rattle.word.specs.Word.{guarded}
 use Rattle.word.proofs.Guards.{guard-kept}
 
--- The CRCC words of the words 001, 100, 800 and FFF alone, as polynomial long division gives them (rust/crcc_vectors.rs).
+-- The CRCC words of the words 001, 100, 800 and FFF alone, as polynomial long division gives them (rust/plain).
 pub long-division : map (λ (w : ℕ). crccWords (crc 0 (w ∷ []))) (0x001 ∷ 0x100 ∷ 0x800 ∷ 0xFFF ∷ [])
     ≡ record { crcc0 = 0x918; crcc1 = 0x800 }
     ∷ record { crcc0 = 0x800; crcc1 = 0x88C }

@@ -4,6 +4,7 @@ ghost use Rattle.span.specs.Content.{contentOf};
 use crate::format::Format;
 
 // Content bytes 1 and 2 behind the SAV's special characters, and behind the EAV's.
+#[repr(C)]
 pub struct ContentBytes {
     pub sav1: u8,
     pub sav2: u8,

@@ -1,0 +1,174 @@
+-- Numbers are taken whole. The library is asked with the largest number that it has room for where a caller's is larger, and each of these
+-- laws says that a call answers the same for both, and leaves the same in lent memory.
+-- Assumes nothing.
+use mathlib.Core.Path.{_≡_, refl, sym, ap, _∙_}
+use mathlib.Core.Bool.{Bool, true, false, _&&_, cond}
+use mathlib.Core.List.{List}
+use Prim.Native.Nat.{ℕ, _≤_, _<_, min}
+use native.Mathlib.Nat.{min-eq-left, min-eq-right}
+use native.Mathlib.Omega.{arith}
+use lib.Dec.{leb, ltb, eqb}
+use lib.ListN.{length}
+use borrow.Author.Tests.{leb-true, leb-false, le-ltb, lt-leb, le-leb, ne-eqb}
+use Rattle.ground.specs.Answer.{Answer, refused, given}
+use Rattle.ground.specs.Range.{within}
+use Rattle.ground.proofs.Cases.{on-test}
+use Rattle.ground.proofs.Ranges.{is-above, not-within}
+use Rattle.symbol.specs.declared.disparity.Disparity.{Disparity}
+use Rattle.decoder.specs.Decode.{After, decodeOf}
+use Rattle.line.specs.Stream.{isLine, isActive}
+use Rattle.word.specs.LineNumber.{numberedOf, namedOf}
+use Rattle.word.specs.Repair.{repairOf}
+use Rattle.word.specs.Word.{isWord}
+use Rattle.picture.specs.Choice.{rowOn}
+use Rattle.picture.specs.Place.{placedOf}
+use Rattle.span.specs.declared.content.Content.{Content}
+use Rattle.span.specs.declared.format.Format.{Format}
+use Rattle.span.specs.Format.{isKnown}
+use Rattle.span.specs.Length.{lengthsOf}
+use Rattle.blanking.specs.Blanking.{fillOf, filledRow}
+use Rattle.send.specs.Send.{asked, sendOf, sentBuffer}
+use Rattle.window.specs.Read.{judgeOf, readOf, rowsRead}
+use Rattle.recording.specs.Call.{findOf, nextOf, afterNext, rowsNext}
+use Rattle.boundary.specs.Numbers.{formatFrom}
+
+-- what is the same for all numbers from a top on is the same for a number and the smaller of it and the top
+pub whole : {A : Type 0} (g : ℕ → A) (top n : ℕ) → ((m : ℕ) → top ≤ m → g m ≡ g top) → g (min n top) ≡ g n
+whole g top n same = on-test (leb n top) below above
+  where
+    below : leb n top ≡ true → g (min n top) ≡ g n
+    below t = ap g (min-eq-left (leb-true n top t))
+
+    above : leb n top ≡ false → g (min n top) ≡ g n
+    above t =
+        let h : top ≤ n = omega (arith, leb-false n top t) in ap g (min-eq-right h) ∙ sym (same n h)
+
+-- the same where all of them are sent to one value
+pub whole-to : {A : Type 0} (g : ℕ → A) (top n : ℕ) (x : A) → ((m : ℕ) → top ≤ m → g m ≡ x) → g (min n top) ≡ g n
+whole-to g top n x is = whole g top n (λ m h. is m h ∙ sym (is top (omega arith)))
+
+-- ---- symbols, words, lines and samples
+
+pub decode-whole : (d : Disparity) (s : ℕ) → decodeOf d (min s 65535) ≡ decodeOf d s
+decode-whole d s = whole-to (decodeOf d) 65535 s (refused 7 0) (λ m h. simp (le-ltb m 1024 (omega arith)))
+
+pub repair-whole : (w : ℕ) → repairOf (min w 65535) ≡ repairOf w
+repair-whole w = whole-to repairOf 65535 w (refused 7 0) (λ m h. simp (le-ltb m 4096 (omega arith)))
+
+pub named-whole : (a b : ℕ) → namedOf (min a 65535) (min b 65535) ≡ namedOf a b
+named-whole a b = whole-to (λ m. namedOf m (min b 65535)) 65535 a (refused 7 0) first ∙ whole-to (namedOf a) 65535 b (refused 7 0) second
+  where
+    first : (m : ℕ) → 65535 ≤ m → namedOf m (min b 65535) ≡ refused 7 0
+    first m h = simp (le-ltb m 4096 (omega arith))
+
+    second : (m : ℕ) → 65535 ≤ m → namedOf a m ≡ refused 7 0
+    second m h = on-test (isWord a) (λ t. simp (t, le-ltb m 4096 (omega arith))) (λ t. simp t)
+
+no-line : (m : ℕ) → 65535 ≤ m → isLine m ≡ false
+no-line m h = is-above 1 1125 m (omega arith) (omega arith)
+
+pub numbered-whole : (n : ℕ) → numberedOf (min n 65535) ≡ numberedOf n
+numbered-whole n = whole-to numberedOf 65535 n (refused 2 0) (λ m h. simp (no-line m h))
+
+pub placed-whole : (l j : ℕ) → placedOf (min l 65535) (min j 65535) ≡ placedOf l j
+placed-whole l j = whole-to (λ m. placedOf m (min j 65535)) 65535 l (refused 2 0) line ∙ whole-to (placedOf l) 65535 j (refused 2 0) sample
+  where
+    line : (m : ℕ) → 65535 ≤ m → placedOf m (min j 65535) ≡ refused 2 0
+    line m h = simp (is-above 1 2160 m (omega arith) (omega arith))
+
+    sample : (m : ℕ) → 65535 ≤ m → placedOf l m ≡ refused 2 0
+    sample m h = on-test (within 1 2160 l) (λ t. simp (t, lt-leb m 3839 (omega arith))) (λ t. simp t)
+
+pub row-whole : (n : ℕ) → isActive (min n 65535) ≡ rowOn n true false
+row-whole n = whole-to isActive 65535 n false (λ m h. is-above 42 1121 m (omega arith) (omega arith)) ∙ is-test (isActive n)
+  where
+    is-test : (t : Bool) → t ≡ cond t true false
+    is-test true = refl
+    is-test false = refl
+
+-- ---- formats
+
+unknown-number : (m depth : ℕ) → 255 ≤ m → isKnown (formatFrom m depth) ≡ false
+unknown-number m depth h = simp (is-above 1 3 m (omega arith) (omega arith))
+
+unknown-depth : (number m : ℕ) → 255 ≤ m → isKnown (formatFrom number m) ≡ false
+unknown-depth number m h = on-test (within 1 3 number) (λ t. simp (t, ten, twelve)) (λ t. simp t)
+  where
+    ten : eqb m 10 ≡ false
+    ten = ne-eqb m 10 (λ e. omega arith)
+
+    twelve : eqb m 12 ≡ false
+    twelve = ne-eqb m 12 (λ e. omega arith)
+
+-- what is the same for all unknown formats
+pub format-whole : {A : Type 0} (g : Format → A) (x : A) → ((f : Format) → isKnown f ≡ false → g f ≡ x) → (number depth : ℕ)
+    → g (formatFrom (min number 255) (min depth 255)) ≡ g (formatFrom number depth)
+format-whole g x is number depth =
+    whole-to (λ m. g (formatFrom m (min depth 255))) 255 number x (λ m h. is (formatFrom m (min depth 255)) (unknown-number m (min depth 255) h))
+    ∙ whole-to (λ m. g (formatFrom number m)) 255 depth x (λ m h. is (formatFrom number m) (unknown-depth number m h))
+
+module _ (number depth : ℕ) where
+  abbrev clipped : Format
+  clipped = formatFrom (min number 255) (min depth 255)
+
+  abbrev asGiven : Format
+  asGiven = formatFrom number depth
+
+  pub lengths-whole : lengthsOf clipped ≡ lengthsOf asGiven
+  lengths-whole = format-whole lengthsOf (refused 1 0) (λ f t. simp t) number depth
+
+  module _ (row : List ℕ) where
+    pub fill-whole : fillOf clipped row ≡ fillOf asGiven row
+    fill-whole = format-whole (λ f. fillOf f row) (refused 1 0) (λ f t. simp t) number depth
+
+    pub filled-whole : filledRow clipped row ≡ filledRow asGiven row
+    filled-whole = format-whole (λ f. filledRow f row) row (λ f t. simp t) number depth
+
+  module _ (symbols : List ℕ) where
+    pub judge-whole : judgeOf clipped symbols ≡ judgeOf asGiven symbols
+    judge-whole = format-whole (λ f. judgeOf f symbols) (refused 1 0) (λ f t. simp t) number depth
+
+    pub read-whole : (room : ℕ) → readOf clipped symbols room ≡ readOf asGiven symbols room
+    read-whole room = format-whole (λ f. readOf f symbols room) (refused 1 0) (λ f t. simp t) number depth
+
+    pub rows-whole : (rows : List ℕ) → rowsRead clipped symbols rows ≡ rowsRead asGiven symbols rows
+    rows-whole rows = format-whole (λ f. rowsRead f symbols rows) rows (λ f t. simp t) number depth
+
+    module _ (start : ℕ) where
+      pub find-whole : findOf clipped symbols start ≡ findOf asGiven symbols start
+      find-whole = format-whole (λ f. findOf f symbols start) (refused 1 0) (λ f t. simp t) number depth
+
+      pub next-whole : (room : ℕ) → nextOf clipped symbols start room ≡ nextOf asGiven symbols start room
+      next-whole room = format-whole (λ f. nextOf f symbols start room) (refused 1 0) (λ f t. simp t) number depth
+
+      pub after-whole : (room : ℕ) → afterNext clipped symbols start room ≡ afterNext asGiven symbols start room
+      after-whole room = format-whole (λ f. afterNext f symbols start room) start (λ f t. simp t) number depth
+
+      pub next-rows-whole : (rows : List ℕ) → rowsNext clipped symbols start rows ≡ rowsNext asGiven symbols start rows
+      next-rows-whole rows = format-whole (λ f. rowsNext f symbols start rows) rows (λ f t. simp t) number depth
+
+-- ---- sending: a format and a line
+
+module _ (d : Disparity) (content : Content) (samples : List ℕ) where
+  -- where there is no such line, what is answered and left does not depend on its number
+  lineless : (f : Format) (room m : ℕ) → 65535 ≤ m → sendOf d f (asked m content samples) room ≡ cond (isKnown f) (refused 2 0) (refused 1 0)
+  lineless f room m h = on-test (isKnown f) (λ t. simp (t, no-line m h)) (λ t. simp t)
+
+  untouched : (f : Format) (symbols : List ℕ) (m : ℕ) → 65535 ≤ m → sentBuffer d f (asked m content samples) symbols ≡ symbols
+  untouched f symbols m h = on-test (isKnown f) (λ t. simp (t, no-line m h)) (λ t. simp t)
+
+  module _ (number depth line : ℕ) where
+    pub send-whole : (room : ℕ)
+        → sendOf d (clipped number depth) (asked (min line 65535) content samples) room
+        ≡ sendOf d (asGiven number depth) (asked line content samples) room
+    send-whole room =
+        format-whole (λ f. sendOf d f (asked (min line 65535) content samples) room) (refused 1 0) (λ f t. simp t) number depth
+        ∙ whole-to (λ n. sendOf d (asGiven number depth) (asked n content samples) room) 65535 line _ (lineless (asGiven number depth) room)
+
+    pub sent-whole : (symbols : List ℕ)
+        → sentBuffer d (clipped number depth) (asked (min line 65535) content samples) symbols
+        ≡ sentBuffer d (asGiven number depth) (asked line content samples) symbols
+    sent-whole symbols =
+        format-whole (λ f. sentBuffer d f (asked (min line 65535) content samples) symbols) symbols (λ f t. simp t) number depth
+        ∙ whole-to (λ n. sentBuffer d (asGiven number depth) (asked n content samples) symbols) 65535 line symbols
+        (untouched (asGiven number depth) symbols)

@@ -1,0 +1,22 @@
+-- `adapter::pictures::brazulint_carries_picture` meets its contract: the call, for the number given.
+-- Assumes nothing.
+use mathlib.Core.Path.{ap, _∙_}
+use Rattle.line.specs.Stream.{isActive}
+use Rattle.adapter.proofs.Whole.{row-whole}
+use borrow.Author.Needs.{needs}
+use Rattle.adapter.proofs.pictures.brazulint_carries_picture.Statement.{statement}
+use Rattle.adapter.proofs.pictures.brazulint_carries_picture.Tie as tie
+
+stream-line-from-requires : tie.Need-stream-line-from-requires
+stream-line-from-requires c κs = search needs
+
+is-active-requires : tie.Need-is-active-requires
+is-active-requires c κs = search needs
+
+returns : tie.Need-returns
+returns c =
+    c .is-active .ensures ∙ ap isActive (c .before .stream-line-from .ensures) ∙ row-whole (c .before .before .args .line)
+
+pub brazulint-carries-picture-spec : {M : Type 1} → statement M
+brazulint-carries-picture-spec =
+    tie.close (tie.spec stream-line-from-requires is-active-requires returns)

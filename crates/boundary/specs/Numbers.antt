@@ -1,0 +1,26 @@
+-- Numbers as callers from C give them, and the number of an answer. The paper's definitions take any number, so what is given is what they
+-- are asked for, whole.
+-- Assumes nothing.
+use Prim.Native.Nat.{ℕ}
+use mathlib.Core.Bool.{Bool, true, false}
+use Rattle.ground.specs.Answer.{Answer, refused, given}
+use Rattle.span.specs.declared.format.Format.{Format}
+use Rattle.symbol.specs.declared.disparity.Disparity.{Disparity}
+use Rattle.symbol.specs.declared.disparity.Disparity.the-variants.{Negative, Positive}
+
+abbrev pub formatFrom : ℕ → ℕ → Format
+formatFrom number depth = record { number = number; depth = depth }
+
+-- the running disparity crosses as a bool, which has no third value: true is positive
+abbrev pub disparityFrom : Bool → Disparity
+disparityFrom true = Positive
+disparityFrom false = Negative
+
+abbrev pub isPositive : Disparity → Bool
+isPositive Positive = true
+isPositive Negative = false
+
+-- the number of a refusal; 0, which no refusal has, where none is given
+abbrev pub numberIn : {A : Type 0} → Answer A → ℕ
+numberIn (refused number place) = number
+numberIn (given a) = 0

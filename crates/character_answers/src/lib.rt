@@ -1,0 +1,2 @@
+// What decoding and encoding answer to C.
+pub mod characters;

@@ -1,0 +1,62 @@
+// What the calls on places and rows answer.
+use blanking::blanking::Filled;
+use dividing::row::Copied;
+use picture::place::Placed;
+ghost use mathlib.Core.Path.{_≡_};
+ghost use Rattle.picture.specs.Place.{paperPlaced};
+ghost use Rattle.dividing.specs.Row.{paperCopied};
+ghost use Rattle.blanking.specs.Blanking.{paperFilled};
+ghost use Rattle.picture_answers.specs.Pictures.{placeAnswerOf};
+ghost use Rattle.boundary.specs.Numbers.{numberIn};
+
+#[repr(C)]
+pub struct PlaceAnswer {
+    pub number: u32,
+    pub image: u32,
+    pub line: u32,
+    pub stream_line: u32,
+    pub sample: u32,
+}
+
+pub fn place_answer(r: Placed) -> PlaceAnswer
+    ensures { λ a. ⌜ a ≡ placeAnswerOf (paperPlaced r) ⌝ }
+{
+    match r {
+        Placed::At(p) => PlaceAnswer {
+            number: 0,
+            image: p.image as u32,
+            line: line::picture::number_of(p.line) as u32,
+            stream_line: line::stream::number_of(p.stream) as u32,
+            sample: p.sample as u32,
+        },
+        Placed::Outside => PlaceAnswer {
+            number: 2,
+            image: 0,
+            line: 0,
+            stream_line: 0,
+            sample: 0,
+        },
+    }
+}
+
+// Dividing and joining.
+pub fn copied_number(r: Copied) -> u32
+    ensures { λ n. ⌜ n ≡ numberIn (paperCopied r) ⌝ }
+{
+    match r {
+        Copied::Done => 0,
+        Copied::WrongInput => 3,
+        Copied::WrongOutput => 4,
+    }
+}
+
+// Filling a row with blanking.
+pub fn filled_number(r: Filled) -> u32
+    ensures { λ n. ⌜ n ≡ numberIn (paperFilled r) ⌝ }
+{
+    match r {
+        Filled::Done => 0,
+        Filled::UnknownFormat => 1,
+        Filled::WrongOutput => 4,
+    }
+}

@@ -1,0 +1,2 @@
+// What the calls on a recording answer to C.
+pub mod recordings;

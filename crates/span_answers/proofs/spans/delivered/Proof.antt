@@ -1,0 +1,14 @@
+-- `span_answers::spans::delivered` meets its contract: each field.
+-- Assumes nothing.
+use borrow.Author.Needs.{needs}
+use Rattle.span_answers.proofs.spans.delivered.Statement.{statement}
+use Rattle.span_answers.proofs.spans.delivered.Tie as tie
+
+values-of-requires : tie.Need-values-of-requires
+values-of-requires c κs = search needs
+
+returns : tie.Need-returns
+returns c = cc
+
+pub delivered-spec : {M : Type 1} → statement M
+delivered-spec = tie.close (tie.spec values-of-requires returns)

@@ -1,0 +1,47 @@
+-- What the calls on one span answer to C (document 01, "Sending", "Receiving and finding" and its table of refusals). What has no meaning in
+-- a refusal is 0 or false.
+-- Assumes nothing.
+use mathlib.Core.Bool.{false}
+use Rattle.ground.specs.Answer.{Answer, refused, given}
+use Rattle.symbol.specs.declared.disparity.Disparity.{Disparity}
+use Rattle.span.specs.declared.length.SpanLengths.{SpanLengths}
+use Rattle.window.specs.declared.delivery.Delivery.{Delivery}
+use Rattle.span_answers.specs.declared.spans.Values.{Values}
+use Rattle.span_answers.specs.declared.spans.LengthsAnswer.{LengthsAnswer}
+use Rattle.span_answers.specs.declared.spans.SendAnswer.{SendAnswer}
+use Rattle.span_answers.specs.declared.spans.ReadAnswer.{ReadAnswer}
+use Rattle.boundary.specs.Numbers.{isPositive}
+
+-- what a span says of itself
+abbrev pub valuesOf : Delivery → Values
+valuesOf d =
+    record {
+      line = d .line .0;
+      content = d .content;
+      «positive_before» = isPositive (d .before);
+      «positive_after» = isPositive (d .after);
+      repairs = d .repairs;
+    }
+
+-- where there is none
+abbrev pub noValues : Values
+noValues =
+    record {
+      line = 0;
+      content = record { sav1 = 0; sav2 = 0; eav1 = 0; eav2 = 0 };
+      «positive_before» = false;
+      «positive_after» = false;
+      repairs = 0;
+    }
+
+abbrev pub lengthsAnswerOf : Answer SpanLengths → LengthsAnswer
+lengthsAnswerOf (refused number place) = record { number = number; samples = 0; symbols = 0 }
+lengthsAnswerOf (given l) = record { number = 0; samples = l .samples; symbols = l .symbols }
+
+abbrev pub sendAnswerOf : Answer Disparity → SendAnswer
+sendAnswerOf (refused number place) = record { number = number; «positive_after» = false; place = place }
+sendAnswerOf (given d) = record { number = 0; «positive_after» = isPositive d; place = 0 }
+
+abbrev pub readAnswerOf : Answer Delivery → ReadAnswer
+readAnswerOf (refused number place) = record { number = number; place = place; delivery = noValues }
+readAnswerOf (given d) = record { number = 0; place = 0; delivery = valuesOf d }

@@ -1,0 +1,2 @@
+// What the calls on one span answer to C.
+pub mod spans;

@@ -1,0 +1,2 @@
+// What the calls on words answer to C.
+pub mod words;

@@ -1,0 +1,126 @@
+//! The structs of the header, field for field. What each field means stands there; a field without meaning is 0 or false.
+
+use crate::refusal::Refusal;
+
+macro_rules! structs {
+    ($($(#[$doc:meta])* $name:ident { $($field:ident: $kind:ty),* })*) => {$(
+        $(#[$doc])*
+        #[repr(C)]
+        #[derive(Clone, Copy, Debug, PartialEq, Eq, Default)]
+        pub struct $name {
+            $(pub $field: $kind,)*
+        }
+    )*};
+}
+
+structs! {
+    /// The content bytes of a span: 1 and 2 of the SAV, then of the EAV.
+    Content { sav1: u8, sav2: u8, eav1: u8, eav2: u8 }
+    /// What a span says of itself.
+    Delivery { line: u32, content: Content, positive_before: bool, positive_after: bool, repairs: u32 }
+    /// The lengths of a span: samples of all streams, and symbols. Refusal 1.
+    LengthsAnswer { number: u32, samples: usize, symbols: usize }
+    /// Refusals 1, 2, 3, 4 and 6.
+    SendAnswer { number: u32, positive_after: bool, place: u64 }
+    /// Refusals 1, 3, 4 and 20 to 26.
+    ReadAnswer { number: u32, place: u64, delivery: Delivery }
+    /// Refusals 1, 3 and 5.
+    FindAnswer { number: u32, found: bool, place: u64 }
+    /// Refusals 1, 3, 4 and 5.
+    NextAnswer { number: u32, found: bool, place: u64, resume: u64, delivery: Delivery }
+    /// Refusal 2.
+    PlaceAnswer { number: u32, image: u32, line: u32, stream_line: u32, sample: u32 }
+    /// Refusal 2.
+    LineWordsAnswer { number: u32, ln0: u32, ln1: u32 }
+    /// Refusals 7 and 22.
+    ReadLineWordsAnswer { number: u32, line: u32 }
+    /// Refusals 7 and 8.
+    RepairAnswer { number: u32, word: u32, distance: u32 }
+    /// Refusal 7. Bit i of `crc` is CRCCi.
+    CrccAnswer { number: u32, crc: u32, crcc0: u32, crcc1: u32 }
+    /// Refusals 7 and 20.
+    DecodeAnswer { number: u32, character: u32, positive_after: bool }
+    /// Refuses nothing; `known` is false for a number that is no character.
+    EncodeAnswer { known: bool, symbol: u32, positive_after: bool }
+}
+
+impl LengthsAnswer {
+    /// The samples and the symbols of a span.
+    pub fn result(self) -> Result<(usize, usize), Refusal> {
+        Refusal::check(self.number, 0).map(|()| (self.samples, self.symbols))
+    }
+}
+
+impl SendAnswer {
+    /// The running disparity after the span.
+    pub fn result(self) -> Result<bool, Refusal> {
+        Refusal::check(self.number, self.place).map(|()| self.positive_after)
+    }
+}
+
+impl ReadAnswer {
+    pub fn result(self) -> Result<Delivery, Refusal> {
+        Refusal::check(self.number, self.place).map(|()| self.delivery)
+    }
+}
+
+impl FindAnswer {
+    /// The first symbol of the span, if one was found.
+    pub fn result(self) -> Result<Option<u64>, Refusal> {
+        Refusal::check(self.number, 0).map(|()| self.found.then_some(self.place))
+    }
+}
+
+impl NextAnswer {
+    /// The first symbol of the span and what it says, if one was delivered.
+    pub fn result(self) -> Result<Option<(u64, Delivery)>, Refusal> {
+        Refusal::check(self.number, 0).map(|()| self.found.then_some((self.place, self.delivery)))
+    }
+}
+
+impl PlaceAnswer {
+    pub fn result(self) -> Result<PlaceAnswer, Refusal> {
+        Refusal::check(self.number, 0).map(|()| self)
+    }
+}
+
+impl LineWordsAnswer {
+    /// LN0 and LN1.
+    pub fn result(self) -> Result<(u32, u32), Refusal> {
+        Refusal::check(self.number, 0).map(|()| (self.ln0, self.ln1))
+    }
+}
+
+impl ReadLineWordsAnswer {
+    /// The stream line.
+    pub fn result(self) -> Result<u32, Refusal> {
+        Refusal::check(self.number, 0).map(|()| self.line)
+    }
+}
+
+impl RepairAnswer {
+    /// The legal timing word, and in how many bits the given one differs.
+    pub fn result(self) -> Result<(u32, u32), Refusal> {
+        Refusal::check(self.number, 0).map(|()| (self.word, self.distance))
+    }
+}
+
+impl CrccAnswer {
+    pub fn result(self) -> Result<CrccAnswer, Refusal> {
+        Refusal::check(self.number, 0).map(|()| self)
+    }
+}
+
+impl DecodeAnswer {
+    /// The character, and the running disparity after it.
+    pub fn result(self) -> Result<(u32, bool), Refusal> {
+        Refusal::check(self.number, 0).map(|()| (self.character, self.positive_after))
+    }
+}
+
+impl EncodeAnswer {
+    /// The symbol and the running disparity after it; none for a number that is no character.
+    pub fn result(self) -> Option<(u32, bool)> {
+        self.known.then_some((self.symbol, self.positive_after))
+    }
+}

@@ -1,0 +1,169 @@
+//! Each call, made on both sides: the answers are compared in every field, and so is every lent buffer afterwards.
+
+use crate::expected;
+use crate::lent::{Left, Lent};
+use crate::report::Report;
+use brazulint::Content;
+use plain::read::Delivered;
+use plain::span::Asked;
+use plain::Answer;
+
+// ---- Single numbers.
+
+pub fn encode(r: &mut Report, positive: bool, character: u32) {
+    let plain = expected::encode(plain::code::encode(positive, character));
+    r.answer(|| format!("encode({positive}, {character})"), brazulint::encode(positive, character), plain);
+}
+
+pub fn decode(r: &mut Report, positive: bool, symbol: u32) {
+    let plain = expected::decode(plain::code::decode(positive, symbol));
+    r.answer(|| format!("decode({positive}, {symbol:#x})"), brazulint::decode(positive, symbol), plain);
+}
+
+pub fn repair(r: &mut Report, word: u32) {
+    let plain = expected::repair(plain::words::repair(word));
+    r.answer(|| format!("repair({word:#x})"), brazulint::repair(word), plain);
+}
+
+pub fn line_words(r: &mut Report, line: u32) {
+    let plain = expected::line_words(plain::words::line_words(line));
+    r.answer(|| format!("line_words({line})"), brazulint::line_words(line), plain);
+}
+
+pub fn read_line_words(r: &mut Report, ln0: u32, ln1: u32) {
+    let plain = expected::read_line_words(plain::words::read_line_words(ln0, ln1));
+    r.answer(|| format!("read_line_words({ln0:#x}, {ln1:#x})"), brazulint::read_line_words(ln0, ln1), plain);
+}
+
+pub fn crcc(r: &mut Report, words: &[u16]) {
+    let plain = expected::crcc(plain::words::crcc(words));
+    r.answer(|| format!("crcc({} words)", words.len()), brazulint::crcc(words), plain);
+}
+
+pub fn place(r: &mut Report, line: u32, sample: u32) {
+    let plain = expected::place(plain::picture::place(line, sample));
+    r.answer(|| format!("place({line}, {sample})"), brazulint::place(line, sample), plain);
+}
+
+pub fn carries_picture(r: &mut Report, line: u32) {
+    let plain = plain::picture::carries_picture(line);
+    r.answer(|| format!("carries_picture({line})"), brazulint::carries_picture(line), plain);
+}
+
+pub fn lengths(r: &mut Report, format: u32, depth: u32) {
+    let plain = expected::lengths(plain::span::lengths(format, depth));
+    r.answer(|| format!("lengths({format}, {depth})"), brazulint::lengths(format, depth), plain);
+}
+
+// ---- Rows.
+
+pub fn split(r: &mut Report, row: &[u16], rooms: [usize; 2]) {
+    let [mut first, mut second] = rooms.map(Lent::new);
+    let answer = brazulint::split(row, first.lend(), second.lend());
+    let plain = plain::picture::split(row, rooms);
+    let call = || format!("split({} samples into {rooms:?})", row.len());
+    r.answer(call, answer, expected::number(&plain));
+    let left = |i: usize| plain.as_ref().map_or(Left::AsItWas, |rows| Left::Holds(&rows[i]));
+    r.buffer(call, &first, left(0));
+    r.buffer(call, &second, left(1));
+}
+
+pub fn join(r: &mut Report, first: &[u16], second: &[u16], room: usize) {
+    let mut row = Lent::new(room);
+    let answer = brazulint::join(first, second, row.lend());
+    let plain = plain::picture::join(first, second, room);
+    let call = || format!("join({} and {} samples into {room})", first.len(), second.len());
+    r.answer(call, answer, expected::number(&plain));
+    r.buffer(call, &row, plain.as_ref().map_or(Left::AsItWas, |row| Left::Holds(row)));
+}
+
+pub fn fill_blanking(r: &mut Report, format: u32, depth: u32, room: usize) {
+    let mut row = Lent::new(room);
+    let answer = brazulint::fill_blanking(format, depth, row.lend());
+    let plain = plain::span::blanking_row(format, depth, room);
+    let call = || format!("fill_blanking({format}, {depth}, room for {room})");
+    r.answer(call, answer, expected::number(&plain));
+    r.buffer(call, &row, plain.as_ref().map_or(Left::AsItWas, |row| Left::Holds(row)));
+}
+
+// ---- Spans.
+
+pub fn send(r: &mut Report, asked: Asked, samples: &[u16], room: usize) -> Answer<(Vec<u16>, bool)> {
+    let mut symbols = Lent::new(room);
+    let Asked { format, depth, line, positive, content } = asked;
+    let answer = match content {
+        None => brazulint::send(format, depth, line, positive, samples, symbols.lend()),
+        Some([sav1, sav2, eav1, eav2]) => {
+            let content = Content { sav1, sav2, eav1, eav2 };
+            brazulint::send_named(format, depth, line, positive, content, samples, symbols.lend())
+        }
+    };
+    let plain = plain::span::send(asked, samples, room);
+    let call = || format!("send({asked:?}, {} samples, room for {room})", samples.len());
+    r.answer(call, answer, expected::send(&plain));
+    r.buffer(call, &symbols, plain.as_ref().map_or(Left::AsItWas, |(symbols, _)| Left::Holds(symbols)));
+    plain
+}
+
+pub fn read(r: &mut Report, format: u32, depth: u32, symbols: &[u16], room: usize) -> Answer<Delivered> {
+    let mut rows = Lent::new(room);
+    let answer = brazulint::read(format, depth, symbols, rows.lend());
+    let plain = plain::read::read(format, depth, symbols, room);
+    let call = || format!("read({format}, {depth}, {} symbols, room for {room})", symbols.len());
+    r.answer(call, answer, expected::read(&plain));
+    let left = match &plain {
+        Ok(delivered) => Left::Holds(&delivered.rows),
+        Err((20.., _)) => Left::Zero,
+        Err(_) => Left::AsItWas,
+    };
+    r.buffer(call, &rows, left);
+    plain
+}
+
+pub fn judge(r: &mut Report, format: u32, depth: u32, symbols: &[u16]) {
+    let plain = expected::read(&plain::read::judge(format, depth, symbols));
+    let call = || format!("judge({format}, {depth}, {} symbols)", symbols.len());
+    r.answer(call, brazulint::judge(format, depth, symbols), plain);
+}
+
+// ---- Recordings.
+
+pub fn find(r: &mut Report, format: u32, depth: u32, symbols: &[u16], start: u64) {
+    let plain = expected::find(plain::recording::find(format, depth, symbols, start));
+    let call = || format!("find({format}, {depth}, {} symbols, from {start})", symbols.len());
+    r.answer(call, brazulint::find(format, depth, symbols, start), plain);
+}
+
+pub fn next(r: &mut Report, format: u32, depth: u32, symbols: &[u16], start: u64, room: usize) {
+    let mut rows = Lent::new(room);
+    let answer = brazulint::next(format, depth, symbols, start, rows.lend());
+    let plain = plain::recording::next(format, depth, symbols, start, room);
+    let span = plain::span::lengths(format, depth).map_or(0, |lengths| lengths[1] as u64);
+    let call = || format!("next({format}, {depth}, {} symbols, from {start}, room for {room})", symbols.len());
+    r.answer(call, answer, expected::next(&plain, start, span));
+    let left = match &plain {
+        Ok(Some((_, delivered))) => Left::Holds(&delivered.rows),
+        _ => Left::AsItWas,
+    };
+    r.buffer(call, &rows, left);
+}
+
+/// All spans of a recording: the library's by steps of next, plain's by finding and reading.
+pub fn deliver(r: &mut Report, format: u32, depth: u32, symbols: &[u16]) {
+    let plain = plain::recording::delivery(format, depth, symbols).expect("a known format and a short recording");
+    let [samples, span] = plain::span::lengths(format, depth).expect("a known format");
+    let mut start = 0;
+    let rest = plain.into_iter().map(|one| Ok(Some(one))).chain([Ok(None)]);
+    for (step, plain) in rest.enumerate() {
+        let mut rows = Lent::new(samples);
+        let answer = brazulint::next(format, depth, symbols, start, rows.lend());
+        let call = || format!("step {step} through {} symbols of format {format}, depth {depth}", symbols.len());
+        r.answer(call, answer, expected::next(&plain, start, span as u64));
+        let left = match &plain {
+            Ok(Some((_, delivered))) => Left::Holds(&delivered.rows),
+            _ => Left::AsItWas,
+        };
+        r.buffer(call, &rows, left);
+        start = answer.resume;
+    }
+}

@@ -1,0 +1,140 @@
+//! Reading spans as they were sent, and damaged in every way, by one change and by two.
+
+use crate::calls;
+use crate::damage::{damaged, DAMAGES};
+use crate::report::{in_two, Report};
+use crate::spans::{shape_of, Draft, EDGES, KINDS};
+use chance::Random;
+use std::sync::atomic::{AtomicU64, Ordering};
+
+/// So often each refusal must be met, and a delivery with a repair.
+const OFTEN: u64 = 50;
+
+/// How often each of 20 to 26 was met, and how often a delivery had repairs.
+#[derive(Default)]
+pub struct Met {
+    numbers: [AtomicU64; 27],
+    repaired: AtomicU64,
+}
+
+pub fn run() -> Report {
+    let met = Met::default();
+    let mut r = in_two(valid);
+    r.add(in_two(|part, r| single(part, r, &met)));
+    r.add(in_two(|part, r| pairs(part, r, &met)));
+    r.add(in_two(service_bits));
+    r.add(in_two(|part, r| row_limits(part, r, &met)));
+    for number in 20..=26 {
+        let times = met.numbers[number].load(Ordering::Relaxed);
+        r.holds(|| format!("refusal {number} was met {times} times only"), times >= OFTEN);
+    }
+    let times = met.repaired.load(Ordering::Relaxed);
+    r.holds(|| format!("{times} deliveries only had repairs"), times >= OFTEN);
+    r
+}
+
+/// Sent spans of every format and depth are delivered, with what was sent.
+fn valid(part: usize, r: &mut Report) {
+    let mut random = Random(0xBB + part as u64);
+    for (format, depth) in KINDS.into_iter().skip(part).step_by(2) {
+        let edges = EDGES.into_iter().chain([2, 43, 127, 128, 255, 256, 1123, 1124]);
+        let lines: Vec<u32> = edges.chain((0..40).map(|_| random.within(1, 1125))).collect();
+        for line in lines {
+            let draft = Draft::of_line(&mut random, format, depth, line);
+            r.context = format!("a sent span of line {line}");
+            let symbols = draft.symbols();
+            let read = calls::read(r, format, depth, &symbols, draft.shape.samples());
+            calls::judge(r, format, depth, &symbols);
+            let same = read.is_ok_and(|d| (d.line, d.content, d.positive_before) == (line, draft.content, draft.positive));
+            r.holds(|| format!("format {format}, depth {depth}, line {line} is not read as it was sent"), same);
+        }
+    }
+}
+
+/// Reads and judges a span with the damages of these indices.
+pub fn read_damaged(r: &mut Report, random: &mut Random, kind: (u32, u32), line: u32, damages: &[usize], met: &Met) {
+    let (format, depth) = kind;
+    let draft = Draft::of_line(random, format, depth, line);
+    let mended = random.flip();
+    let names: Vec<&str> = damages.iter().map(|&i| DAMAGES[i].0).collect();
+    let changes: Vec<_> = damages.iter().map(|&i| DAMAGES[i].1).collect();
+    r.context = format!("line {line}, CRCC mended: {mended}, damages: {names:?}");
+    read_and_judge(r, kind, &damaged(random, draft, &changes, mended), met);
+}
+
+fn read_and_judge(r: &mut Report, (format, depth): (u32, u32), symbols: &[u16], met: &Met) {
+    calls::judge(r, format, depth, symbols);
+    match calls::read(r, format, depth, symbols, shape_of(format).samples()) {
+        Ok(delivered) if delivered.repairs > 0 => drop(met.repaired.fetch_add(1, Ordering::Relaxed)),
+        Err((number, _)) => drop(met.numbers[number as usize].fetch_add(1, Ordering::Relaxed)),
+        Ok(_) => (),
+    }
+}
+
+fn single(part: usize, r: &mut Report, met: &Met) {
+    let mut random = Random(0xCC + part as u64);
+    for kind in KINDS {
+        for damage in (0..DAMAGES.len()).skip(part).step_by(2) {
+            let some = [random.within(43, 1119), random.within(1, 39), random.within(42, 1121)];
+            for line in EDGES.into_iter().chain(some) {
+                read_damaged(r, &mut random, kind, line, &[damage], met);
+            }
+        }
+    }
+}
+
+/// Every two damages, in each format, on a line of the picture or near its edges.
+fn pairs(part: usize, r: &mut Report, met: &Met) {
+    let mut random = Random(0xDD + part as u64);
+    for one in (0..DAMAGES.len()).skip(part).step_by(2) {
+        for two in 0..DAMAGES.len() {
+            for format in 1..=3 {
+                let depth = random.pick(&[10, 12]);
+                let line = if random.flip() { random.within(42, 1121) } else { random.pick(&EDGES) };
+                read_damaged(r, &mut random, (format, depth), line, &[one, two], met);
+            }
+        }
+    }
+}
+
+/// Every bit of every word of SAV, EAV, line number and CRCC, on lines where V changes and where it does not. Behind what the CRCC covers
+/// it stays as it is; else it is mended or not.
+fn service_bits(part: usize, r: &mut Report) {
+    let mut random = Random(0xFF + part as u64);
+    for (format, depth) in KINDS.into_iter().skip(part).step_by(2) {
+        let line = random.pick(&EDGES);
+        let draft = Draft::of_line(&mut random, format, depth, line);
+        for k in (0..4).chain(1924..1932) {
+            for (t, bit) in (0..draft.shape.streams).flat_map(|t| (0..12).map(move |bit| (t, bit))) {
+                let mut changed = draft.clone();
+                let at = changed.at(k, t);
+                changed.words[at] ^= 1 << bit;
+                if k < 1930 && random.flip() {
+                    changed.mend();
+                }
+                r.context = format!("line {line}, bit {bit} of word {k} of stream {t}");
+                drop(calls::read(r, format, depth, &changed.symbols(), draft.shape.samples()));
+            }
+        }
+    }
+}
+
+/// Words next to what samples have, at either end of a row and within it, on lines of the picture and of blanking; the CRCC fits.
+fn row_limits(part: usize, r: &mut Report, met: &Met) {
+    let mut random = Random(0x111 + part as u64);
+    for kind in KINDS {
+        for line in [[42, 1122], [1121, 41]][part] {
+            let draft = Draft::of_line(&mut random, kind.0, kind.1, line);
+            for word in [0, 12, 15, 16, 17, 18, 19, 20, 0x0FF, 0x7FF, 4076, 4077, 4079, 4080, 4095] {
+                for k in [4, 4 + random.below(1920), 1923] {
+                    let mut changed = draft.clone();
+                    let at = changed.at(k, random.below(draft.shape.streams));
+                    changed.words[at] = word;
+                    changed.mend();
+                    r.context = format!("line {line}, word {word:#x} at {at}");
+                    read_and_judge(r, kind, &changed.symbols(), met);
+                }
+            }
+        }
+    }
+}

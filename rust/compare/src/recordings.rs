@@ -1,0 +1,129 @@
+//! Finding, next spans and delivery by steps, over recordings of all kinds.
+
+use crate::calls;
+use crate::pieces::{any_recording, any_start, inserted, inverted, lost, noise};
+use crate::report::{in_two, Report};
+use crate::spans::{any_asked, any_samples, any_sent, shape_of, KINDS};
+use brazulint::{Content, Delivery};
+use chance::Random;
+use plain::span::{row_words, send, Asked};
+
+pub fn run() -> Report {
+    let mut r = in_two(any_recordings);
+    r.add(in_two(at_every_place));
+    r.add(in_two(one_bit));
+    r.add(in_two(one_symbol));
+    r
+}
+
+fn any_recordings(part: usize, r: &mut Report) {
+    let mut random = Random(0x101 + part as u64);
+    for round in 0..25 {
+        for (format, depth) in KINDS {
+            let symbols = random.below(60_000);
+            r.context = format!("round {round} of half {part}");
+            search(r, &mut random, format, depth, symbols);
+        }
+    }
+}
+
+/// All three calls over a recording by chance.
+pub fn search(r: &mut Report, random: &mut Random, format: u32, depth: u32, symbols: usize) {
+    let recording = any_recording(random, format, depth, symbols);
+    calls::deliver(r, format, depth, &recording);
+    for _ in 0..4 {
+        let start = any_start(random, format, recording.len());
+        calls::find(r, format, depth, &recording, start);
+        calls::next(r, format, depth, &recording, start, shape_of(format).samples());
+    }
+}
+
+/// A sent span at places 0, 1, 2 and on among noise.
+fn at_every_place(part: usize, r: &mut Report) {
+    let mut random = Random(0x202 + part as u64);
+    for place in (part..260).step_by(2) {
+        let (format, depth) = KINDS[place / 2 % 6];
+        let span = any_sent(&mut random, format, depth);
+        let recording = [random.numbers(place, 1024), span, noise(&mut random)].concat();
+        r.context = format!("a span at {place}");
+        calls::deliver(r, format, depth, &recording);
+        for start in [0, place, place + 1] {
+            calls::find(r, format, depth, &recording, start as u64);
+        }
+        let found = brazulint::find(format, depth, &recording, 0);
+        r.holds(|| format!("the span at {place} is not found"), found.result() == Ok(Some(place as u64)));
+    }
+}
+
+/// What was sent in one span, and what must be said of it.
+struct Sent {
+    symbols: Vec<u16>,
+    rows: Vec<u16>,
+    delivery: Delivery,
+}
+
+/// Spans with the disparity handed on.
+fn chain(random: &mut Random, format: u32, depth: u32, count: u32) -> Vec<Sent> {
+    let (first, mut positive) = (random.within(1, 1125), random.flip());
+    let mut spans = Vec::new();
+    for i in 0..count {
+        let line = (first + i - 1) % 1125 + 1;
+        let samples = any_samples(random, format, depth, line);
+        let asked = any_asked(random, format, depth, line, positive);
+        let (symbols, after) = send(asked, &samples, shape_of(format).symbols()).expect("a good call is not refused");
+        let rows = row_words(depth, line, &samples).expect("samples that may be sent");
+        spans.push(Sent { symbols, rows, delivery: delivery(asked, after) });
+        positive = after;
+    }
+    spans
+}
+
+fn delivery(asked: Asked, positive_after: bool) -> Delivery {
+    let [sav1, sav2, eav1, eav2] = asked.content.unwrap_or([0; 4]);
+    let content = Content { sav1, sav2, eav1, eav2 };
+    Delivery { line: asked.line, content, positive_before: asked.positive, positive_after, repairs: 0 }
+}
+
+/// One inverted bit in sent spans alone: exactly the other spans are delivered, with what was sent. This asks the library alone.
+fn one_bit(part: usize, r: &mut Report) {
+    let mut random = Random(0x303 + part as u64);
+    for round in 0..300 {
+        let (format, depth) = KINDS[round % 6];
+        let spans = chain(&mut random, format, depth, 1 + round as u32 % 4);
+        let mut recording: Vec<u16> = spans.iter().flat_map(|span| span.symbols.iter().copied()).collect();
+        let at = random.below(recording.len());
+        recording[at] ^= 1 << random.below(10);
+        r.context = format!("{} sent spans with one bit of symbol {at} inverted", spans.len());
+        let length = shape_of(format).symbols();
+        let others = spans.iter().enumerate().filter(|(i, _)| *i != at / length).map(|(i, span)| (i * length, span));
+        delivers(r, format, depth, &recording, others);
+    }
+}
+
+/// Exactly these spans are delivered at these places, and then none.
+fn delivers<'a>(r: &mut Report, format: u32, depth: u32, recording: &[u16], spans: impl Iterator<Item = (usize, &'a Sent)>) {
+    let samples = shape_of(format).samples();
+    let mut start = 0;
+    for (place, span) in spans {
+        let mut rows = vec![0; samples];
+        let next = brazulint::next(format, depth, recording, start, &mut rows);
+        r.answer(|| format!("the span sent at {place}"), next.result(), Ok(Some((place as u64, span.delivery))));
+        r.holds(|| format!("the span sent at {place} is delivered with other words"), rows == span.rows);
+        start = next.resume;
+    }
+    let next = brazulint::next(format, depth, recording, start, &mut vec![0; samples]);
+    r.answer(|| format!("behind the last span, at {start}"), next.result(), Ok(None));
+}
+
+/// A symbol inserted, lost or with one bit inverted in sent spans, against plain.
+fn one_symbol(part: usize, r: &mut Report) {
+    let mut random = Random(0x404 + part as u64);
+    for round in 0..90 {
+        let (format, depth) = KINDS[round % 6];
+        let spans = chain(&mut random, format, depth, 2);
+        let recording: Vec<u16> = spans.into_iter().flat_map(|span| span.symbols).collect();
+        let change = [inserted, lost, inverted][round / 6 % 3];
+        r.context = format!("two sent spans, change {} of round {round}", round / 6 % 3);
+        calls::deliver(r, format, depth, &change(&mut random, recording));
+    }
+}

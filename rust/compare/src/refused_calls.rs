@@ -1,0 +1,169 @@
+//! Calls that are refused before anything is done, and calls next to them: one thing wrong, and two, so that the order is seen.
+
+use crate::calls;
+use crate::expected;
+use crate::report::{in_two, Report};
+use crate::spans::{any_asked, any_samples, any_sent, shape_of, KINDS};
+use brazulint::raw;
+use chance::Random;
+use plain::recording::LIMIT;
+use plain::span::Asked;
+use std::ptr::{null, null_mut};
+
+const FORMATS: [u32; 9] = [0, 1, 2, 3, 4, 5, 257, 65_537, u32::MAX];
+const DEPTHS: [u32; 10] = [0, 8, 10, 11, 12, 14, 266, 268, 65_546, u32::MAX];
+const LINES: [u32; 10] = [0, 1, 41, 42, 1121, 1122, 1125, 1126, 65_578, u32::MAX];
+const SAMPLES: [usize; 7] = [0, 3839, 3840, 3841, 7679, 7680, 7681];
+const SYMBOLS: [usize; 10] = [0, 7919, 7920, 7921, 9503, 9504, 9505, 19_007, 19_008, 19_009];
+
+pub fn run() -> Report {
+    let mut r = Report::default();
+    formats(&mut r);
+    nulls(&mut r);
+    r.add(in_two(sends));
+    r.add(in_two(samples));
+    r.add(in_two(reads));
+    r.add(in_two(starts));
+    r.add(in_two(long_recordings));
+    r
+}
+
+/// Calls `work` with every second format, with every depth.
+fn each_kind(part: usize, mut work: impl FnMut(u32, u32)) {
+    for format in FORMATS.into_iter().skip(part).step_by(2) {
+        DEPTHS.iter().for_each(|&depth| work(format, depth));
+    }
+}
+
+fn formats(r: &mut Report) {
+    for part in 0..2 {
+        each_kind(part, |format, depth| {
+            calls::lengths(r, format, depth);
+            SAMPLES.iter().for_each(|&room| calls::fill_blanking(r, format, depth, room));
+        });
+    }
+}
+
+/// Every format, depth, line and length; samples that may be sent on the line, or not.
+fn sends(part: usize, r: &mut Report) {
+    let mut random = Random(0x66 + part as u64);
+    let blanking = [0x100; 7681];
+    let zeros = [0; 7681];
+    each_kind(part, |format, depth| {
+        for line in LINES {
+            for count in SAMPLES {
+                let room = random.pick(&SYMBOLS);
+                let other = random.pick(&SYMBOLS);
+                for (given, room) in
+                    [(&blanking, room), (&zeros, room), (&zeros, other), (&blanking, 7920), (&zeros, 9504), (&zeros, 19_008)]
+                {
+                    let positive = random.flip();
+                    let asked = any_asked(&mut random, format, depth, line, positive);
+                    let _ = calls::send(r, asked, &given[..count], room);
+                }
+            }
+        }
+    });
+}
+
+/// Good samples with one or two that are next to what may be sent, or far from it.
+fn samples(part: usize, r: &mut Report) {
+    let mut random = Random(0x77 + part as u64);
+    for (format, depth) in KINDS.into_iter().skip(part).step_by(2) {
+        for line in [1, 41, 42, 600, 1121, 1122, 1125] {
+            let good = any_samples(&mut random, format, depth, line);
+            for value in [0, 3, 4, 15, 16, 0xFF, 0x100, 0x101, 1019, 1020, 4079, 4080, 4095, 4096, 0x1100, 65_535] {
+                let middle = random.below(good.len());
+                for places in [[0, 0], [good.len() - 1; 2], [middle; 2], [middle, 1919], [1920, good.len() - 1]] {
+                    let mut given = good.clone();
+                    places.iter().for_each(|&at| given[at] = value);
+                    let asked = Asked { format, depth, line, positive: random.flip(), content: None };
+                    let _ = calls::send(r, asked, &given, shape_of(format).symbols());
+                }
+            }
+        }
+    }
+}
+
+/// Reading and judging with every length of both buffers; the symbols are noise, zeros or a sent span that is cut.
+fn reads(part: usize, r: &mut Report) {
+    let mut random = Random(0x88 + part as u64);
+    let sent = any_sent(&mut random, 3, 12);
+    let longest = [&sent[..], &[0]].concat();
+    let contents = [longest, random.numbers(19_009, 1024), vec![0; 19_009]];
+    each_kind(part, |format, depth| {
+        for count in SYMBOLS {
+            for content in &contents {
+                calls::judge(r, format, depth, &content[..count]);
+                SAMPLES.iter().for_each(|&room| drop(calls::read(r, format, depth, &content[..count], room)));
+            }
+        }
+    });
+}
+
+/// Starts next to every limit, with each length of the rows.
+fn starts(part: usize, r: &mut Report) {
+    let mut random = Random(0x99 + part as u64);
+    let recordings = [vec![], vec![0x17C], random.numbers(8000, 1024), any_sent(&mut random, 1, 12), any_sent(&mut random, 2, 12)];
+    each_kind(part, |format, depth| {
+        for recording in &recordings {
+            let length = recording.len() as u64;
+            let far = [1 << 16, 1 << 32, (1 << 32) + 1, 1 << 63, u64::MAX - 7920, u64::MAX - 1, u64::MAX];
+            for start in [0, 1, 2, length.saturating_sub(1), length, length + 1, length + 2].into_iter().chain(far) {
+                calls::find(r, format, depth, recording, start);
+                SAMPLES.iter().for_each(|&room| calls::next(r, format, depth, recording, start, room));
+            }
+        }
+    });
+}
+
+/// Recordings of the greatest length and of one symbol more, one with a span at its very end.
+fn long_recordings(part: usize, r: &mut Report) {
+    let mut random = Random(0xAA + part as u64);
+    let (format, depth) = [(1, 12), (3, 10)][part];
+    let span = any_sent(&mut random, format, depth);
+    let samples = shape_of(format).samples();
+    for noise in [false, true] {
+        let mut recording = if noise { random.numbers(LIMIT + 1, 1024) } else { vec![0; LIMIT + 1] };
+        for with_span in [false, true] {
+            if with_span {
+                recording[LIMIT - span.len()..LIMIT].copy_from_slice(&span);
+            }
+            for length in [LIMIT, LIMIT + 1] {
+                for start in [0, length - span.len(), length, length + 1].map(|start| start as u64) {
+                    calls::find(r, format, depth, &recording[..length], start);
+                    calls::next(r, format, depth, &recording[..length], start, samples);
+                    calls::next(r, format, depth, &recording[..length], start, samples + 1);
+                }
+            }
+        }
+    }
+}
+
+/// Where a number of elements is 0 the pointer may be null.
+fn nulls(r: &mut Report) {
+    let (from, to) = (null(), null_mut());
+    let asked = Asked { format: 1, depth: 12, line: 42, positive: false, content: None };
+    // SAFETY: every pointer is null with 0 elements behind it, which the header allows for each of these calls.
+    unsafe {
+        let sent = expected::send(&plain::span::send(asked, &[], 0));
+        r.answer(|| "send of nothing".into(), raw::brazulint_send(1, 12, 42, false, from, 0, to, 0), sent);
+        let named = raw::brazulint_send_named(1, 12, 42, false, Default::default(), from, 0, to, 0);
+        r.answer(|| "send_named of nothing".into(), named, sent);
+        let filled = expected::number(&plain::span::blanking_row(1, 12, 0));
+        r.answer(|| "fill_blanking of nothing".into(), raw::brazulint_fill_blanking(1, 12, to, 0), filled);
+        let read = expected::read(&plain::read::read(1, 12, &[], 0));
+        r.answer(|| "read of nothing".into(), raw::brazulint_read(1, 12, from, 0, to, 0), read);
+        r.answer(|| "judge of nothing".into(), raw::brazulint_judge(1, 12, from, 0), read);
+        let found = expected::find(plain::recording::find(1, 12, &[], 0));
+        r.answer(|| "find in nothing".into(), raw::brazulint_find(1, 12, from, 0, 0), found);
+        let next = expected::next(&plain::recording::next(1, 12, &[], 0, 0), 0, 7920);
+        r.answer(|| "next in nothing".into(), raw::brazulint_next(1, 12, from, 0, 0, to, 0), next);
+        let split = expected::number(&plain::picture::split(&[], [0, 0]));
+        r.answer(|| "split of nothing".into(), raw::brazulint_split(from, 0, to, 0, to, 0), split);
+        let joined = expected::number(&plain::picture::join(&[], &[], 0));
+        r.answer(|| "join of nothing".into(), raw::brazulint_join(from, 0, from, 0, to, 0), joined);
+        let crcc = expected::crcc(plain::words::crcc(&[]));
+        r.answer(|| "crcc of nothing".into(), raw::brazulint_crcc(from, 0), crcc);
+    }
+}

@@ -1,0 +1,102 @@
+//! Spans by chance, as words that can still be changed.
+
+use chance::Random;
+use plain::span::{characters, row_words, shape, symbols, words, Asked, Shape};
+use plain::words::{crcc_of, is_active, nearest, BLANKING};
+
+/// Every format at every depth.
+pub const KINDS: [(u32, u32); 6] = [(1, 10), (1, 12), (2, 10), (2, 12), (3, 10), (3, 12)];
+
+/// The lines at which something changes.
+pub const EDGES: [u32; 8] = [1, 40, 41, 42, 1120, 1121, 1122, 1125];
+
+pub fn shape_of(format: u32) -> Shape {
+    shape(format, 12).expect("a known format")
+}
+
+/// A line: an edge, or any.
+pub fn any_line(random: &mut Random) -> u32 {
+    match random.below(3) {
+        0 => random.pick(&EDGES),
+        _ => random.within(1, 1125),
+    }
+}
+
+pub fn any_content(random: &mut Random) -> [u8; 4] {
+    [(); 4].map(|()| random.next() as u8)
+}
+
+/// Samples that may be sent, the ends of the range often.
+pub fn any_samples(random: &mut Random, format: u32, depth: u32, line: u32) -> Vec<u16> {
+    let count = shape_of(format).samples();
+    if !is_active(line) {
+        return vec![BLANKING; count];
+    }
+    let (low, high) = if depth == 10 { (4, 1019) } else { (16, 4079) };
+    let mut sample = || match random.below(8) {
+        0 => low,
+        1 => high,
+        _ => random.within(low, high),
+    };
+    (0..count).map(|_| sample() as u16).collect()
+}
+
+/// A span as it is sent.
+pub fn any_sent(random: &mut Random, format: u32, depth: u32) -> Vec<u16> {
+    Draft::by_chance(random, format, depth).symbols()
+}
+
+/// The words of a span before they are coded.
+#[derive(Clone)]
+pub struct Draft {
+    pub shape: Shape,
+    pub positive: bool,
+    pub content: [u8; 4],
+    pub words: Vec<u16>,
+}
+
+impl Draft {
+    pub fn of_line(random: &mut Random, format: u32, depth: u32, line: u32) -> Draft {
+        let shape = shape_of(format);
+        let samples = any_samples(random, format, depth, line);
+        let rows = row_words(depth, line, &samples).expect("samples that may be sent");
+        let words = words(shape, line, &rows).expect("a stream line");
+        Draft { shape, positive: random.flip(), content: any_content(random), words }
+    }
+
+    pub fn by_chance(random: &mut Random, format: u32, depth: u32) -> Draft {
+        let line = any_line(random);
+        Draft::of_line(random, format, depth, line)
+    }
+
+    /// Where word k of stream t stands.
+    pub fn at(&self, k: usize, t: usize) -> usize {
+        k * self.shape.streams + t
+    }
+
+    /// Sets the CRCC of every stream to that of its words, the XYZ of the EAV repaired.
+    pub fn mend(&mut self) {
+        for t in 0..self.shape.streams {
+            let mut run: Vec<u16> = (4..1930).map(|k| self.words[self.at(k, t)]).collect();
+            run[1927 - 4] = nearest(run[1927 - 4]).map_or(run[1927 - 4], |r| r.word);
+            for (i, word) in crcc_of(&run).words.into_iter().enumerate() {
+                let at = self.at(1930 + i, t);
+                self.words[at] = word;
+            }
+        }
+    }
+
+    pub fn characters(&self) -> Vec<u16> {
+        characters(self.shape, &self.words, self.content)
+    }
+
+    pub fn symbols(&self) -> Vec<u16> {
+        symbols(self.positive, &self.characters()).0
+    }
+}
+
+/// What is asked of the sender, by chance.
+pub fn any_asked(random: &mut Random, format: u32, depth: u32, line: u32, positive: bool) -> Asked {
+    let content = random.flip().then(|| any_content(random));
+    Asked { format, depth, line, positive, content }
+}

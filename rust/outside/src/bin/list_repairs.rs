@@ -1,0 +1,45 @@
+//! What the program that lists repairs must print, worked out from document 01 and tables 6 and 7 of 004, and compared with what the
+//! program given as the argument prints, for input whole and in small pieces.
+
+use outside::printed::printed;
+use plain::words::{repair, xyz};
+
+/// The bytes that are read of an input.
+const MOST: usize = 65_536;
+
+fn listing(input: &[u8]) -> String {
+    let mut text = String::new();
+    for (index, pair) in input[..input.len().min(MOST)].chunks_exact(2).enumerate() {
+        let word = u16::from_le_bytes([pair[0], pair[1]]);
+        text += &match repair(word.into()) {
+            Ok(near) => format!("{index} {word:04x} {:04x} {}\n", near.word, near.distance),
+            Err(_) => format!("{index} {word:04x} refused\n"),
+        };
+    }
+    text
+}
+
+fn main() {
+    let program = std::env::args().nth(1).expect("a program to compare");
+    let all: Vec<u8> = (0..=65535u16).flat_map(u16::to_le_bytes).collect();
+    let (low, high) = all.split_at(MOST);
+    let legal = [xyz(false, false), xyz(false, true), xyz(true, false), xyz(true, true)];
+    let near: Vec<u8> = legal.iter().flat_map(|word| (0..16).map(move |bit| word ^ 1 << bit)).flat_map(u16::to_le_bytes).collect();
+    let inputs: [(&str, &[u8]); 9] = [
+        ("nothing", &[]),
+        ("one byte", &[1]),
+        ("the paper's example", &[1, 8, 3, 8]),
+        ("an odd last byte", &[1, 8, 3, 8, 0]),
+        ("every word below 8000", low),
+        ("every word from 8000 on", high),
+        ("a byte short of 64 KiB", &low[..MOST - 1]),
+        ("past 64 KiB", &all),
+        ("legal words with each bit inverted", &near),
+    ];
+    for (name, input) in inputs {
+        for piece in [1, 3, 4096, 1 << 20] {
+            assert_eq!(printed(&program, input, piece), listing(input), "{name}, in pieces of {piece}");
+        }
+    }
+    println!("the program lists {} inputs as document 01 says, whole and in pieces", inputs.len());
+}

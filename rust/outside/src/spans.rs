@@ -1,0 +1,42 @@
+//! Spans to read, by chance and as they should be sent (01, "A span" and "Sending").
+
+use chance::Random;
+use plain::span::{characters, symbols, words, Shape, ROW};
+use plain::words::{is_active, BLANKING};
+
+/// The words of all streams, stream by stream, that a line may carry: of all values, or of the ends alone. Chance is asked in the order in
+/// which the words are sent, so that the stored inputs stay what they are.
+fn rows(random: &mut Random, shape: Shape, depth: u32, line: u32) -> Vec<u16> {
+    let ends_alone = random.seldom(4);
+    let mut rows = vec![BLANKING; shape.samples()];
+    if !is_active(line) {
+        return rows;
+    }
+    for (k, t) in (0..ROW).flat_map(|k| (0..shape.streams).map(move |t| (k, t))) {
+        rows[t * ROW + k] = match (depth, ends_alone) {
+            (10, true) => random.pick(&[16, 4076]),
+            (10, false) => (random.within(4, 1019) as u16) << 2,
+            (_, true) => random.pick(&[16, 4079]),
+            (_, false) => random.within(16, 4079) as u16,
+        };
+    }
+    rows
+}
+
+/// The interleaved words of a span of a line.
+pub fn made_words(random: &mut Random, shape: Shape, depth: u32, line: u32) -> Vec<u16> {
+    let rows = rows(random, shape, depth, line);
+    words(shape, line, &rows).expect("a stream line")
+}
+
+/// Its characters, with content bytes by chance.
+pub fn made_characters(random: &mut Random, shape: Shape, words: &[u16]) -> Vec<u16> {
+    let [[sav1, sav2], [eav1, eav2]] = [(); 2].map(|()| (random.next() as u16).to_le_bytes());
+    characters(shape, words, [sav1, sav2, eav1, eav2])
+}
+
+/// Its symbols.
+pub fn sent_symbols(random: &mut Random, shape: Shape, depth: u32, line: u32, positive: bool) -> Vec<u16> {
+    let words = made_words(random, shape, depth, line);
+    symbols(positive, &made_characters(random, shape, &words)).0
+}
