@@ -2,20 +2,19 @@
 -- laws says that a call answers the same for both, and leaves the same in lent memory.
 -- Assumes nothing.
 use mathlib.Core.Path.{_≡_, refl, sym, ap, _∙_}
-use mathlib.Core.Bool.{Bool, true, false, _&&_, cond}
+use mathlib.Core.Bool.{Bool, true, false, cond}
 use mathlib.Core.List.{List}
-use Prim.Native.Nat.{ℕ, _≤_, _<_, min}
+use Prim.Native.Nat.{ℕ, _≤_, min}
 use native.Mathlib.Nat.{min-eq-left, min-eq-right}
 use native.Mathlib.Omega.{arith}
-use lib.Dec.{leb, ltb, eqb}
-use lib.ListN.{length}
-use borrow.Author.Tests.{leb-true, leb-false, le-ltb, lt-leb, le-leb, ne-eqb}
-use Rattle.ground.specs.Answer.{Answer, refused, given}
+use lib.Dec.{leb, eqb}
+use borrow.Author.Tests.{leb-true, leb-false, le-ltb, lt-leb, ne-eqb}
+use Rattle.ground.specs.Answer.{refused}
 use Rattle.ground.specs.Range.{within}
 use Rattle.ground.proofs.Cases.{on-test}
-use Rattle.ground.proofs.Ranges.{is-above, not-within}
+use Rattle.ground.proofs.Ranges.{is-above}
 use Rattle.symbol.specs.declared.disparity.Disparity.{Disparity}
-use Rattle.decoder.specs.Decode.{After, decodeOf}
+use Rattle.decoder.specs.Decode.{decodeOf}
 use Rattle.line.specs.Stream.{isLine, isActive}
 use Rattle.word.specs.LineNumber.{numberedOf, namedOf}
 use Rattle.word.specs.Repair.{repairOf}

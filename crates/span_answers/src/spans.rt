@@ -5,7 +5,6 @@ use span::content::ContentBytes;
 use span::length::Lengths;
 use window::delivery::Delivery;
 ghost use mathlib.Core.Path.{_≡_};
-ghost use mathlib.Core.Bool.{Bool};
 ghost use Rattle.ground.specs.Answer.{refused};
 ghost use Rattle.span.specs.Length.{paperLengths};
 ghost use Rattle.send.specs.Send.{paperSent};
