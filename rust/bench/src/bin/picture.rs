@@ -64,6 +64,7 @@ fn measure(label: &str, rows: usize, times: usize, turns: usize) {
 }
 
 fn main() {
+    println!("dividing and joining");
     measure("one row, again and again", 1, 64, 2_000);
     measure("a whole picture", 2160, 1, 100);
 }

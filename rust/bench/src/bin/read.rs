@@ -60,5 +60,6 @@ fn measure(tables: &Tables, case: &Case) {
 
 fn main() {
     let tables = tables();
+    println!("reading");
     CASES.iter().for_each(|case| measure(&tables, case));
 }

@@ -70,5 +70,6 @@ fn measure(tables: &Tables, case: &Case) {
 
 fn main() {
     let tables = tables();
+    println!("sending");
     CASES.iter().for_each(|case| measure(&tables, case));
 }

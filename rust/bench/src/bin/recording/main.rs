@@ -123,6 +123,7 @@ fn measure_delivery(format: u32) {
 }
 
 fn main() {
+    println!("finding and delivering");
     measure_noise();
     measure_growth();
     [1, 2, 3].into_iter().for_each(measure_delivery);
