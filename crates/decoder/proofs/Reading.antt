@@ -3,7 +3,7 @@
 use mathlib.Core.Path.{_≡_, refl, sym, ap, _∙_}
 use mathlib.Core.Bool.{Bool, true, false, cond, true≢false}
 use mathlib.Core.Option.{Option, none, some, Option·none-ne-some, Option·some-injective}
-use Prim.Native.Nat.{ℕ, _*_, _/_, _%_, _≤_, _<_}
+use Prim.Native.Nat.{ℕ, _+_, _*_, _/_, _%_, _≤_, _<_}
 use native.Mathlib.Omega.{arith}
 use lib.Dec.{eqb, ltb}
 use borrow.Author.Tests.{lt-ltb, ltb-true, ltb-false, ne-eqb}
@@ -116,6 +116,56 @@ pub after-is : (d : Disparity) (s c : ℕ) → charOf d s ≡ some c → entryAf
 after-is d s c e =
     let q : entryOf s / 2048 % 2 ≡ bit (turns c) = omega (arith, turn-is d s c e, bit-below (turns c)) in
     ap (λ (t : Bool). turnedIf t d) (ap (λ (x : ℕ). eqb x 1) q ∙ bit-is (turns c)) ∙ sym (turns-both d c (decoded-below d s c e))
+
+-- its bit 13 is set where the character is a byte, and no higher bit is
+record Flagged (e : ℕ) : Type 0 where
+  fits : e < 16384
+  byte : e / 8192 % 2 ≡ 1 → e / 256 % 2 ≡ 0
+  flag : e % 512 < 256 → (e ≡ 0 → ⊥) → e / 8192 % 2 ≡ 1
+
+flagged-some : (c : ℕ) → c < 512 → (n p : Bool) → Flagged (entryFrom (some c) n p)
+flagged-some c h n p = on-test (ltb c 256) yes-byte no-byte
+  where
+    small : c + 512 * bit n + 1024 * bit p + 6144 * bit (turns c) < 8192
+    small = omega (arith, bit-below n, bit-below p, bit-below (turns c))
+
+    yes-byte : ltb c 256 ≡ true → Flagged (entryFrom (some c) n p)
+    yes-byte t =
+        let l : c < 256 = ltb-true c 256 t in
+        rw t
+        (record {
+          fits = omega (arith, small);
+          byte = λ _. omega (arith, bit-below n, bit-below p, bit-below (turns c));
+          flag = λ _ _. omega (arith, small);
+        })
+
+    no-byte : ltb c 256 ≡ false → Flagged (entryFrom (some c) n p)
+    no-byte t =
+        let l : 256 ≤ c = ltb-false c 256 t in
+        rw t
+        (record {
+          fits = omega (arith, small);
+          byte = λ z. absurd (omega (arith, small));
+          flag = λ z _. absurd (omega (arith, bit-below n, bit-below p, bit-below (turns c)));
+        })
+
+flagged : (s : ℕ) → Flagged (entryOf s)
+unfolding entryOf
+flagged s = go (charOf Negative s) refl (charOf Positive s) refl
+  where
+    below : (d : Disparity) (c : ℕ) → charOf d s ≡ some c → c < 512
+    below d c e = omega (arith, decoded-below d s c e)
+
+    go : (n : Option ℕ) → charOf Negative s ≡ n → (p : Option ℕ) → charOf Positive s ≡ p → Flagged (entryGiving n p)
+    go (some c) e p f = flagged-some c (below Negative c e) true (isSome p)
+    go none e (some c) f = flagged-some c (below Positive c f) false true
+    go none e none f = record { fits = omega arith; byte = λ z. absurd (omega arith); flag = λ _ x. absurd (x refl) }
+
+pub entry-fits : (s : ℕ) → entryOf s < 16384
+entry-fits s = flagged s .fits
+
+pub flag-byte : (s : ℕ) → entryOf s / 8192 % 2 ≡ 1 → entryOf s / 256 % 2 ≡ 0
+flag-byte s = flagged s .byte
 
 -- So the entry of a symbol says what decoding answers, and what the symbol means.
 pub decode-entry : (d : Disparity) (s : ℕ) → s < 1024 → decodedBy d (entryOf s) ≡ decodeOf d s

@@ -18,10 +18,10 @@ use Rattle.symbol.specs.Disparity.{turnedIf}
 use Rattle.decoder.specs.Meaning.{Means, meantBy}
 
 -- an entry: the character's number in bits 0 to 8, bit 9 where it is legal at negative disparity, bit 10 at positive, and bits 11 and 12
--- where it turns the disparity; 0 for no symbol
+-- where it turns the disparity, and bit 13 where it is a byte; 0 for no symbol
 abbrev pub entryFrom : Option ℕ → Bool → Bool → ℕ
 entryFrom none n p = 0
-entryFrom (some c) n p = c + 512 * bit n + 1024 * bit p + 6144 * bit (turns c)
+entryFrom (some c) n p = c + 512 * bit n + 1024 * bit p + 6144 * bit (turns c) + 8192 * bit (ltb c 256)
 
 unfoldable pub entryOf : ℕ → ℕ
 entryOf s = entryFrom (meantBy s) (isSome (charOf Negative s)) (isSome (charOf Positive s))

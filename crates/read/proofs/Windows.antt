@@ -18,7 +18,7 @@ use Rattle.span.specs.Format.{isKnown, shapeOf, streams, samplesIn, symbolsIn, 
 use Rattle.span.proofs.Formats.{small}
 use Rattle.span.proofs.Lengths.{known-has-streams}
 use Rattle.rows.specs.Fill.{fillRight, fillIf}
-use Rattle.rows.specs.Picture.{sumsIf, rowsIf}
+use Rattle.rows.specs.Picture.{sumsOf, sumsIf, rowsIf}
 use Rattle.judge.specs.declared.service.Verdict.{Verdict}
 use Rattle.judge.specs.Call.{place25, place26, serviceIf, placeIf, lineIf, repairsIf}
 use Rattle.judge.specs.Verdict.{firstRow}
@@ -29,7 +29,7 @@ use Rattle.window.specs.declared.delivery.Delivery.{Delivery}
 use Rattle.window.specs.declared.sums.Sums.{Sums}
 use Rattle.window.specs.Read.{wordTests, contentIn, deliveryOf, pictureOf, readSpan, judgeOf, readOf, rowsLeft, rowsRead}
 use Rattle.window.specs.Scan.{byteOf, symbolAt, startOf, runningAt, holds20}
-use Rattle.window.specs.Tests.{lineRead, repairs}
+use Rattle.window.specs.Tests.{lineRead, repairs, rows as rowsOf}
 use Rattle.window.specs.Words.{wordAt}
 use Rattle.read.specs.Window.{IsWindow}
 use Rattle.read.proofs.Picturing.{length-rows}
@@ -47,12 +47,18 @@ module _ (f : Format) (w : List ℕ) (is : IsWindow f w) where
   pub rows-are : {l : List ℕ} (entry : List ℕ) → length entry ≡ samplesIn (shapeOf f) → l ≡ rowsIf f w entry → l ≡ pictureOf f w
   rows-are entry n e = e ∙ rw (is .known, long, eq-eqb (length entry) (samplesIn (shapeOf f)) n)
 
-  pub service-is : {r : Verdict} {c : Sums} (n : ℕ) → n ≡ samplesIn (shapeOf f) → c ≡ sumsIf f w n → r ≡ serviceIf f w c
-      → r ≡ firstRow (take 4 (wordTests f word))
-  service-is n e sums answer =
+  pub is-picture : {l : List ℕ} → l ≡ rowsOf (streams (shapeOf f)) word → l ≡ pictureOf f w
+  unfolding pictureOf
+  is-picture e = e
+
+  pub sums-are : {c : Sums} (n : ℕ) → n ≡ samplesIn (shapeOf f) → c ≡ sumsIf f w n → c ≡ sumsOf (shapeOf f) w
+  sums-are n e sums = sums ∙ rw (is .known, long, eq-eqb n (samplesIn (shapeOf f)) e)
+
+  pub service-is : {r : Verdict} {c : Sums} → c ≡ sumsOf (shapeOf f) w → r ≡ serviceIf f w c → r ≡ firstRow (take 4 (wordTests f word))
+  service-is sums answer =
       let p = shapeOf f in
       answer
-      ∙ rw (sums, is .known, long, eq-eqb n (samplesIn p) e)
+      ∙ rw (sums, is .known, long)
       (ap firstRow (sums-right p w (known-has-streams f (is .known)) (small f refl .half) f refl))
 
   pub line-is : lineIf f w ≡ lineRead (streams (shapeOf f)) word

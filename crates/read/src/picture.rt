@@ -3,7 +3,9 @@ use judge::service::Verdict;
 use line::stream::StreamLine;
 use span::format::Format;
 ghost use mathlib.Core.Path.{_≡_};
+ghost use mathlib.Core.Bool.{true};
 ghost use Rattle.judge.specs.Verdict.{firstRow};
+ghost use Rattle.rows.specs.Fill.{fillRight};
 ghost use Rattle.span.specs.Format.{shapeOf, streams};
 ghost use Rattle.window.specs.Read.{pictureOf};
 ghost use Rattle.window.specs.Tests.{lineRead};
@@ -20,15 +22,34 @@ fn picture_is_right(f: Format, line: StreamLine, rows: &[u16]) -> bool
     true
 }
 
+// Whether no fill word is other than 100, which may be known already.
+fn fill_is_right(f: Format, symbols: &[u16], filled: bool) -> bool
+    requires { ⌜ IsWindow f (now symbols) ⌝ }
+    requires { ⌜ (filled ≡ true → fillRight (shapeOf f) (now symbols) ≡ true) ⌝ }
+    ensures { λ r. ⌜ r ≡ fillRight (shapeOf f) (now (symbols .entry)) ⌝ }
+{
+    if filled {
+        return true;
+    }
+    rows::fill::fill_is_right(f, symbols)
+}
+
 // The first of the two that does not hold.
-pub(crate) fn judge_picture(f: Format, symbols: &[u16], line: StreamLine, rows: &[u16]) -> Verdict
+pub(crate) fn judge_picture(
+    f: Format,
+    symbols: &[u16],
+    line: StreamLine,
+    filled: bool,
+    rows: &[u16],
+) -> Verdict
     requires { ⌜ IsWindow f (now symbols) ⌝ }
     requires { ⌜ line .0 ≡ lineRead (streams (shapeOf f)) (wordAt (shapeOf f) (now symbols)) ⌝ }
+    requires { ⌜ (filled ≡ true → fillRight (shapeOf f) (now symbols) ≡ true) ⌝ }
     requires { ⌜ now rows ≡ pictureOf f (now symbols) ⌝ }
     ensures { λ r. ⌜ r ≡ firstRow (pictureTests f (now (symbols .entry))) ⌝ }
 {
     if picture_is_right(f, line, rows) {
-        if rows::fill::fill_is_right(f, symbols) {
+        if fill_is_right(f, symbols, filled) {
             return Verdict {
                 number: 0,
                 place: 0,

@@ -4,9 +4,15 @@ use judge::service::Verdict;
 use line::stream::StreamLine;
 use scan::scan::Scanned;
 use span::format::Format;
+use window::sums::Sums;
 ghost use mathlib.Core.Path.{_≡_};
+ghost use mathlib.Core.Bool.{true};
+ghost use Prim.Native.Nat.{ℕ};
+ghost use mathlib.Core.List.{List};
 ghost use lib.ListN.{length};
 ghost use Rattle.judge.specs.Verdict.{firstRow};
+ghost use Rattle.rows.specs.Fill.{fillRight};
+ghost use Rattle.rows.specs.Picture.{sumsOf};
 ghost use Rattle.scan.specs.Run.{scannedOf};
 ghost use Rattle.span.specs.Format.{shapeOf, streams, samplesIn};
 ghost use Rattle.window.specs.Read.{wordTests, pictureOf, readSpan, judgeOf, readOf, rowsLeft, rowsRead};
@@ -15,38 +21,92 @@ ghost use Rattle.window.specs.Words.{wordAt};
 ghost use Rattle.read.specs.Call.{paperRead};
 ghost use Rattle.read.specs.Window.{IsWindow};
 
-// Tests 21 to 26 of a window, whose picture goes into rows.
-fn judge_words(f: Format, symbols: &[u16], line: StreamLine, rows: &mut [u16]) -> Verdict
+// Tests 21 to 26 of a window, whose picture is in rows and leaves these sums.
+fn judge_words(
+    f: Format,
+    symbols: &[u16],
+    line: StreamLine,
+    c: Sums,
+    filled: bool,
+    rows: &[u16],
+) -> Verdict
     requires { ⌜ IsWindow f (now symbols) ⌝ }
     requires { ⌜ line .0 ≡ lineRead (streams (shapeOf f)) (wordAt (shapeOf f) (now symbols)) ⌝ }
-    requires { ⌜ length (now rows) ≡ samplesIn (shapeOf f) ⌝ }
-    ensures verdict { λ r. ⌜ r ≡ firstRow (wordTests f (wordAt (shapeOf f) (now (symbols .entry)))) ⌝ }
-    ensures rows { λ _. ⌜ now (rows .exit) ≡ pictureOf f (now (symbols .entry)) ⌝ }
+    requires { ⌜ c ≡ sumsOf (shapeOf f) (now symbols) ⌝ }
+    requires { ⌜ (filled ≡ true → fillRight (shapeOf f) (now symbols) ≡ true) ⌝ }
+    requires { ⌜ now rows ≡ pictureOf f (now symbols) ⌝ }
+    ensures { λ r. ⌜ r ≡ firstRow (wordTests f (wordAt (shapeOf f) (now (symbols .entry)))) ⌝ }
 {
-    let c = rows::picture::take_picture(f, symbols, rows);
     let service = judge::call::judge_service(f, symbols, c);
     if service.number != 0 {
         return service;
     }
-    crate::picture::judge_picture(f, symbols, line, rows)
+    crate::picture::judge_picture(f, symbols, line, filled, rows)
 }
 
-// A window for which test 20 holds: what it delivers, and its rows, which are zero where another test does not hold.
-fn read_words(f: Format, symbols: &[u16], scanned: Scanned, rows: &mut [u16]) -> Read
+// A window for which test 20 holds, whose picture is in rows: what it delivers, and its rows, which are zero where another test does not hold.
+fn read_words(
+    f: Format,
+    symbols: &[u16],
+    scanned: Scanned,
+    c: Sums,
+    filled: bool,
+    rows: &mut [u16],
+) -> Read
     requires { ⌜ IsWindow f (now symbols) ⌝ }
-    requires { ⌜ length (now rows) ≡ samplesIn (shapeOf f) ⌝ }
     requires { ⌜ scanned ≡ scannedOf (shapeOf f) (now symbols) ⌝ }
     requires { ⌜ scanned .place ≡ length (now symbols) ⌝ }
+    requires { ⌜ c ≡ sumsOf (shapeOf f) (now symbols) ⌝ }
+    requires { ⌜ (filled ≡ true → fillRight (shapeOf f) (now symbols) ≡ true) ⌝ }
+    requires { ⌜ now rows ≡ pictureOf f (now symbols) ⌝ }
     ensures answer { λ r. ⌜ paperRead r ≡ readSpan f (now (symbols .entry)) ⌝ }
-    ensures rows { λ _. ⌜ now (rows .exit) ≡ rowsLeft (readSpan f (now (symbols .entry))) (now (rows .entry)) (pictureOf f (now (symbols .entry))) ⌝ }
+    ensures rows { λ _. ⌜ ((room : List ℕ) → length room ≡ length (now (rows .entry)) → now (rows .exit) ≡ rowsLeft (readSpan f (now (symbols .entry))) room (pictureOf f (now (symbols .entry)))) ⌝ }
 {
     let line = judge::call::line_read(f, symbols);
-    let verdict = judge_words(f, symbols, line, rows);
+    let verdict = judge_words(f, symbols, line, c, filled, rows);
     if verdict.number != 0 {
         ground::fill::fill(rows, 0);
         return crate::answer::refusal(verdict.number, verdict.place);
     }
     Read::Delivered(crate::delivery::delivery(f, symbols, scanned, line))
+}
+
+// A window that one pass does not take for whole: test 20 first, for its place, and the picture behind it.
+fn read_by_steps(f: Format, symbols: &[u16], rows: &mut [u16]) -> Read
+    requires { ⌜ IsWindow f (now symbols) ⌝ }
+    requires { ⌜ length (now rows) ≡ samplesIn (shapeOf f) ⌝ }
+    ensures answer { λ r. ⌜ paperRead r ≡ readSpan f (now (symbols .entry)) ⌝ }
+    ensures rows { λ _. ⌜ ((room : List ℕ) → length room ≡ length (now (rows .entry)) → now (rows .exit) ≡ rowsLeft (readSpan f (now (symbols .entry))) room (pictureOf f (now (symbols .entry)))) ⌝ }
+{
+    let scanned = scan::scan::scan(f, symbols);
+    if scanned.place < symbols.len() {
+        ground::fill::fill(rows, 0);
+        return Read::WrongSymbol(scanned.place);
+    }
+    let c = rows::picture::take_picture(f, symbols, rows);
+    read_words(f, symbols, scanned, c, false, rows)
+}
+
+// A window, into rows of its format's length.
+fn read_window(f: Format, symbols: &[u16], rows: &mut [u16]) -> Read
+    requires { ⌜ IsWindow f (now symbols) ⌝ }
+    requires { ⌜ length (now rows) ≡ samplesIn (shapeOf f) ⌝ }
+    ensures answer { λ r. ⌜ paperRead r ≡ readSpan f (now (symbols .entry)) ⌝ }
+    ensures rows { λ _. ⌜ now (rows .exit) ≡ rowsLeft (readSpan f (now (symbols .entry))) (now (rows .entry)) (pictureOf f (now (symbols .entry))) ⌝ }
+{
+    let taken = one_pass::whole::take(f, symbols, rows);
+    if taken.whole {
+        let before = taken.before;
+        let after = taken.after;
+        let c = taken.sums;
+        let scanned = Scanned {
+            place: symbols.len(),
+            before,
+            after,
+        };
+        return read_words(f, symbols, scanned, c, taken.filled, rows);
+    }
+    read_by_steps(f, symbols, rows)
 }
 
 // Reads exactly one span, into s x 1920 words stream by stream.
@@ -62,17 +122,12 @@ pub fn read(f: Format, symbols: &[u16], rows: &mut [u16]) -> Read
         if rows.len() != lengths.samples {
             return Read::WrongOutput;
         }
-        let scanned = scan::scan::scan(f, symbols);
-        if scanned.place < symbols.len() {
-            ground::fill::fill(rows, 0);
-            return Read::WrongSymbol(scanned.place);
-        }
-        return read_words(f, symbols, scanned, rows);
+        return read_window(f, symbols, rows);
     }
     Read::UnknownFormat
 }
 
-// Judges exactly one span: what reading it would answer. The picture goes into rows of its own, and those only where test 20 holds.
+// Judges exactly one span: what reading it would answer. The picture goes into rows of its own.
 pub fn judge(f: Format, symbols: &[u16]) -> Read
     ensures { λ r. ⌜ paperRead r ≡ judgeOf f (now (symbols .entry)) ⌝ }
 {
@@ -81,13 +136,9 @@ pub fn judge(f: Format, symbols: &[u16]) -> Read
         if symbols.len() != lengths.symbols {
             return Read::WrongInput;
         }
-        let scanned = scan::scan::scan(f, symbols);
-        if scanned.place < symbols.len() {
-            return Read::WrongSymbol(scanned.place);
-        }
         let mut rows = [0u16; 7680];
         let n = lengths.samples;
-        return read_words(f, symbols, scanned, &mut rows[..n]);
+        return read_window(f, symbols, &mut rows[..n]);
     }
     Read::UnknownFormat
 }

@@ -47,6 +47,19 @@ module _ {A B : ℕ → ℕ} {count low high : ℕ} {old : List ℕ} where
         ap (λ (l : List ℕ). length l) (t .put)
         ∙ length-sets (sets old low (table j A)) high (table j B) ∙ length-sets old low (table j A)
 
+    -- a store before both rows is one into what they are put into
+    pub under : (k x : ℕ) → k < low → Taken A B count low high (set old k x) j a b (set rows k x)
+    under k x h =
+        record {
+          some = t .some;
+          apart = t .apart;
+          sum-a = t .sum-a;
+          sum-b = t .sum-b;
+          put =
+              let before : k < high = omega (arith, t .apart) in
+              rw (t .put, store-before (table j B) (sets old low (table j A)) k high x before, store-before (table j A) old k low x h);
+        }
+
     pub turn : {c d x y i k : ℕ} → j < count → i ≡ low + j → k ≡ high + j → x ≡ A j → y ≡ B j → c ≡ crcWord a x → d ≡ crcWord b y
         → Taken A B count low high old (j + 1) c d (set (set rows i x) k y)
     turn {c} {d} {x} {y} {i} {k} h ei ek ex ey ec ed =

@@ -3,7 +3,7 @@ use span::format::Format;
 ghost use mathlib.Core.Path.{_≡_};
 ghost use Rattle.rows.specs.Given.{ready};
 
-pub(crate) fn is_ready(f: Format, symbols: usize, rows: usize) -> bool
+pub fn is_ready(f: Format, symbols: usize, rows: usize) -> bool
     ensures { λ r. ⌜ r ≡ ready f symbols rows ⌝ }
 {
     if span::format::is_known(f) {

@@ -1,5 +1,5 @@
 // The picture words of a window, and its fill.
 pub mod fill;
-mod fit;
+pub mod fit;
 pub mod picture;
 mod words;

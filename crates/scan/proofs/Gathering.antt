@@ -33,7 +33,7 @@ or-left a b z = omega (arith, or-add-and a b, and-le-r a b)
 pub or-right : (a b : ℕ) → bitOr a b ≡ 0 → b ≡ 0
 or-right a b z = omega (arith, or-add-and a b, and-le-l a b)
 
-xor-none : (a b : ℕ) → bitXor a b ≡ 0 → a ≡ b
+pub xor-none : (a b : ℕ) → bitXor a b ≡ 0 → a ≡ b
 xor-none a b z = omega (arith, xor-add-and a b, and-le-l a b, and-le-r a b)
 
 -- bit 8
@@ -47,7 +47,7 @@ special-or : (a b : ℕ) → special (bitOr a b) ≡ bitOr (special a) (special 
 special-or a b = ap (λ (x : ℕ). x % 2) (or-shr a b 8) ∙ or-mod (a / 256) (b / 256) 1
 
 -- an entry that has the bit of a disparity and is no special character's suits as a byte
-suits-byte : (d : Disparity) (e : ℕ) → bitAnd e (maskOf d) ≡ maskOf d → special e ≡ 0 → suitsBy 0 255 (maskOf d) e ≡ true
+pub suits-byte : (d : Disparity) (e : ℕ) → bitAnd e (maskOf d) ≡ maskOf d → special e ≡ 0 → suitsBy 0 255 (maskOf d) e ≡ true
 unfolding legalBy
 suits-byte d e has none = ap₂ _&&_ (ap not (ne-eqb _ 0 (λ z. positive d (sym has ∙ z)))) (is-within 0 255 (e % 512) (omega arith) (omega arith))
   where
@@ -90,18 +90,19 @@ module _ (w : List ℕ) where
         suited = λ j h l. on-test (ltb j mid) (λ t. a .suited j h (ltb-true j mid t)) (λ t. b .suited j (ltb-false j mid t) l);
       }
 
-  -- ---- two blanking words
+  -- ---- a character that is known
 
-  module _ {from i : ℕ} (d : Disparity) (c : ℕ) (small : c < 256) (flat : afterOf d c ≡ d) where
-    -- a byte that does not turn the disparity
-    flat-turn : Going w 0 255 from i (maskOf d) → symbolAt w i ≡ symbolOf d c → Going w 0 255 from (i + 1) (maskOf d)
-    unfolding suits
-    flat-turn g is =
-        let same : runningAt w i ≡ d = sym (mask-again (runningAt w i)) ∙ ap ofMask (sym (g .bit)) ∙ mask-again d in
-        let legal : charOf d (symbolOf d c) ≡ some c = decode-encode d c (omega arith) in
-        let means : meant (symbolOf d c) ≡ c = meant-of d c (omega arith) in
-        let next : runningAt w (i + 1) ≡ d = ap (runningAt w) (add-one i) ∙ running-on w i ∙ rw (same, is, means) flat in
-        further w 0 255 g (rw (same, is, legal, means) (is-within 0 255 c (omega arith) (omega arith))) (ap maskOf (sym next))
+  pub char-turn : (low high : ℕ) {from i : ℕ} (d : Disparity) (c : ℕ) → c < 268 → low ≤ c → c ≤ high → Going w low high from i (maskOf d)
+      → symbolAt w i ≡ symbolOf d c → Going w low high from (i + 1) (maskOf (afterOf d c))
+  unfolding suits
+  char-turn low high {from} {i} d c small above below g is =
+      let same : runningAt w i ≡ d = sym (mask-again (runningAt w i)) ∙ ap ofMask (sym (g .bit)) ∙ mask-again d in
+      let legal : charOf d (symbolOf d c) ≡ some c = decode-encode d c (omega arith) in
+      let means : meant (symbolOf d c) ≡ c = meant-of d c (omega arith) in
+      let next : runningAt w (i + 1) ≡ afterOf d c = ap (runningAt w) (add-one i) ∙ running-on w i ∙ rw (same, is, means) refl in
+      further w low high g (rw (same, is, legal, means) (is-within low high c above below)) (ap maskOf (sym next))
+
+  -- ---- two blanking words
 
   -- none of the three does
   blank-flat : (d : Disparity) → (afterOf d 0x00 ≡ d) × (afterOf d 0x01 ≡ d) × (afterOf d 0x10 ≡ d)
@@ -114,8 +115,9 @@ module _ (w : List ℕ) where
       → Going w 0 255 from (i + 1 + 1 + 1) (maskOf d)
   three d g x y z =
       let flat = blank-flat d in
-      flat-turn d 0x10 (omega arith) (flat .2)
-      (flat-turn d 0x01 (omega arith) (flat .1) (flat-turn d 0x00 (omega arith) (flat .0) g x) y) z
+      let first = rw (flat .0) at (char-turn 0 255 d 0x00 (omega arith) (omega arith) (omega arith) g x) in
+      let second = rw (flat .1) at (char-turn 0 255 d 0x01 (omega arith) (omega arith) (omega arith) first y) in
+      rw (flat .2) at (char-turn 0 255 d 0x10 (omega arith) (omega arith) (omega arith) second z)
 
   pub blank-turn : {from i mask : ℕ} → Going w 0 255 from i mask
       → symbolAt w i ≡ blankBy mask .first → symbolAt w (i + 1) ≡ blankBy mask .second → symbolAt w (i + 2) ≡ blankBy mask .third

@@ -24,7 +24,7 @@ use Rattle.span.specs.Format.{eavAt}
 use Rattle.window.specs.Scan.{meant, symbolAt, startOf, runningAt, fits, holds20}
 use Rattle.window.proofs.Symbols.{fits-sav, fits-eav, fits-byte}
 use Rattle.scan.specs.declared.run.Run.{Run}
-use Rattle.scan.specs.Run.{suits, stop, ranOn, place20, scannedOf}
+use Rattle.scan.specs.Run.{suits, stop, ranOn, Going, place20, scannedOf}
 
 -- ---- the kinds of characters as ranges of numbers
 
@@ -174,3 +174,33 @@ module _ (p : Shape) (w : List ℕ) where
   pub scanned-is : (r : Run) → Ran (length w) r
       → record { place = r .place; before = startOf w; after = ofMask (r .mask) } ≡ scannedOf p w
   scanned-is r a = rw (a .bit, mask-again (runningAt w (r .place)), place-is r a)
+
+  -- a window in which every symbol suits where it stands
+  pub all-suit : {m1 m2 m3 m4 : ℕ} → Going w 261 261 0 2 m1 → Going w 0 255 2 (eavAt p) m2 → Going w 266 266 (eavAt p) (eavAt p + 2) m3
+      → Going w 0 255 (eavAt p + 2) (length w) m4 → record { place = length w; before = startOf w; after = ofMask m4 } ≡ scannedOf p w
+  all-suit {m1} {m2} {m3} {m4} a b d e =
+      scanned-is (record { place = length w; mask = m4 })
+      (record { within-to = omega arith; bit = e .bit; held = held; failed = λ h. absurd (omega arith) })
+    where
+      sav : (j : ℕ) → j < 2 → holds20 p w j ≡ true
+      sav j l = same-test 261 261 0 2 (λ i h m c. kind-sav p i c m) j (omega arith) l ∙ a .suited j (omega arith) l
+
+      picture : (j : ℕ) → 2 ≤ j → j < eavAt p → holds20 p w j ≡ true
+      picture j h l = same-test 0 255 2 (eavAt p) (λ i n m c. kind-byte p i c n (λ q. absurd (omega arith))) j h l ∙ b .suited j h l
+
+      eav : (j : ℕ) → eavAt p ≤ j → j < eavAt p + 2 → holds20 p w j ≡ true
+      eav j h l =
+          same-test 266 266 (eavAt p) (eavAt p + 2) (λ i n m c. kind-eav p i c (omega (arith, b .come)) n m) j h l ∙ d .suited j h l
+
+      rest : (j : ℕ) → eavAt p + 2 ≤ j → j < length w → holds20 p w j ≡ true
+      rest j h l =
+          same-test 0 255 (eavAt p + 2) (length w) (λ i n m c. kind-byte p i c (omega arith) (λ _. n)) j h l ∙ e .suited j h l
+
+      held : (j : ℕ) → j < length w → holds20 p w j ≡ true
+      held j l =
+          on-test (ltb j 2) (λ t. sav j (ltb-true j 2 t))
+          (λ t.
+          on-test (ltb j (eavAt p)) (λ u. picture j (ltb-false j 2 t) (ltb-true j (eavAt p) u))
+          (λ u.
+          on-test (ltb j (eavAt p + 2)) (λ v. eav j (ltb-false j (eavAt p) u) (ltb-true j (eavAt p + 2) v))
+          (λ v. rest j (ltb-false j (eavAt p + 2) v) l)))

@@ -1,20 +1,20 @@
 -- `read::read::read` meets its contract.
 -- Assumes nothing.
-use mathlib.Core.Path.{_≡_, refl, sym, ap, _∙_}
-use Prim.Native.Nat.{ℕ, _<_}
+use mathlib.Core.Path.{_≡_, sym, ap, _∙_}
 use native.Mathlib.Omega.{arith}
 use lib.ListN.{length}
-use Rattle.ground.specs.Answer.{refused}
-use Rattle.scan.specs.declared.scan.Scanned.{Scanned}
-use Rattle.scan.specs.Run.{place20}
+use borrow.Author.Needs.{needs}
 use Rattle.span.specs.declared.length.SpanLengths.{SpanLengths}
 use Rattle.span.specs.Format.{shapeOf, samplesIn, symbolsIn}
-use Rattle.window.specs.Read.{pictureOf}
 use Rattle.read.specs.Window.{IsWindow}
-use Rattle.read.proofs.Windows.{unknown, no-window, no-room, read-is, read-20, rows-zero, rows-kept, rows-read, place-most}
-use borrow.Author.Needs.{needs}
+use Rattle.read.proofs.Windows.{unknown, no-window, no-room, read-is, rows-kept, rows-read}
 use Rattle.read.proofs.read.read.Statement.{statement}
 use Rattle.read.proofs.read.read.Tie as tie
+use Rattle.read.proofs.read.read.Reads as reads
+use Rattle.read.proofs.read.read.Lts as lts
+use Rattle.read.proofs.read.read_window.Reads as read-window-reads
+use Rattle.span.proofs.format.is_known.Reads as is-known-reads
+use Rattle.span.proofs.length.span_lengths.Reads as span-lengths-reads
 
 is-known-requires : tie.Need-is-known-requires
 is-known-requires c κs = search needs
@@ -23,7 +23,7 @@ span-lengths-requires : tie.Need-span-lengths-requires
 span-lengths-requires c κs = search needs
 
 returns : tie.Need-returns
-returns c =
+returns c = 
     let a = c .before .before .before .before .before .before .before .args in
     let w = a .symbols .now in
     let lengths = c .before .before .span-lengths .ensures in
@@ -33,7 +33,7 @@ returns c =
     (sym e, rows-kept (a .f) w (a .rows .now) e (omega arith))
 
 returns-2 : tie.Need-returns-2
-returns-2 c =
+returns-2 c = 
     let a = c .before .before .before .before .before .before .before .before .before .args in
     let w = a .symbols .now in
     let lengths = c .before .before .before .before .span-lengths .ensures in
@@ -45,36 +45,24 @@ returns-2 c =
     let e = no-room (a .f) w is (length (a .rows .now)) (λ q. c .if3 .taken (q ∙ sym m)) in
     (sym e, rows-kept (a .f) w (a .rows .now) e (omega arith))
 
-scan-requires : tie.Need-scan-requires
-scan-requires c κs = search needs
-
-fill-requires : tie.Need-fill-requires
-fill-requires c κs = search needs
+read-window-requires : tie.Need-read-window-requires
+read-window-requires c κs = 
+    let a = c .before .before .before .before .before .before .before .before .before .before .args in
+    let w = a .symbols .now in
+    let lengths = c .before .before .before .before .before .span-lengths .ensures in
+    let known = sym (c .before .before .before .before .before .before .before .is-known .ensures) ∙ c .before .before .before .before .before .before .if1 .taken in
+    let n = ap (λ (l : SpanLengths). l .symbols) lengths in
+    let long : length w ≡ symbolsIn (shapeOf (a .f)) = omega (arith, n, c .before .before .before .if2 .left) in
+    let is : IsWindow (a .f) w = record { known = known; long = long } in
+    let m = ap (λ (l : SpanLengths). l .samples) lengths in
+    let room : length (a .rows .now) ≡ samplesIn (shapeOf (a .f)) = omega (arith, m, c .before .if3 .left) in
+    (is, room)
 
 same-length : tie.Need-same-length
 same-length c = search needs
 
 returns-3 : tie.Need-returns-3
-returns-3 c =
-    let a = c .before .before .before .before .before .before .before .before .before .before .before .before .before .before .before .before .args in
-    let w = a .symbols .now in
-    let lengths = c .before .before .before .before .before .before .before .before .before .before .before .span-lengths .ensures in
-    let known = sym (c .before .before .before .before .before .before .before .before .before .before .before .before .before .is-known .ensures) ∙ c .before .before .before .before .before .before .before .before .before .before .before .before .if1 .taken in
-    let n = ap (λ (l : SpanLengths). l .symbols) lengths in
-    let long : length w ≡ symbolsIn (shapeOf (a .f)) = omega (arith, n, c .before .before .before .before .before .before .before .before .before .if2 .left) in
-    let is : IsWindow (a .f) w = record { known = known; long = long } in
-    let m = ap (λ (l : SpanLengths). l .samples) lengths in
-    let room : length (a .rows .now) ≡ samplesIn (shapeOf (a .f)) = omega (arith, m, c .before .before .before .before .before .before .before .if3 .left) in
-    let at = ap (λ (s : Scanned). s .place) (c .before .before .before .before .before .before .scan .ensures) in
-    let h : place20 (shapeOf (a .f)) w < length w = omega (arith, at, c .before .before .before .before .if4 .taken) in
-    let e = read-20 (a .f) w is h in (
-      ap (λ (k : ℕ). refused 20 k) at ∙ sym (read-is (a .f) w is (length (a .rows .now)) room ∙ e),
-      rows-zero (a .f) w (a .rows .now) (pictureOf (a .f) w) e (length (a .rows .now)) (omega arith) refl (c .before .before .fill .ensures)
-          ∙ rows-read (a .f) w is (a .rows .now) room,
-    )
-
-read-words-requires : tie.Need-read-words-requires
-read-words-requires c κs =
+returns-3 c = 
     let a = c .before .before .before .before .before .before .before .before .before .before .before .before .before .args in
     let w = a .symbols .now in
     let lengths = c .before .before .before .before .before .before .before .before .span-lengths .ensures in
@@ -84,29 +72,11 @@ read-words-requires c κs =
     let is : IsWindow (a .f) w = record { known = known; long = long } in
     let m = ap (λ (l : SpanLengths). l .samples) lengths in
     let room : length (a .rows .now) ≡ samplesIn (shapeOf (a .f)) = omega (arith, m, c .before .before .before .before .if3 .left) in
-    let at = ap (λ (s : Scanned). s .place) (c .before .before .before .scan .ensures) in
-    let all : c .before .before .before .scan .result .place ≡ length w = omega (arith, place-most (shapeOf (a .f)) w, at, c .before .if4 .left) in
-    (is, (room, (c .before .before .before .scan .ensures, all)))
-
-same-length-2 : tie.Need-same-length-2
-same-length-2 c = search needs
-
-returns-4 : tie.Need-returns-4
-returns-4 c =
-    let a = c .before .before .before .before .before .before .before .before .before .before .before .before .before .before .before .before .args in
-    let w = a .symbols .now in
-    let lengths = c .before .before .before .before .before .before .before .before .before .before .before .span-lengths .ensures in
-    let known = sym (c .before .before .before .before .before .before .before .before .before .before .before .before .before .is-known .ensures) ∙ c .before .before .before .before .before .before .before .before .before .before .before .before .if1 .taken in
-    let n = ap (λ (l : SpanLengths). l .symbols) lengths in
-    let long : length w ≡ symbolsIn (shapeOf (a .f)) = omega (arith, n, c .before .before .before .before .before .before .before .before .before .if2 .left) in
-    let is : IsWindow (a .f) w = record { known = known; long = long } in
-    let m = ap (λ (l : SpanLengths). l .samples) lengths in
-    let room : length (a .rows .now) ≡ samplesIn (shapeOf (a .f)) = omega (arith, m, c .before .before .before .before .before .before .before .if3 .left) in
-    let read = c .before .before .read-words .ensures in
+    let read = c .before .before .read-window .ensures in
     (read .0 ∙ sym (read-is (a .f) w is (length (a .rows .now)) room), read .1 ∙ rows-read (a .f) w is (a .rows .now) room)
 
-returns-5 : tie.Need-returns-5
-returns-5 c =
+returns-4 : tie.Need-returns-4
+returns-4 c = 
     let a = c .before .before .before .before .args in
     let w = a .symbols .now in
     let e = unknown (a .f) w (length (a .rows .now)) (sym (c .before .is-known .ensures) ∙ c .if1 .left) .0 in
@@ -120,11 +90,7 @@ read-spec =
     span-lengths-requires
     returns
     returns-2
-    scan-requires
-    fill-requires
+    read-window-requires
     same-length
     returns-3
-    read-words-requires
-    same-length-2
-    returns-4
-    returns-5)
+    returns-4)

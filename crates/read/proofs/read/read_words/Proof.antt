@@ -3,7 +3,7 @@
 use mathlib.Core.Path.{_≡_, refl, sym, ap, _∙_}
 use Prim.Native.Nat.{_≤_}
 use native.Mathlib.Omega.{arith}
-use lib.ListN.{length}
+use borrow.Author.Needs.{needs}
 use Rattle.ground.specs.Answer.{Answer, given}
 use Rattle.judge.specs.declared.service.Verdict.{Verdict}
 use Rattle.span.specs.Format.{shapeOf}
@@ -11,28 +11,33 @@ use Rattle.window.specs.declared.delivery.Delivery.{Delivery}
 use Rattle.window.specs.Read.{pictureOf, wordTests, rowsLeft}
 use Rattle.window.specs.Words.{wordAt}
 use Rattle.read.proofs.Verdicts.{in-range}
-use Rattle.read.proofs.Windows.{line-is, length-picture, read-refused, read-given, rows-zero, held-20, delivery-is}
-use borrow.Author.Needs.{needs}
+use Rattle.read.proofs.Windows.{line-is, read-refused, read-given, rows-zero, held-20, delivery-is}
 use Rattle.read.proofs.read.read_words.Statement.{statement}
 use Rattle.read.proofs.read.read_words.Tie as tie
+use Rattle.read.proofs.read.read_words.Reads as reads
+use Rattle.read.proofs.read.read_words.Lts as lts
+use Rattle.ground.proofs.fill.fill.Reads as fill-reads
+use Rattle.judge.proofs.call.line_read.Reads as line-read-reads
+use Rattle.read.proofs.answer.refusal.Reads as refusal-reads
+use Rattle.read.proofs.delivery.delivery.Reads as delivery-reads
+use Rattle.read.proofs.read.judge_words.Reads as judge-words-reads
 
 line-read-requires : tie.Need-line-read-requires
 line-read-requires c κs = search needs
 
 judge-words-requires : tie.Need-judge-words-requires
-judge-words-requires c κs =
+judge-words-requires c κs = 
     let s = c .before .before .before .before in
     let a = s .args in
-    (s .pre .0, (c .before .line-read .ensures ∙ line-is (a .f) (a .symbols .now) (s .pre .0), s .pre .1 .0))
+    (s .pre .0, (c .before .line-read .ensures ∙ line-is (a .f) (a .symbols .now) (s .pre .0), (s .pre .1 .1 .1 .0, (s .pre .1 .1 .1 .1 .0, s .pre .1 .1 .1 .1 .1))))
 
 fill-requires : tie.Need-fill-requires
 fill-requires c κs = search needs
 
 refusal-requires : tie.Need-refusal-requires
-refusal-requires c κs =
-    let s = c .before .before .before .before .before .before .before .before .before .before .before .before .before in
-    let a = s .args in
-    let judged = c .before .before .before .before .before .before .before .before .judge-words .ensures .0 in
+refusal-requires c κs = 
+    let a = c .before .before .before .before .before .before .before .before .before .before .before .args in
+    let judged = c .before .before .before .before .before .before .judge-words .ensures in
     let bounds =
     in-range 21 26 (wordTests (a .f) (wordAt (shapeOf (a .f)) (a .symbols .now))) refl
     (λ z. c .before .before .before .before .if1 .taken (ap (λ (v : Verdict). v .number) judged ∙ z)) in
@@ -42,22 +47,20 @@ same-length : tie.Need-same-length
 same-length c = search needs
 
 returns : tie.Need-returns
-returns c =
-    let s = c .before .before .before .before .before .before .before .before .before .before .before .before .before .before in
+returns c = 
+    let s = c .before .before .before .before .before .before .before .before .before .before .before .before in
     let a = s .args in
     let is = s .pre .0 in
-    let line = c .before .before .before .before .before .before .before .before .before .before .before .line-read .ensures ∙ line-is (a .f) (a .symbols .now) is in
-    let all = held-20 (a .f) (a .symbols .now) is _ (s .pre .1 .1 .0) (s .pre .1 .1 .1) _ line in
-    let judged = c .before .before .before .before .before .before .before .before .before .judge-words .ensures in
+    let line = c .before .before .before .before .before .before .before .before .before .line-read .ensures ∙ line-is (a .f) (a .symbols .now) is in
+    let all = held-20 (a .f) (a .symbols .now) is _ (s .pre .1 .0) (s .pre .1 .1 .0) _ line in
+    let judged = c .before .before .before .before .before .before .before .judge-words .ensures in
     let met = c .before .before .before .before .before .if1 .taken in
-    let tests = wordTests (a .f) (wordAt (shapeOf (a .f)) (a .symbols .now)) in
-    let number = ap (λ (v : Verdict). v .number) (judged .0) in
-    let bounds = in-range 21 26 tests refl (λ z. met (number ∙ z)) in
-    let refusal = read-refused (a .f) (a .symbols .now) is all (judged .0) met in
-    let size = ap length (judged .1) ∙ length-picture (a .f) (a .symbols .now) is ∙ sym (s .pre .1 .0) in
-    let late : 20 ≤ c .before .before .before .before .before .before .before .before .before .judge-words .result .number = rw number (omega (arith, bounds .0)) in (
+    let number = ap (λ (v : Verdict). v .number) judged in
+    let bounds = in-range 21 26 (wordTests (a .f) (wordAt (shapeOf (a .f)) (a .symbols .now))) refl (λ z. met (number ∙ z)) in
+    let refusal = read-refused (a .f) (a .symbols .now) is all judged met in
+    let late : 20 ≤ c .before .before .before .before .before .before .before .judge-words .result .number = rw number (omega (arith, bounds .0)) in (
       c .refusal .ensures ∙ sym refusal,
-      rows-zero (a .f) (a .symbols .now) (a .rows .now) (pictureOf (a .f) (a .symbols .now)) refusal _ late size (c .before .before .before .fill .ensures),
+      λ room e. rows-zero (a .f) (a .symbols .now) room (pictureOf (a .f) (a .symbols .now)) refusal _ late (sym e) (c .before .before .before .fill .ensures),
     )
 
 delivery-requires : tie.Need-delivery-requires
@@ -67,18 +70,19 @@ same-length-2 : tie.Need-same-length-2
 same-length-2 c = search needs
 
 returns-2 : tie.Need-returns-2
-returns-2 c =
-    let s = c .before .before .before .before .before .before .before .before .before .before in
+returns-2 c = 
+    let s = c .before .before .before .before .before .before .before .before in
     let a = s .args in
     let is = s .pre .0 in
-    let line = c .before .before .before .before .before .before .before .line-read .ensures ∙ line-is (a .f) (a .symbols .now) is in
-    let all = held-20 (a .f) (a .symbols .now) is _ (s .pre .1 .1 .0) (s .pre .1 .1 .1) _ line in
-    let judged = c .before .before .before .before .before .judge-words .ensures in
-    let none-met : c .before .before .before .before .before .judge-words .result .number ≡ 0 = omega (arith, c .before .if1 .left) in
-    let read = read-given (a .f) (a .symbols .now) is all (judged .0) none-met in
-    let values = delivery-is (a .f) (a .symbols .now) is _ (s .pre .1 .1 .0) (s .pre .1 .1 .1) _ line in (
+    let line = c .before .before .before .before .before .line-read .ensures ∙ line-is (a .f) (a .symbols .now) is in
+    let all = held-20 (a .f) (a .symbols .now) is _ (s .pre .1 .0) (s .pre .1 .1 .0) _ line in
+    let none-met : c .before .before .before .judge-words .result .number ≡ 0 = omega (arith, c .before .if1 .left) in
+    let read = read-given (a .f) (a .symbols .now) is all (c .before .before .before .judge-words .ensures) none-met in
+    let values = delivery-is (a .f) (a .symbols .now) is _ (s .pre .1 .0) (s .pre .1 .1 .0) _ line in (
       ap given (c .delivery .ensures ∙ values) ∙ sym read,
-      judged .1 ∙ ap (λ (r : Answer Delivery). rowsLeft r (a .rows .now) (pictureOf (a .f) (a .symbols .now))) (sym read),
+      λ room _.
+      s .pre .1 .1 .1 .1 .1
+      ∙ ap (λ (r : Answer Delivery). rowsLeft r room (pictureOf (a .f) (a .symbols .now))) (sym read),
     )
 
 pub read-words-spec : {M : Type 1} → statement M

@@ -1,0 +1,133 @@
+-- The picture words taken so far: one word more of each stream, and all of them.
+-- Assumes nothing.
+use mathlib.Core.Path.{_≡_, refl, sym, ap, _∙_}
+use mathlib.Core.List.{List}
+use Prim.Native.Nat.{ℕ, _+_, _*_, _≤_, _<_}
+use native.Mathlib.Omega.{arith}
+use lib.Dec.{eqb}
+use lib.ListN.{length, set}
+use borrow.Author.Tests.{eqb-true, eqb-false}
+use Rattle.ground.specs.Written.{table}
+use Rattle.ground.proofs.Cases.{on-test}
+use Rattle.ground.proofs.Writing.{table-same}
+use Rattle.crcc.specs.Crcc.{crc}
+use Rattle.packing.specs.declared.bytes.TwoWords.{TwoWords}
+use Rattle.rows.specs.Given.{plainPair}
+use Rattle.rows.specs.Picture.{columnOf, putTwo, sumsOf}
+use Rattle.rows.proofs.Plain.{Behind, in-pair, stream-a, stream-b}
+use Rattle.rows.proofs.Streams.{rows-of-two, rows-of-four}
+use Rattle.rows.proofs.Taking.{Taken, begin, turn, under}
+use Rattle.span.specs.declared.format.Shape.{Shape}
+use Rattle.span.specs.Format.{streams, samplesIn}
+use Rattle.window.specs.Tests.{rows as rowsOf}
+use Rattle.window.specs.Words.{wordAt}
+use Rattle.one_pass.specs.declared.picture.Passed.{Passed}
+use Rattle.one_pass.specs.Picture.{pairIn, placeTwo, rowsTwo, placeFour, rowsFour, Got}
+use Rattle.one_pass.specs.See.{Clean}
+use Rattle.one_pass.proofs.Seeing.{three-turn}
+
+-- where a pair stands
+pair-at : (w : List ℕ) (j half u o : ℕ) → o ≡ 3 * (half * (4 + j) + u) → plainPair w o ≡ pairIn half w u j
+pair-at w j half u o e = ap (plainPair w) e
+
+module _ (w : List ℕ) {old : List ℕ} {j : ℕ} {v : Passed} {rows : List ℕ} (h : j < 1920) where
+  pub got-two : Got 1 w old j v rows → Got 1 w old (j + 1) (placeTwo w j v) (rowsTwo w j rows)
+  got-two g =
+      let at : 12 + 3 * j ≡ 3 * (1 * (4 + j) + 0) = omega arith in
+      let pair = pair-at w j 1 0 (12 + 3 * j) at in
+      let low = rw (sym (g .two refl .0)) at (g .low) in
+      let end : 12 + 3 * j + 3 ≡ 12 * 1 + 3 * 1 * (j + 1) = omega arith in
+      record {
+        clean = rw end at (three-turn w (g .clean));
+        low-rows = rowsTwo w j rows;
+        low =
+            turn low h (omega arith) (omega arith) (ap (λ (x : TwoWords). x .a) pair) (ap (λ (x : TwoWords). x .b) pair) refl refl;
+        two = λ _. (refl, g .two refl .1, g .two refl .2);
+        four = λ e. absurd (omega arith);
+      }
+
+  pub got-four : Got 2 w old j v rows → Got 2 w old (j + 1) (placeFour w j v) (rowsFour w j rows)
+  got-four g =
+      let first : 24 + 6 * j ≡ 3 * (2 * (4 + j) + 0) = omega arith in
+      let second : 27 + 6 * j ≡ 3 * (2 * (4 + j) + 1) = omega arith in
+      let low = pair-at w j 2 0 (24 + 6 * j) first in
+      let high = pair-at w j 2 1 (27 + 6 * j) second in
+      let x = plainPair w (24 + 6 * j) in
+      let mid : 24 + 6 * j + 3 ≡ 27 + 6 * j = omega arith in
+      let end : 27 + 6 * j + 3 ≡ 12 * 2 + 3 * 2 * (j + 1) = omega arith in
+      record {
+        clean = rw end at (three-turn w (rw mid at (three-turn w (g .clean))));
+        low-rows = set (set (g .low-rows) j (x .a)) (1920 + j) (x .b);
+        low = turn (g .low) h (omega arith) (omega arith) (ap (λ (y : TwoWords). y .a) low) (ap (λ (y : TwoWords). y .b) low) refl refl;
+        two = λ e. absurd (omega arith);
+        four =
+            λ _.
+            turn (under (under (g .four refl) j (x .a) (omega arith)) (1920 + j) (x .b) (omega arith)) h (omega arith) (omega arith) (ap (λ (y : TwoWords). y .a) high)
+            (ap (λ (y : TwoWords). y .b) high) refl refl;
+      }
+
+-- at the beginning nothing is
+pub got-begin : (half turns : ℕ) (w old : List ℕ) → Clean w (12 * half) (12 * half) 65535 turns
+    → Got half w old 0 (record { good = 65535; turns = turns; first = 0; second = 0; third = 0; fourth = 0 }) old
+got-begin half turns w old g =
+    let at : 12 * half ≡ 12 * half + 3 * half * 0 = omega arith in
+    record {
+      clean = rw (← at) g;
+      low-rows = old;
+      low = begin (omega arith) refl refl refl;
+      two = λ _. (refl, refl, refl);
+      four = λ _. begin (omega arith) refl refl refl;
+    }
+
+-- ---- all of them
+
+module _ (p : Shape) (w : List ℕ) where
+  -- the words of streams 2u and 2u + 1 are those of the window
+  module _ (u : ℕ) (h : u < p .half) where
+    plain : (i : ℕ) → i < 1920 → Behind p (p .half * (4 + i) + u)
+    plain i l = in-pair p (4 + i) u h (omega arith) (λ z. absurd (omega arith))
+
+    pub first-column : table 1920 (λ i. pairIn (p .half) w u i .a) ≡ columnOf p w 4 1920 (2 * u)
+    first-column = table-same 1920 _ _ (λ i l. stream-a p w (4 + i) u refl (plain i l))
+
+    pub second-column : table 1920 (λ i. pairIn (p .half) w u i .b) ≡ columnOf p w 4 1920 (2 * u + 1)
+    second-column = table-same 1920 _ _ (λ i l. stream-b p w (4 + i) u refl (plain i l))
+
+    pub put-columns : {old rows : List ℕ} {low high a b : ℕ}
+        → Taken (λ i. pairIn (p .half) w u i .a) (λ i. pairIn (p .half) w u i .b) 1920 low high old 1920 a b rows
+        → low ≡ 2 * u * 1920 → high ≡ 2 * u * 1920 + 1920 → rows ≡ putTwo p w u 4 1920 old
+    put-columns t l k = t .put ∙ rw (first-column, second-column, l, k)
+
+  module _ {old rows : List ℕ} {v : Passed} (small : p .half ≤ 2) (some : 1 ≤ p .half) (long : length old ≡ samplesIn p)
+      (g : Got (p .half) w old 1920 v rows) where
+    low-rows-are : g .low-rows ≡ putTwo p w 0 4 1920 old
+    low-rows-are = put-columns 0 (omega arith) (g .low) refl refl
+
+    pub picture-is : rows ≡ rowsOf (streams p) (wordAt p w)
+    picture-is =
+        on-test (eqb (p .half) 1)
+        (λ t.
+        let one = eqb-true (p .half) 1 t in
+        g .two one .0 ∙ rows-of-two p w old long low-rows-are one)
+        (λ t.
+        let two : p .half ≡ 2 = omega (arith, eqb-false (p .half) 1 t) in
+        rows-of-four p w old long low-rows-are two (put-columns 1 (omega arith) (g .four two) refl refl))
+
+    first-is : v .first ≡ crc 0 (columnOf p w 4 1920 0)
+    first-is = g .low .sum-a ∙ ap (crc 0) (first-column 0 (omega arith))
+
+    second-is : v .second ≡ crc 0 (columnOf p w 4 1920 1)
+    second-is = g .low .sum-b ∙ ap (crc 0) (second-column 0 (omega arith))
+
+    pub sums-are : record { first = v .first; second = v .second; third = v .third; fourth = v .fourth } ≡ sumsOf p w
+    sums-are =
+        on-test (eqb (p .half) 1)
+        (λ t.
+        let none = g .two (eqb-true (p .half) 1 t) in
+        rw (t, first-is, second-is, none .1, none .2))
+        (λ t.
+        let two : p .half ≡ 2 = omega (arith, eqb-false (p .half) 1 t) in
+        let high = g .four two in
+        let third : v .third ≡ crc 0 (columnOf p w 4 1920 2) = high .sum-a ∙ ap (crc 0) (first-column 1 (omega arith)) in
+        let fourth : v .fourth ≡ crc 0 (columnOf p w 4 1920 3) = high .sum-b ∙ ap (crc 0) (second-column 1 (omega arith)) in
+        rw (t, first-is, second-is, third, fourth))

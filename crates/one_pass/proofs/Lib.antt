@@ -1,0 +1,4 @@
+pub mod Blanks
+pub mod Getting
+pub mod Seeing
+pub mod Wholes

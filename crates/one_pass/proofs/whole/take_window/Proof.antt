@@ -1,0 +1,126 @@
+-- `one_pass::whole::take_window` meets its contract.
+-- Assumes nothing.
+use mathlib.Core.Path.{refl, sym, _∙_}
+use mathlib.Core.Bool.{true≢false}
+use native.Mathlib.Omega.{arith}
+use borrow.Author.Needs.{needs}
+use borrow.Author.Tests.{not-false}
+use Rattle.one_pass.specs.Whole.{Tied}
+use Rattle.one_pass.proofs.Getting.{picture-is, sums-are}
+use Rattle.one_pass.proofs.Wholes.{tied, goes-on, scanned-whole}
+use Rattle.one_pass.proofs.whole.take_window.Statement.{statement}
+use Rattle.one_pass.proofs.whole.take_window.Tie as tie
+use Rattle.one_pass.proofs.whole.take_window.Reads as reads
+use Rattle.one_pass.proofs.whole.take_window.Lts as lts
+use Rattle.one_pass.proofs.picture.take_picture.Reads as take-picture-reads
+use Rattle.one_pass.proofs.see.passes.Reads as passes-reads
+use Rattle.one_pass.proofs.see.see_run.Reads as see-run-reads
+use Rattle.one_pass.proofs.whole.behind_sav.Reads as behind-sav-reads
+use Rattle.one_pass.proofs.whole.disparity_by.Reads as disparity-by-reads
+use Rattle.one_pass.proofs.whole.end_of.Reads as end-of-reads
+use Rattle.one_pass.proofs.whole.nothing.Reads as nothing-reads
+
+behind-sav-requires : tie.Need-behind-sav-requires
+behind-sav-requires c κs = search needs
+
+nothing-requires : tie.Need-nothing-requires
+nothing-requires c κs = search needs
+
+returns : tie.Need-returns
+returns c = (c .before .before .before .before .before .pre .1 .1, (λ t. absurd (true≢false (sym t ∙ c .nothing .ensures .0)), λ t. absurd (true≢false (sym t ∙ c .nothing .ensures .1))))
+
+mul-see-run : tie.Need-mul-see-run
+mul-see-run c = search needs
+
+see-run-requires : tie.Need-see-run-requires
+see-run-requires c κs = 
+    let s = c .before .before .before .before .before in
+    let w = s .args .symbols .now in
+    let sav = c .before .before .behind-sav .ensures (c .before .if1 .left) in
+    let tie : Tied w 2 _ = record { fits = sav .fits; bit = sav .going .bit } in
+    (s .pre .0 .table, (s .pre .1 .0, (omega (arith, s .pre .0 .half), (omega (arith, s .pre .0 .long), goes-on (s .args .p) w tie))))
+
+passes-requires : tie.Need-passes-requires
+passes-requires c κs = search needs
+
+nothing-requires-2 : tie.Need-nothing-requires-2
+nothing-requires-2 c κs = search needs
+
+returns-2 : tie.Need-returns-2
+returns-2 c = (c .before .before .before .before .before .before .before .before .before .pre .1 .1, (λ t. absurd (true≢false (sym t ∙ c .nothing2 .ensures .0)), λ t. absurd (true≢false (sym t ∙ c .nothing2 .ensures .1))))
+
+take-picture-requires : tie.Need-take-picture-requires
+take-picture-requires c κs = 
+    let s = c .before .before .before .before .before .before .before .before .before in
+    let w = s .args .symbols .now in
+    let right = sym (c .before .before .passes .ensures) ∙ not-false _ (c .before .if2 .left) in
+    let bytes = goes-on (s .args .p) w (tied (s .args .p) w (c .before .before .before .see-run .ensures) right refl) in
+    (s .pre .0 .table, (s .pre .1 .0, (s .pre .0 .half, (s .pre .0 .small .half, (omega (arith, s .pre .0 .long), (omega (arith, s .pre .1 .1), bytes))))))
+
+passes-requires-2 : tie.Need-passes-requires-2
+passes-requires-2 c κs = search needs
+
+nothing-requires-3 : tie.Need-nothing-requires-3
+nothing-requires-3 c κs = search needs
+
+same-length : tie.Need-same-length
+same-length c = search needs
+
+returns-3 : tie.Need-returns-3
+returns-3 c = (omega (arith, c .before .before .before .before .before .take-picture .ensures .0), (λ t. absurd (true≢false (sym t ∙ c .nothing3 .ensures .0)), λ t. absurd (true≢false (sym t ∙ c .nothing3 .ensures .1))))
+
+end-of-requires : tie.Need-end-of-requires
+end-of-requires c κs = 
+    let s = c .before .before .before .before .before .before .before .before .before .before .before .before .before .before in
+    let rights = sym (c .before .passes2 .ensures) ∙ not-false _ (c .if3 .left) in
+    let got = c .before .before .before .before .take-picture .ensures .1 rights in
+    (s .pre .0, (s .pre .1 .0, tied (s .args .p) (s .args .symbols .now) (got .clean) rights (omega arith)))
+
+disparity-by-requires : tie.Need-disparity-by-requires
+disparity-by-requires c κs = search needs
+
+disparity-by-requires-2 : tie.Need-disparity-by-requires-2
+disparity-by-requires-2 c κs = search needs
+
+same-length-2 : tie.Need-same-length-2
+same-length-2 c = search needs
+
+returns-4 : tie.Need-returns-4
+returns-4 c = 
+    let s = c .before .before .before .before .before .before .before .before .before .before .before .before .before .before .before .before .before in
+    let w = s .args .symbols .now in
+    let right = sym (c .before .before .before .before .before .before .before .before .before .before .passes .ensures) ∙ not-false _ (c .before .before .before .before .before .before .before .before .before .if2 .left) in
+    let rights = sym (c .before .before .before .before .passes2 .ensures) ∙ not-false _ (c .before .before .before .if3 .left) in
+    let got = c .before .before .before .before .before .before .before .take-picture .ensures .1 rights in
+    let e = c .before .before .end-of .ensures in (
+      omega (arith, c .before .before .before .before .before .before .before .take-picture .ensures .0),
+      (λ t.
+      record {
+        scanned = rw (c .before .disparity-by .ensures, c .disparity-by2 .ensures) (scanned-whole (s .args .p) w (c .before .before .before .before .before .before .before .before .before .before .before .before .before .before .behind-sav .ensures (c .before .before .before .before .before .before .before .before .before .before .before .before .before .if1 .left)) (c .before .before .before .before .before .before .before .before .before .before .before .see-run .ensures) right (got .clean) rights (e .0 t));
+        sums = sums-are (s .args .p) w (s .pre .0 .small .half) (s .pre .0 .half) (s .pre .1 .1) got;
+        picture = picture-is (s .args .p) w (s .pre .0 .small .half) (s .pre .0 .half) (s .pre .1 .1) got;
+      }, e .1),
+    )
+
+pub take-window-spec : {M : Type 1} → statement M
+take-window-spec =
+    tie.close
+    (tie.spec
+    behind-sav-requires
+    nothing-requires
+    returns
+    mul-see-run
+    see-run-requires
+    passes-requires
+    nothing-requires-2
+    returns-2
+    take-picture-requires
+    passes-requires-2
+    nothing-requires-3
+    same-length
+    returns-3
+    end-of-requires
+    disparity-by-requires
+    disparity-by-requires-2
+    same-length-2
+    returns-4)

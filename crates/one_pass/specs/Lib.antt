@@ -1,0 +1,4 @@
+pub mod Blank
+pub mod Picture
+pub mod See
+pub mod Whole

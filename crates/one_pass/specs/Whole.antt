@@ -1,0 +1,42 @@
+-- What the parts of one pass say of a window, and what all of it says.
+-- Assumes nothing.
+use mathlib.Core.Path.{_≡_}
+use Prim.Native.Nat.{ℕ, _+_, _*_, _<_}
+use mathlib.Core.List.{List}
+use lib.ListN.{length}
+use Rattle.mask.specs.Mask.{maskOf, ofMask}
+use Rattle.rows.specs.Picture.{sumsOf}
+use Rattle.scan.specs.Run.{Going, scannedOf}
+use Rattle.span.specs.declared.format.Shape.{Shape}
+use Rattle.span.specs.Format.{streams}
+use Rattle.window.specs.Scan.{startOf, runningAt}
+use Rattle.window.specs.Tests.{rows as rowsOf}
+use Rattle.window.specs.Words.{wordAt}
+use Rattle.one_pass.specs.declared.whole.Taken.{Taken}
+use Rattle.one_pass.specs.See.{maskBy}
+
+-- what is gathered before symbol i tells the running disparity there
+pub record Tied (w : List ℕ) (i turns : ℕ) : Type 0 where
+  pub fits : turns < 16384
+  pub bit : maskBy turns ≡ maskOf (runningAt w i)
+
+-- K28.5 twice at the beginning
+pub record Begun (w : List ℕ) (turns : ℕ) : Type 0 where
+  pub fits : turns < 16384
+  pub start : startOf w ≡ ofMask (maskBy turns)
+  pub going : Going w 261 261 0 2 (maskBy turns)
+
+-- K29.7 twice
+pub record Stays (w : List ℕ) (at turns : ℕ) : Type 0 where
+  pub going : maskBy turns ≡ maskOf (runningAt w at) → Going w 266 266 at (at + 2) (maskBy turns)
+
+-- all that stands behind the picture
+pub record Ending (p : Shape) (w : List ℕ) (turns after : ℕ) : Type 0 where
+  pub eav : Going w 266 266 (5772 * p .half) (5772 * p .half + 2) (maskBy turns)
+  pub bytes : Going w 0 255 (5772 * p .half + 2) (length w) (maskBy after)
+
+-- a window for which test 20 holds: its disparities, the CRC of each stream over its picture words, and these words stream by stream
+pub record Wholly (p : Shape) (w : List ℕ) (r : Taken) (rows : List ℕ) : Type 0 where
+  pub scanned : record { place = length w; before = r .before; after = r .after } ≡ scannedOf p w
+  pub sums : r .sums ≡ sumsOf p w
+  pub picture : rows ≡ rowsOf (streams p) (wordAt p w)

@@ -1,0 +1,220 @@
+// A window whose symbols are all as they should be (document 01, refusal 20): its rows, the CRC of each stream, and its disparities. Where
+// anything is not, it says so and no more; what it is, is looked for elsewhere.
+use span::format::Format;
+use span::format::Shape;
+use symbol::disparity::Disparity;
+use window::sums::Sums;
+ghost use mathlib.Core.Path.{_≡_};
+ghost use mathlib.Core.Bool.{true, false};
+ghost use Prim.Native.Nat.{_+_, _*_, _≤_};
+ghost use lib.ListN.{length};
+ghost use Rattle.mask.specs.Mask.{ofMask};
+ghost use Rattle.rows.specs.Fill.{fillRight};
+ghost use Rattle.rows.specs.Given.{Given};
+ghost use Rattle.scan.specs.Run.{Going};
+ghost use Rattle.span.specs.Format.{shapeOf, samplesIn};
+ghost use Rattle.one_pass.specs.See.{TenBits, maskBy};
+ghost use Rattle.one_pass.specs.Whole.{Begun, Stays, Tied, Ending, Wholly};
+
+pub struct Taken {
+    // Whether the window is as it should be: then all that follows is right, and the rows are.
+    pub whole: bool,
+    // Whether no fill word is other than 100; where this is false, nothing is known.
+    pub filled: bool,
+    // The disparity before the window, and after it.
+    pub before: Disparity,
+    pub after: Disparity,
+    // The CRC of each stream over its picture words.
+    pub sums: Sums,
+}
+
+// Whether each symbol has ten bits. Each is looked at, so that the loop takes many at a time.
+fn are_ten_bits(symbols: &[u16]) -> bool
+    ensures { λ r. ⌜ (r ≡ true → TenBits (now (symbols .entry))) ⌝ }
+{
+    let mut all = 0;
+    let mut i = 0;
+    while i < symbols.len() {
+        all = all | symbols[i];
+        i += 1;
+    }
+    all < 1024
+}
+
+// The disparity at which `turns` has been gathered.
+fn disparity_by(turns: u32) -> Disparity
+    ensures { λ r. ⌜ r ≡ ofMask (maskBy turns) ⌝ }
+{
+    if turns / 2048 % 4 == 2 {
+        return Disparity::Negative;
+    }
+    Disparity::Positive
+}
+
+// K28.5 twice: what is gathered behind it; 0 where something else stands there.
+fn behind_sav(symbols: &[u16]) -> u32
+    requires { ⌜ 2 ≤ length (now symbols) ⌝ }
+    ensures { λ r. ⌜ ((r ≡ 0 → ⊥) → Begun (now (symbols .entry)) r) ⌝ }
+{
+    if symbols[0] == 0x17C {
+        if symbols[1] == 0x283 {
+            return 4096;
+        }
+        return 0;
+    }
+    if symbols[0] == 0x283 {
+        if symbols[1] == 0x17C {
+            return 2048;
+        }
+    }
+    0
+}
+
+// Whether K29.7 stands twice from a place on, at the disparity at which `turns` has been gathered, which it does not turn.
+fn is_eav(symbols: &[u16], at: usize, turns: u32) -> bool
+    requires { ⌜ at + 2 ≤ length (now symbols) ⌝ }
+    ensures { λ r. ⌜ (r ≡ true → Stays (now (symbols .entry)) at turns) ⌝ }
+{
+    if turns / 2048 % 4 == 2 {
+        if symbols[at] == 0x05D {
+            return symbols[at + 1] == 0x05D;
+        }
+        return false;
+    }
+    if symbols[at] == 0x3A2 {
+        return symbols[at + 1] == 0x3A2;
+    }
+    false
+}
+
+// What stands behind the picture: whether it is as it should be, whether the fill is known to be, and what is gathered behind it.
+struct Ended {
+    whole: bool,
+    filled: bool,
+    turns: u32,
+}
+
+// The ancillary area and the fill: mostly blanking words, else any bytes.
+fn tail_of(t: &[u16; 1024], p: Shape, symbols: &[u16], turns: u32) -> Ended
+    requires { ⌜ Given p (now t) (now symbols) ⌝ }
+    requires { ⌜ TenBits (now symbols) ⌝ }
+    requires { ⌜ Tied (now symbols) (5796 * p .half) turns ⌝ }
+    ensures whole { λ r. ⌜ (r .whole ≡ true → Going (now (symbols .entry)) 0 255 (5796 * p .half) (length (now (symbols .entry))) (maskBy (r .turns))) ⌝ }
+    ensures filled { λ r. ⌜ (r .filled ≡ true → fillRight p (now (symbols .entry)) ≡ true) ⌝ }
+{
+    let from = 5796 * p.half;
+    let to = symbols.len();
+    if crate::blank::are_blank(symbols, from, to, turns) {
+        return Ended {
+            whole: true,
+            filled: true,
+            turns,
+        };
+    }
+    let k = crate::see::see_run(t, symbols, from, to, turns);
+    Ended {
+        whole: crate::see::passes(k.good),
+        filled: false,
+        turns: k.turns,
+    }
+}
+
+fn unended() -> Ended
+    ensures { λ r. ⌜ (r .whole ≡ false) × (r .filled ≡ false) ⌝ }
+{
+    Ended {
+        whole: false,
+        filled: false,
+        turns: 0,
+    }
+}
+
+// The EAV, the line number and the CRCC, and what stands behind them.
+fn end_of(t: &[u16; 1024], p: Shape, symbols: &[u16], turns: u32) -> Ended
+    requires { ⌜ Given p (now t) (now symbols) ⌝ }
+    requires { ⌜ TenBits (now symbols) ⌝ }
+    requires { ⌜ Tied (now symbols) (5772 * p .half) turns ⌝ }
+    ensures whole { λ r. ⌜ (r .whole ≡ true → Ending p (now (symbols .entry)) turns (r .turns)) ⌝ }
+    ensures filled { λ r. ⌜ (r .filled ≡ true → fillRight p (now (symbols .entry)) ≡ true) ⌝ }
+{
+    let eav = 5772 * p.half;
+    let behind = eav + 24 * p.half;
+    if !is_eav(symbols, eav, turns) {
+        return unended();
+    }
+    let k = crate::see::see_run(t, symbols, eav + 2, behind, turns);
+    if !crate::see::passes(k.good) {
+        return unended();
+    }
+    tail_of(t, p, symbols, k.turns)
+}
+
+// Nothing is known.
+fn nothing() -> Taken
+    ensures { λ r. ⌜ (r .whole ≡ false) × (r .filled ≡ false) ⌝ }
+{
+    Taken {
+        whole: false,
+        filled: false,
+        before: Disparity::Negative,
+        after: Disparity::Negative,
+        sums: Sums {
+            first: 0,
+            second: 0,
+            third: 0,
+            fourth: 0,
+        },
+    }
+}
+
+// A window of a known format whose symbols have ten bits.
+fn take_window(t: &[u16; 1024], p: Shape, symbols: &[u16], rows: &mut [u16]) -> Taken
+    requires { ⌜ Given p (now t) (now symbols) ⌝ }
+    requires { ⌜ TenBits (now symbols) ⌝ }
+    requires { ⌜ length (now rows) ≡ samplesIn p ⌝ }
+    ensures size { λ _. ⌜ length (now (rows .exit)) ≡ samplesIn p ⌝ }
+    ensures whole { λ r. ⌜ (r .whole ≡ true → Wholly p (now (symbols .entry)) r (now (rows .exit))) ⌝ }
+    ensures filled { λ r. ⌜ (r .filled ≡ true → fillRight p (now (symbols .entry)) ≡ true) ⌝ }
+{
+    let first = behind_sav(symbols);
+    if first == 0 {
+        return nothing();
+    }
+    let head = crate::see::see_run(t, symbols, 2, 12 * p.half, first);
+    if !crate::see::passes(head.good) {
+        return nothing();
+    }
+    let v = crate::picture::take_picture(t, p.half, symbols, head.turns, rows);
+    if !crate::see::passes(v.good) {
+        return nothing();
+    }
+    let e = end_of(t, p, symbols, v.turns);
+    let sums = Sums {
+        first: v.first,
+        second: v.second,
+        third: v.third,
+        fourth: v.fourth,
+    };
+    Taken {
+        whole: e.whole,
+        filled: e.filled,
+        before: disparity_by(first),
+        after: disparity_by(e.turns),
+        sums,
+    }
+}
+
+// A window with rows of its format's length; of anything else nothing is known. The table is lent once, here.
+pub fn take(f: Format, symbols: &[u16], rows: &mut [u16]) -> Taken
+    ensures size { λ _. ⌜ length (now (rows .exit)) ≡ length (now (rows .entry)) ⌝ }
+    ensures whole { λ r. ⌜ (r .whole ≡ true → Wholly (shapeOf f) (now (symbols .entry)) r (now (rows .exit))) ⌝ }
+    ensures filled { λ r. ⌜ (r .filled ≡ true → fillRight (shapeOf f) (now (symbols .entry)) ≡ true) ⌝ }
+{
+    if rows::fit::is_ready(f, symbols.len(), rows.len()) {
+        if are_ten_bits(symbols) {
+            let t = decoder::table::decoding_table();
+            return take_window(&t, span::format::shape_of(f), symbols, rows);
+        }
+    }
+    nothing()
+}
