@@ -6,21 +6,40 @@ use mathlib.Core.List.{List}
 use lib.Dec.{eqb}
 use lib.ListN.{length}
 use Rattle.span.specs.declared.format.Format.{Format}
+use Rattle.span.specs.declared.format.Shape.{Shape}
 use Rattle.span.specs.Format.{isKnown, shapeOf, streams, symbolsIn}
 use Rattle.window.specs.declared.sums.Sums.{Sums}
-use Rattle.window.specs.Read.{placed}
+use Rattle.window.specs.Read.{placed, contentIn}
 use Rattle.window.specs.Tests.{lineRead, repairs}
 use Rattle.window.specs.Words.{wordAt}
-use Rattle.judge.specs.declared.service.Verdict.{Verdict}
+use Rattle.judge.specs.declared.call.Service.{Service}
 use Rattle.judge.specs.Holds.{picture25, fill26, firstWrong}
 use Rattle.judge.specs.Verdict.{passed, firstRow, serviceTests}
 
 abbrev pub isWindow : Format → ℕ → Bool
 isWindow f symbols = isKnown f && eqb symbols (symbolsIn (shapeOf f))
 
--- tests 21 to 24
-abbrev pub serviceIf : Format → List ℕ → Sums → Verdict
-serviceIf f w c = cond (isWindow f (length w)) (firstRow (serviceTests (shapeOf f) w c)) passed
+-- tests 21 to 24, the line, the content bytes and the wrong bits
+abbrev pub serviceOf : Shape → List ℕ → Sums → Service
+serviceOf p w c =
+    record {
+      verdict = firstRow (serviceTests p w c);
+      line = record { 0 = lineRead (streams p) (wordAt p w) };
+      content = contentIn p w;
+      repairs = repairs (streams p) (wordAt p w);
+    }
+
+abbrev pub noService : Service
+noService =
+    record {
+      verdict = passed;
+      line = record { 0 = 0 };
+      content = record { sav1 = 0; sav2 = 0; eav1 = 0; eav2 = 0 };
+      repairs = 0;
+    }
+
+abbrev pub serviceIf : Format → List ℕ → Sums → Service
+serviceIf f w c = cond (isWindow f (length w)) (serviceOf (shapeOf f) w c) noService
 
 -- the lowest place of test 25 among the picture words, and of test 26 among the fill
 unfoldable pub place25 : Format → List ℕ → ℕ
@@ -36,11 +55,3 @@ place26 f w =
 
 abbrev pub placeIf : ℕ → Format → List ℕ → ℕ
 placeIf number f w = cond (isWindow f (length w)) (cond (eqb number 25) (place25 f w) (place26 f w)) 0
-
--- the line
-abbrev pub lineIf : Format → List ℕ → ℕ
-lineIf f w = cond (isWindow f (length w)) (lineRead (streams (shapeOf f)) (wordAt (shapeOf f) w)) 0
-
--- the wrong bits
-abbrev pub repairsIf : Format → List ℕ → ℕ
-repairsIf f w = cond (isWindow f (length w)) (repairs (streams (shapeOf f)) (wordAt (shapeOf f) w)) 0

@@ -1,12 +1,13 @@
 // What other crates ask of a window. Of what is no window of a known format they get nothing: 0.
 use crate::service::Verdict;
 use line::stream::StreamLine;
+use span::content::ContentBytes;
 use span::format::Format;
 use window::sums::Sums;
 ghost use mathlib.Core.Path.{_≡_};
 ghost use Prim.Native.Nat.{_≤_};
 ghost use lib.ListN.{length};
-ghost use Rattle.judge.specs.Call.{isWindow, serviceIf, placeIf, lineIf, repairsIf};
+ghost use Rattle.judge.specs.Call.{isWindow, serviceIf, placeIf};
 
 // Whether a window of so many symbols is one of a known format.
 fn is_window(f: Format, symbols: usize) -> bool
@@ -19,19 +20,45 @@ fn is_window(f: Format, symbols: usize) -> bool
     false
 }
 
-// Tests 21 to 24, where the picture words of the streams leave these sums.
-pub fn judge_service(f: Format, symbols: &[u16], c: Sums) -> Verdict
+// What the words outside the picture say: tests 21 to 24, the line whose SAV begins the window, which is the one before the line that stream 1
+// names, the content bytes, and how many bits are wrong in all timing words.
+pub struct Service {
+    pub verdict: Verdict,
+    pub line: StreamLine,
+    pub content: ContentBytes,
+    pub repairs: u8,
+}
+
+// All of it, where the picture words of the streams leave these sums. The table is lent once, here.
+pub fn service_of(f: Format, symbols: &[u16], c: Sums) -> Service
     ensures { λ r. ⌜ r ≡ serviceIf f (now (symbols .entry)) c ⌝ }
 {
     if is_window(f, symbols.len()) {
         let t = decoder::table::decoding_table();
         let p = span::format::shape_of(f);
         let next = crate::holds::next_line(&t, p, symbols);
-        return crate::service::judge_words(f, &t, p, symbols, next, c);
+        let verdict = crate::service::judge_words(f, &t, p, symbols, next, c);
+        let content = crate::words::content_in(&t, p, symbols);
+        return Service {
+            verdict,
+            line: line::stream::line_before(next),
+            content,
+            repairs: crate::holds::wrong_in_all(&t, p, symbols),
+        };
     }
-    Verdict {
-        number: 0,
-        place: 0,
+    Service {
+        verdict: Verdict {
+            number: 0,
+            place: 0,
+        },
+        line: line::stream::stream_line(0),
+        content: ContentBytes {
+            sav1: 0,
+            sav2: 0,
+            eav1: 0,
+            eav2: 0,
+        },
+        repairs: 0,
     }
 }
 
@@ -55,29 +82,6 @@ pub fn lowest_place(number: u8, f: Format, symbols: &[u16]) -> usize
         }
         let from = s * (1932 + p.ancillary);
         return crate::holds::first_wrong(26, f, &t, p, symbols, next, c, from, from + 2 * p.fill);
-    }
-    0
-}
-
-// The line whose SAV begins the window: the one before the line that stream 1 names.
-pub fn line_read(f: Format, symbols: &[u16]) -> StreamLine
-    ensures { λ r. ⌜ r .0 ≡ lineIf f (now (symbols .entry)) ⌝ }
-{
-    if is_window(f, symbols.len()) {
-        let t = decoder::table::decoding_table();
-        let p = span::format::shape_of(f);
-        return line::stream::line_before(crate::holds::next_line(&t, p, symbols));
-    }
-    line::stream::stream_line(0)
-}
-
-// How many bits are wrong in all its timing words.
-pub fn repairs(f: Format, symbols: &[u16]) -> u8
-    ensures { λ r. ⌜ r ≡ repairsIf f (now (symbols .entry)) ⌝ }
-{
-    if is_window(f, symbols.len()) {
-        let t = decoder::table::decoding_table();
-        return crate::holds::wrong_in_all(&t, span::format::shape_of(f), symbols);
     }
     0
 }

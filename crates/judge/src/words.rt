@@ -1,10 +1,12 @@
 // The words of a window, the replaced bytes of its timing codes at their fixed values (document 01, "A span").
 use packing::bytes::ThreeBytes;
+use span::content::ContentBytes;
 use span::format::Shape;
 ghost use mathlib.Core.Path.{_≡_};
 ghost use Prim.Native.Nat.{_*_, _≤_, _<_};
 ghost use lib.ListN.{length};
 ghost use Rattle.span.specs.Format.{pairsIn};
+ghost use Rattle.window.specs.Read.{contentIn};
 ghost use Rattle.window.specs.Words.{fixedByte, byteAt, wordAt};
 ghost use Rattle.judge.specs.Given.{Given};
 
@@ -60,4 +62,18 @@ pub(crate) fn word_at(t: &[u16; 1024], p: Shape, symbols: &[u16], k: usize) -> u
         return w.a;
     }
     w.b
+}
+
+// The content bytes behind the special characters of SAV and EAV.
+pub(crate) fn content_in(t: &[u16; 1024], p: Shape, symbols: &[u16]) -> ContentBytes
+    requires { ⌜ Given p (now t) (now symbols) ⌝ }
+    ensures { λ r. ⌜ r ≡ contentIn p (now (symbols .entry)) ⌝ }
+{
+    let eav = 5772 * p.half;
+    ContentBytes {
+        sav1: decoder::table::byte_of(t, symbols[2]),
+        sav2: decoder::table::byte_of(t, symbols[3]),
+        eav1: decoder::table::byte_of(t, symbols[eav + 2]),
+        eav2: decoder::table::byte_of(t, symbols[eav + 3]),
+    }
 }

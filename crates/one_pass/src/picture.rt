@@ -1,7 +1,7 @@
 // The picture words of a window, into rows stream by stream, while the CRC of each stream runs over them and their symbols are seen.
 ghost use mathlib.Core.Path.{_≡_};
 ghost use mathlib.Core.Bool.{true};
-ghost use Prim.Native.Nat.{ℕ, _+_, _*_, _≤_, _<_};
+ghost use Prim.Native.Nat.{ℕ, _+_, _-_, _*_, _%_, _≤_, _<_};
 ghost use mathlib.Core.List.{List};
 ghost use lib.ListN.{length};
 ghost use Rattle.decoder.specs.Decoder.{decodingTable};
@@ -28,6 +28,7 @@ fn place_two(t: &[u16; 1024], symbols: &[u16], j: usize, v: Passed, rows: &mut [
     requires { ⌜ j < 1920 ⌝ }
     requires { ⌜ 5772 ≤ length (now symbols) ⌝ }
     requires { ⌜ length (now rows) ≡ 3840 ⌝ }
+    ensures size { λ _. ⌜ length (now (rows .exit)) ≡ 3840 ⌝ }
     ensures passed { λ r. ⌜ r ≡ placeTwo (now (symbols .entry)) j v ⌝ }
     ensures rows { λ _. ⌜ now (rows .exit) ≡ rowsTwo (now (symbols .entry)) j (now (rows .entry)) ⌝ }
 {
@@ -52,6 +53,7 @@ fn place_four(t: &[u16; 1024], symbols: &[u16], j: usize, v: Passed, rows: &mut 
     requires { ⌜ j < 1920 ⌝ }
     requires { ⌜ 11544 ≤ length (now symbols) ⌝ }
     requires { ⌜ length (now rows) ≡ 7680 ⌝ }
+    ensures size { λ _. ⌜ length (now (rows .exit)) ≡ 7680 ⌝ }
     ensures passed { λ r. ⌜ r ≡ placeFour (now (symbols .entry)) j v ⌝ }
     ensures rows { λ _. ⌜ now (rows .exit) ≡ rowsFour (now (symbols .entry)) j (now (rows .entry)) ⌝ }
 {
@@ -73,7 +75,7 @@ fn place_four(t: &[u16; 1024], symbols: &[u16], j: usize, v: Passed, rows: &mut 
     }
 }
 
-// Words from one to another of two streams.
+// Words from one to another of two streams, an even number of them: two in a turn, which takes less time than one.
 fn take_two(
     t: &[u16; 1024],
     symbols: &[u16],
@@ -86,6 +88,7 @@ fn take_two(
     requires { ⌜ TenBits (now symbols) ⌝ }
     requires { ⌜ from ≤ to ⌝ }
     requires { ⌜ to ≤ 1920 ⌝ }
+    requires { ⌜ (to - from) % 2 ≡ 0 ⌝ }
     requires { ⌜ 5772 ≤ length (now symbols) ⌝ }
     requires { ⌜ length (now rows) ≡ 3840 ⌝ }
     ensures size { λ _. ⌜ length (now (rows .exit)) ≡ 3840 ⌝ }
@@ -94,8 +97,9 @@ fn take_two(
     let mut p = v;
     let mut j = from;
     while j < to {
-        p = place_two(t, symbols, j, p, rows);
-        j += 1;
+        let q = place_two(t, symbols, j, p, rows);
+        p = place_two(t, symbols, j + 1, q, rows);
+        j += 2;
     }
     p
 }
@@ -143,6 +147,7 @@ fn take_piece(
     requires { ⌜ half ≤ 2 ⌝ }
     requires { ⌜ from ≤ to ⌝ }
     requires { ⌜ to ≤ 1920 ⌝ }
+    requires { ⌜ (to - from) % 2 ≡ 0 ⌝ }
     requires { ⌜ 5772 * half ≤ length (now symbols) ⌝ }
     requires { ⌜ length (now rows) ≡ 3840 * half ⌝ }
     ensures size { λ _. ⌜ length (now (rows .exit)) ≡ 3840 * half ⌝ }

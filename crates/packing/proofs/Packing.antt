@@ -88,6 +88,13 @@ module _ (t : ThreeBytes) (h : AreBytes t) where
       is-only test 16777216 at (omega (arith, h .first-below, h .second-below, h .third-below)) found only in
       simp (e, first-word, second-word)
 
+  -- and out of all of them as one number
+  pub words-together : {n : ℕ} → n ≡ t .first + t .second * 256 + t .third * 65536 → wordsOf t ≡ record { a = n % 4096; b = n / 4096 }
+  words-together {n} e =
+      let a : wordA ≡ n % 4096 = omega (arith, h .first-below, h .second-below, h .third-below) in
+      let b : wordB ≡ n / 4096 = omega (arith, h .first-below, h .second-below, h .third-below) in
+      rw (words-are, a, b)
+
   pub pack-unpack : bytesOf (wordsOf t .a) (wordsOf t .b) ≡ t
   pack-unpack = rw words-are whole
 

@@ -43,12 +43,13 @@ pub fn pack(a: u16, b: u16) -> Packed
     Packed::Bytes(bytes_of(a, b))
 }
 
-// The words of three bytes.
+// The words of three bytes: all of them as one number, the second word above the first.
 pub fn unpack(t: ThreeBytes) -> TwoWords
     ensures { λ r. ⌜ r ≡ wordsOf t ⌝ }
 {
+    let both = t.first as u32 + t.second as u32 * 256 + t.third as u32 * 65536;
     TwoWords {
-        a: t.first as u16 + (t.second % 16) as u16 * 256,
-        b: (t.second / 16) as u16 + t.third as u16 * 16,
+        a: (both % 4096) as u16,
+        b: (both / 4096) as u16,
     }
 }

@@ -19,10 +19,10 @@ use Rattle.span.proofs.Formats.{small}
 use Rattle.span.proofs.Lengths.{known-has-streams}
 use Rattle.rows.specs.Fill.{fillRight, fillIf}
 use Rattle.rows.specs.Picture.{sumsOf, sumsIf, rowsIf}
+use Rattle.judge.specs.declared.call.Service.{Service}
 use Rattle.judge.specs.declared.service.Verdict.{Verdict}
-use Rattle.judge.specs.Call.{place25, place26, serviceIf, placeIf, lineIf, repairsIf}
-use Rattle.judge.specs.Verdict.{firstRow}
-use Rattle.line.specs.declared.stream.StreamLine.{StreamLine}
+use Rattle.judge.specs.Call.{place25, place26, serviceOf, serviceIf, placeIf}
+use Rattle.judge.specs.Verdict.{firstRow, serviceTests}
 use Rattle.scan.specs.declared.scan.Scanned.{Scanned}
 use Rattle.scan.specs.Run.{place20, scannedOf}
 use Rattle.window.specs.declared.delivery.Delivery.{Delivery}
@@ -54,18 +54,14 @@ module _ (f : Format) (w : List ℕ) (is : IsWindow f w) where
   pub sums-are : {c : Sums} (n : ℕ) → n ≡ samplesIn (shapeOf f) → c ≡ sumsIf f w n → c ≡ sumsOf (shapeOf f) w
   sums-are n e sums = sums ∙ rw (is .known, long, eq-eqb n (samplesIn (shapeOf f)) e)
 
-  pub service-is : {r : Verdict} {c : Sums} → c ≡ sumsOf (shapeOf f) w → r ≡ serviceIf f w c → r ≡ firstRow (take 4 (wordTests f word))
-  service-is sums answer =
+  pub service-is : {r : Service} {c : Sums} → c ≡ sumsOf (shapeOf f) w → r ≡ serviceIf f w c
+      → r ≡ serviceOf (shapeOf f) w (sumsOf (shapeOf f) w)
+  service-is sums answer = answer ∙ rw (sums, is .known, long)
+
+  pub tests-are : firstRow (serviceTests (shapeOf f) w (sumsOf (shapeOf f) w)) ≡ firstRow (take 4 (wordTests f word))
+  tests-are =
       let p = shapeOf f in
-      answer
-      ∙ rw (sums, is .known, long)
-      (ap firstRow (sums-right p w (known-has-streams f (is .known)) (small f refl .half) f refl))
-
-  pub line-is : lineIf f w ≡ lineRead (streams (shapeOf f)) word
-  line-is = rw (is .known, long)
-
-  pub repairs-are : repairsIf f w ≡ repairs (streams (shapeOf f)) word
-  repairs-are = rw (is .known, long)
+      ap firstRow (sums-right p w (known-has-streams f (is .known)) (small f refl .half) f refl)
 
   pub place-25 : placeIf 25 f w ≡ place25 f w
   place-25 = rw (is .known, long)
@@ -154,30 +150,26 @@ module _ {number place : ℕ} (f : Format) (w entry made : List ℕ) (e : readSp
   rows-zero n h q zero = zero ∙ rw (e, le-ltb number 20 h, q)
 
 -- ---- the values of a delivery
-module _ (p : Shape) (w : List ℕ) {h x1 x2 x3 x4 : ℕ} (half : h ≡ p .half) where
-  pub content-is : x1 ≡ byteOf (symbolAt w 2) → x2 ≡ byteOf (symbolAt w 3) → x3 ≡ byteOf (symbolAt w (5772 * h + 2)) → x4 ≡ byteOf (symbolAt w (5772 * h + 3))
-      → record { sav1 = x1; sav2 = x2; eav1 = x3; eav2 = x4 } ≡ contentIn p w
-  content-is e1 e2 e3 e4 =
-      let at : 5772 * h ≡ eavAt p = omega arith in rw (e1, e2, e3, e4, at)
-
 module _ (f : Format) (w : List ℕ) (is : IsWindow f w) (scanned : Scanned) (done : scanned ≡ scannedOf (shapeOf f) w)
-    (all : scanned .place ≡ length w) (line : StreamLine) (l : line .0 ≡ lineRead (streams (shapeOf f)) (wordAt (shapeOf f) w)) where
+    (all : scanned .place ≡ length w) where
   pub held-20 : place20 (shapeOf f) w ≡ length w
   held-20 = sym (ap (λ (s : Scanned). s .place) done) ∙ all
 
-  pub delivery-is : record {
-    line = line;
-    content = contentIn (shapeOf f) w;
-    before = scanned .before;
-    after = scanned .after;
-    repairs = repairs (streams (shapeOf f)) (wordAt (shapeOf f) w);
-  } ≡ deliveryOf f w
+  pub delivery-is : (service : Service) (c : Sums) → service ≡ serviceOf (shapeOf f) w c
+      → record {
+        line = service .line;
+        content = service .content;
+        before = scanned .before;
+        after = scanned .after;
+        repairs = service .repairs;
+      }
+      ≡ deliveryOf f w
   unfolding deliveryOf
-  delivery-is =
+  delivery-is service c e =
       let before : scanned .before ≡ startOf w = ap (λ (s : Scanned). s .before) done in
       let after : scanned .after ≡ runningAt w (symbolsIn (shapeOf f)) =
       ap (λ (s : Scanned). s .after) done ∙ ap (runningAt w) (held-20 ∙ is .long) in
-      rw (before, after, ← l)
+      rw (before, after, e)
 
 -- a call that is refused by a number below 20 leaves the rows as they were
 pub rows-kept : {number place : ℕ} (f : Format) (w entry : List ℕ) → readOf f w (length entry) ≡ refused number place → number < 20

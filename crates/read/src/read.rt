@@ -1,7 +1,7 @@
 // The two calls (document 01, "Receiving and finding").
 use crate::answer::Read;
+use judge::call::Service;
 use judge::service::Verdict;
-use line::stream::StreamLine;
 use scan::scan::Scanned;
 use span::format::Format;
 use window::sums::Sums;
@@ -10,38 +10,30 @@ ghost use mathlib.Core.Bool.{true};
 ghost use Prim.Native.Nat.{ℕ};
 ghost use mathlib.Core.List.{List};
 ghost use lib.ListN.{length};
+ghost use Rattle.judge.specs.Call.{serviceOf};
 ghost use Rattle.judge.specs.Verdict.{firstRow};
 ghost use Rattle.rows.specs.Fill.{fillRight};
 ghost use Rattle.rows.specs.Picture.{sumsOf};
 ghost use Rattle.scan.specs.Run.{scannedOf};
-ghost use Rattle.span.specs.Format.{shapeOf, streams, samplesIn};
+ghost use Rattle.span.specs.Format.{shapeOf, samplesIn};
 ghost use Rattle.window.specs.Read.{wordTests, pictureOf, readSpan, judgeOf, readOf, rowsLeft, rowsRead};
-ghost use Rattle.window.specs.Tests.{lineRead};
 ghost use Rattle.window.specs.Words.{wordAt};
 ghost use Rattle.read.specs.Call.{paperRead};
 ghost use Rattle.read.specs.Window.{IsWindow};
 
-// Tests 21 to 26 of a window, whose picture is in rows and leaves these sums.
-fn judge_words(
-    f: Format,
-    symbols: &[u16],
-    line: StreamLine,
-    c: Sums,
-    filled: bool,
-    rows: &[u16],
-) -> Verdict
+// Tests 21 to 26 of a window, whose picture is in rows.
+fn judge_words(f: Format, symbols: &[u16], service: Service, filled: bool, rows: &[u16]) -> Verdict
     requires { ⌜ IsWindow f (now symbols) ⌝ }
-    requires { ⌜ line .0 ≡ lineRead (streams (shapeOf f)) (wordAt (shapeOf f) (now symbols)) ⌝ }
-    requires { ⌜ c ≡ sumsOf (shapeOf f) (now symbols) ⌝ }
+    requires { ⌜ service ≡ serviceOf (shapeOf f) (now symbols) (sumsOf (shapeOf f) (now symbols)) ⌝ }
     requires { ⌜ (filled ≡ true → fillRight (shapeOf f) (now symbols) ≡ true) ⌝ }
     requires { ⌜ now rows ≡ pictureOf f (now symbols) ⌝ }
     ensures { λ r. ⌜ r ≡ firstRow (wordTests f (wordAt (shapeOf f) (now (symbols .entry)))) ⌝ }
 {
-    let service = judge::call::judge_service(f, symbols, c);
-    if service.number != 0 {
-        return service;
+    let verdict = service.verdict;
+    if verdict.number != 0 {
+        return verdict;
     }
-    crate::picture::judge_picture(f, symbols, line, filled, rows)
+    crate::picture::judge_picture(f, symbols, service.line, filled, rows)
 }
 
 // A window for which test 20 holds, whose picture is in rows: what it delivers, and its rows, which are zero where another test does not hold.
@@ -62,13 +54,13 @@ fn read_words(
     ensures answer { λ r. ⌜ paperRead r ≡ readSpan f (now (symbols .entry)) ⌝ }
     ensures rows { λ _. ⌜ ((room : List ℕ) → length room ≡ length (now (rows .entry)) → now (rows .exit) ≡ rowsLeft (readSpan f (now (symbols .entry))) room (pictureOf f (now (symbols .entry)))) ⌝ }
 {
-    let line = judge::call::line_read(f, symbols);
-    let verdict = judge_words(f, symbols, line, c, filled, rows);
+    let service = judge::call::service_of(f, symbols, c);
+    let verdict = judge_words(f, symbols, service, filled, rows);
     if verdict.number != 0 {
         ground::fill::fill(rows, 0);
         return crate::answer::refusal(verdict.number, verdict.place);
     }
-    Read::Delivered(crate::delivery::delivery(f, symbols, scanned, line))
+    Read::Delivered(crate::delivery::delivery(scanned, service))
 }
 
 // A window that one pass does not take for whole: test 20 first, for its place, and the picture behind it.

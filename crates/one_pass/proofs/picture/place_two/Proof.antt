@@ -44,7 +44,7 @@ same-length : tie.Need-same-length
 same-length c = search needs
 
 returns : tie.Need-returns
-returns c = (rw (c .before .crc-word .ensures, c .crc-word2 .ensures, c .before .before .before .see-three .ensures), rw (c .before .before .before .see-three .ensures))
+returns c = (simp length-set (c .before .before .before .before .before .before .pre .1 .1 .1 .1), (rw (c .before .crc-word .ensures, c .crc-word2 .ensures, c .before .before .before .see-three .ensures), rw (c .before .before .before .see-three .ensures)))
 
 pub place-two-spec : {M : Type 1} → statement M
 place-two-spec =

@@ -1,10 +1,10 @@
 -- `one_pass::picture::take_four` meets its contract: the words before j have been taken.
 -- Assumes nothing.
-use mathlib.Core.Path.{_≡_, ap, _∙_}
+use mathlib.Core.Path.{_≡_}
 use mathlib.Core.List.{List}
 use Prim.Native.Nat.{ℕ, _-_, _≤_, _<_}
 use native.Mathlib.Omega.{arith}
-use lib.ListN.{length, length-set}
+use lib.ListN.{length}
 use borrow.Author.Needs.{needs}
 use Rattle.one_pass.specs.Picture.{Got}
 use Rattle.one_pass.proofs.Getting.{got-four}
@@ -41,7 +41,7 @@ loop-again c =
     let below : v .j < 1920 = omega (arith, c .before .before .before .before .loop-test .taken, c .before .before .before .before .before .before .before .before .pre .1 .1 .1 .0) in
     let e = c .before .before .place-four .ensures in (
       omega (arith, v .inv .0),
-      (omega (arith, c .before .before .before .before .loop-test .taken), (ap length (e .1) ∙ simp length-set (v .inv .1 .1 .0), λ old g. rw (e .0, e .1) (got-four w below (v .inv .1 .1 .1 old g)))),
+      (omega (arith, c .before .before .before .before .loop-test .taken), (e .0, λ old g. rw (e .1 .0, e .1 .1) (got-four w below (v .inv .1 .1 .1 old g)))),
     )
 
 same-length : tie.Need-same-length Inv-loop μ-loop

@@ -35,7 +35,7 @@ take-piece-requires c κs =
     let s = c .before .before .before .before .before in
     let v = c .before .before .loop in
     let t = c .before .loop-test .taken in
-    (s .pre .0, (s .pre .1 .0, (s .pre .1 .1 .0, (s .pre .1 .1 .1 .0, (omega arith, (omega (arith, v .inv .1, t), (s .pre .1 .1 .1 .1 .0, v .inv .2)))))))
+    (s .pre .0, (s .pre .1 .0, (s .pre .1 .1 .0, (s .pre .1 .1 .1 .0, (omega arith, (omega (arith, v .inv .1, t), (omega arith, (s .pre .1 .1 .1 .1 .0, v .inv .2))))))))
 
 passes-requires : tie.Need-passes-requires Inv-loop μ-loop
 passes-requires c κs = search needs

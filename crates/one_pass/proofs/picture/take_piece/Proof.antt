@@ -14,7 +14,7 @@ take-two-requires : tie.Need-take-two-requires
 take-two-requires c κs = 
     let s = c .before .before .before .before in
     let one : s .args .half ≡ 1 = c .before .if1 .taken in
-    (s .pre .0, (s .pre .1 .0, (s .pre .1 .1 .1 .1 .0, (s .pre .1 .1 .1 .1 .1 .0, (omega arith, omega arith)))))
+    (s .pre .0, (s .pre .1 .0, (s .pre .1 .1 .1 .1 .0, (s .pre .1 .1 .1 .1 .1 .0, (s .pre .1 .1 .1 .1 .1 .1 .0, (omega arith, omega arith))))))
 
 same-length : tie.Need-same-length
 same-length c = search needs

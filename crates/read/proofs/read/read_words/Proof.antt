@@ -11,25 +11,25 @@ use Rattle.window.specs.declared.delivery.Delivery.{Delivery}
 use Rattle.window.specs.Read.{pictureOf, wordTests, rowsLeft}
 use Rattle.window.specs.Words.{wordAt}
 use Rattle.read.proofs.Verdicts.{in-range}
-use Rattle.read.proofs.Windows.{line-is, read-refused, read-given, rows-zero, held-20, delivery-is}
+use Rattle.read.proofs.Windows.{service-is, read-refused, read-given, rows-zero, held-20, delivery-is}
 use Rattle.read.proofs.read.read_words.Statement.{statement}
 use Rattle.read.proofs.read.read_words.Tie as tie
 use Rattle.read.proofs.read.read_words.Reads as reads
 use Rattle.read.proofs.read.read_words.Lts as lts
 use Rattle.ground.proofs.fill.fill.Reads as fill-reads
-use Rattle.judge.proofs.call.line_read.Reads as line-read-reads
+use Rattle.judge.proofs.call.service_of.Reads as service-of-reads
 use Rattle.read.proofs.answer.refusal.Reads as refusal-reads
 use Rattle.read.proofs.delivery.delivery.Reads as delivery-reads
 use Rattle.read.proofs.read.judge_words.Reads as judge-words-reads
 
-line-read-requires : tie.Need-line-read-requires
-line-read-requires c κs = search needs
+service-of-requires : tie.Need-service-of-requires
+service-of-requires c κs = search needs
 
 judge-words-requires : tie.Need-judge-words-requires
 judge-words-requires c κs = 
     let s = c .before .before .before .before in
     let a = s .args in
-    (s .pre .0, (c .before .line-read .ensures ∙ line-is (a .f) (a .symbols .now) (s .pre .0), (s .pre .1 .1 .1 .0, (s .pre .1 .1 .1 .1 .0, s .pre .1 .1 .1 .1 .1))))
+    (s .pre .0, (service-is (a .f) (a .symbols .now) (s .pre .0) (s .pre .1 .1 .1 .0) (c .before .service-of .ensures), (s .pre .1 .1 .1 .1 .0, s .pre .1 .1 .1 .1 .1)))
 
 fill-requires : tie.Need-fill-requires
 fill-requires c κs = search needs
@@ -51,8 +51,7 @@ returns c =
     let s = c .before .before .before .before .before .before .before .before .before .before .before .before in
     let a = s .args in
     let is = s .pre .0 in
-    let line = c .before .before .before .before .before .before .before .before .before .line-read .ensures ∙ line-is (a .f) (a .symbols .now) is in
-    let all = held-20 (a .f) (a .symbols .now) is _ (s .pre .1 .0) (s .pre .1 .1 .0) _ line in
+    let all = held-20 (a .f) (a .symbols .now) is _ (s .pre .1 .0) (s .pre .1 .1 .0) in
     let judged = c .before .before .before .before .before .before .before .judge-words .ensures in
     let met = c .before .before .before .before .before .if1 .taken in
     let number = ap (λ (v : Verdict). v .number) judged in
@@ -74,11 +73,11 @@ returns-2 c =
     let s = c .before .before .before .before .before .before .before .before in
     let a = s .args in
     let is = s .pre .0 in
-    let line = c .before .before .before .before .before .line-read .ensures ∙ line-is (a .f) (a .symbols .now) is in
-    let all = held-20 (a .f) (a .symbols .now) is _ (s .pre .1 .0) (s .pre .1 .1 .0) _ line in
+    let all = held-20 (a .f) (a .symbols .now) is _ (s .pre .1 .0) (s .pre .1 .1 .0) in
     let none-met : c .before .before .before .judge-words .result .number ≡ 0 = omega (arith, c .before .if1 .left) in
     let read = read-given (a .f) (a .symbols .now) is all (c .before .before .before .judge-words .ensures) none-met in
-    let values = delivery-is (a .f) (a .symbols .now) is _ (s .pre .1 .0) (s .pre .1 .1 .0) _ line in (
+    let service = service-is (a .f) (a .symbols .now) (s .pre .0) (s .pre .1 .1 .1 .0) (c .before .before .before .before .before .service-of .ensures) in
+    let values = delivery-is (a .f) (a .symbols .now) is _ (s .pre .1 .0) (s .pre .1 .1 .0) _ _ service in (
       ap given (c .delivery .ensures ∙ values) ∙ sym read,
       λ room _.
       s .pre .1 .1 .1 .1 .1
@@ -89,7 +88,7 @@ pub read-words-spec : {M : Type 1} → statement M
 read-words-spec =
     tie.close
     (tie.spec
-    line-read-requires
+    service-of-requires
     judge-words-requires
     fill-requires
     refusal-requires
