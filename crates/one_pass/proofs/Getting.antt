@@ -31,7 +31,7 @@ pair-at : (w : List ℕ) (j half u o : ℕ) → o ≡ 3 * (half * (4 + j) + u) �
 pair-at w j half u o e = ap (plainPair w) e
 
 module _ (w : List ℕ) {old : List ℕ} {j : ℕ} {v : Passed} {rows : List ℕ} (h : j < 1920) where
-  pub got-two : Got 1 w old j v rows → Got 1 w old (j + 1) (placeTwo w j v) (rowsTwo w j rows)
+  got-two : Got 1 w old j v rows → Got 1 w old (j + 1) (placeTwo w j v) (rowsTwo w j rows)
   got-two g =
       let at : 12 + 3 * j ≡ 3 * (1 * (4 + j) + 0) = omega arith in
       let pair = pair-at w j 1 0 (12 + 3 * j) at in
@@ -46,7 +46,11 @@ module _ (w : List ℕ) {old : List ℕ} {j : ℕ} {v : Passed} {rows : List ℕ
         four = λ e. absurd (omega arith);
       }
 
-  pub got-four : Got 2 w old j v rows → Got 2 w old (j + 1) (placeFour w j v) (rowsFour w j rows)
+  pub then-two : {r : Passed} {after : List ℕ} {k : ℕ} → Got 1 w old j v rows → r ≡ placeTwo w j v → after ≡ rowsTwo w j rows → k ≡ j + 1
+      → Got 1 w old k r after
+  then-two g e q i = rw (e, q, i) (got-two g)
+
+  got-four : Got 2 w old j v rows → Got 2 w old (j + 1) (placeFour w j v) (rowsFour w j rows)
   got-four g =
       let first : 24 + 6 * j ≡ 3 * (2 * (4 + j) + 0) = omega arith in
       let second : 27 + 6 * j ≡ 3 * (2 * (4 + j) + 1) = omega arith in
@@ -65,6 +69,10 @@ module _ (w : List ℕ) {old : List ℕ} {j : ℕ} {v : Passed} {rows : List ℕ
             turn (under (under (g .four refl) j (x .a) (omega arith)) (1920 + j) (x .b) (omega arith)) h (omega arith) (omega arith) (ap (λ (y : TwoWords). y .a) high)
             (ap (λ (y : TwoWords). y .b) high) refl refl;
       }
+
+  pub then-four : {r : Passed} {after : List ℕ} {k : ℕ} → Got 2 w old j v rows → r ≡ placeFour w j v → after ≡ rowsFour w j rows → k ≡ j + 1
+      → Got 2 w old k r after
+  then-four g e q i = rw (e, q, i) (got-four g)
 
 -- at the beginning nothing is
 pub got-begin : (half turns : ℕ) (w old : List ℕ) → Clean w (12 * half) (12 * half) 65535 turns

@@ -75,7 +75,23 @@ fn place_four(t: &[u16; 1024], symbols: &[u16], j: usize, v: Passed, rows: &mut 
     }
 }
 
-// Words from one to another of two streams, an even number of them: two in a turn, which takes less time than one.
+// Four words of each of two streams from j on: one turn takes less time than four of one word.
+fn turn_two(t: &[u16; 1024], symbols: &[u16], j: usize, v: Passed, rows: &mut [u16]) -> Passed
+    requires { ⌜ now t ≡ decodingTable ⌝ }
+    requires { ⌜ TenBits (now symbols) ⌝ }
+    requires { ⌜ j + 4 ≤ 1920 ⌝ }
+    requires { ⌜ 5772 ≤ length (now symbols) ⌝ }
+    requires { ⌜ length (now rows) ≡ 3840 ⌝ }
+    ensures size { λ _. ⌜ length (now (rows .exit)) ≡ 3840 ⌝ }
+    ensures got { λ r. ⌜ ((old : List ℕ) → Got 1 (now (symbols .entry)) old j v (now (rows .entry)) → Got 1 (now (symbols .entry)) old (j + 4) r (now (rows .exit))) ⌝ }
+{
+    let a = place_two(t, symbols, j, v, rows);
+    let b = place_two(t, symbols, j + 1, a, rows);
+    let c = place_two(t, symbols, j + 2, b, rows);
+    place_two(t, symbols, j + 3, c, rows)
+}
+
+// Words from one to another of two streams, four in a turn.
 fn take_two(
     t: &[u16; 1024],
     symbols: &[u16],
@@ -88,7 +104,7 @@ fn take_two(
     requires { ⌜ TenBits (now symbols) ⌝ }
     requires { ⌜ from ≤ to ⌝ }
     requires { ⌜ to ≤ 1920 ⌝ }
-    requires { ⌜ (to - from) % 2 ≡ 0 ⌝ }
+    requires { ⌜ (to - from) % 4 ≡ 0 ⌝ }
     requires { ⌜ 5772 ≤ length (now symbols) ⌝ }
     requires { ⌜ length (now rows) ≡ 3840 ⌝ }
     ensures size { λ _. ⌜ length (now (rows .exit)) ≡ 3840 ⌝ }
@@ -97,14 +113,29 @@ fn take_two(
     let mut p = v;
     let mut j = from;
     while j < to {
-        let q = place_two(t, symbols, j, p, rows);
-        p = place_two(t, symbols, j + 1, q, rows);
-        j += 2;
+        p = turn_two(t, symbols, j, p, rows);
+        j += 4;
     }
     p
 }
 
-// Words from one to another of four streams.
+// Four words of each of four streams from j on: one turn takes less time than four of one word.
+fn turn_four(t: &[u16; 1024], symbols: &[u16], j: usize, v: Passed, rows: &mut [u16]) -> Passed
+    requires { ⌜ now t ≡ decodingTable ⌝ }
+    requires { ⌜ TenBits (now symbols) ⌝ }
+    requires { ⌜ j + 4 ≤ 1920 ⌝ }
+    requires { ⌜ 11544 ≤ length (now symbols) ⌝ }
+    requires { ⌜ length (now rows) ≡ 7680 ⌝ }
+    ensures size { λ _. ⌜ length (now (rows .exit)) ≡ 7680 ⌝ }
+    ensures got { λ r. ⌜ ((old : List ℕ) → Got 2 (now (symbols .entry)) old j v (now (rows .entry)) → Got 2 (now (symbols .entry)) old (j + 4) r (now (rows .exit))) ⌝ }
+{
+    let a = place_four(t, symbols, j, v, rows);
+    let b = place_four(t, symbols, j + 1, a, rows);
+    let c = place_four(t, symbols, j + 2, b, rows);
+    place_four(t, symbols, j + 3, c, rows)
+}
+
+// Words from one to another of four streams, four in a turn.
 fn take_four(
     t: &[u16; 1024],
     symbols: &[u16],
@@ -117,6 +148,7 @@ fn take_four(
     requires { ⌜ TenBits (now symbols) ⌝ }
     requires { ⌜ from ≤ to ⌝ }
     requires { ⌜ to ≤ 1920 ⌝ }
+    requires { ⌜ (to - from) % 4 ≡ 0 ⌝ }
     requires { ⌜ 11544 ≤ length (now symbols) ⌝ }
     requires { ⌜ length (now rows) ≡ 7680 ⌝ }
     ensures size { λ _. ⌜ length (now (rows .exit)) ≡ 7680 ⌝ }
@@ -125,8 +157,8 @@ fn take_four(
     let mut p = v;
     let mut j = from;
     while j < to {
-        p = place_four(t, symbols, j, p, rows);
-        j += 1;
+        p = turn_four(t, symbols, j, p, rows);
+        j += 4;
     }
     p
 }
@@ -147,7 +179,7 @@ fn take_piece(
     requires { ⌜ half ≤ 2 ⌝ }
     requires { ⌜ from ≤ to ⌝ }
     requires { ⌜ to ≤ 1920 ⌝ }
-    requires { ⌜ (to - from) % 2 ≡ 0 ⌝ }
+    requires { ⌜ (to - from) % 4 ≡ 0 ⌝ }
     requires { ⌜ 5772 * half ≤ length (now symbols) ⌝ }
     requires { ⌜ length (now rows) ≡ 3840 * half ⌝ }
     ensures size { λ _. ⌜ length (now (rows .exit)) ≡ 3840 * half ⌝ }

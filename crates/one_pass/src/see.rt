@@ -43,13 +43,7 @@ fn see(t: &[u16; 1024], s: u16, good: u32, turns: u32) -> Seen
 }
 
 // Three symbols, and their words.
-pub(crate) fn see_three(
-    t: &[u16; 1024],
-    symbols: &[u16],
-    o: usize,
-    good: u32,
-    turns: u32,
-) -> Three
+pub(crate) fn see_three(t: &[u16; 1024], symbols: &[u16], o: usize, good: u32, turns: u32) -> Three
     requires { ⌜ now t ≡ decodingTable ⌝ }
     requires { ⌜ TenBits (now symbols) ⌝ }
     requires { ⌜ o + 3 ≤ length (now symbols) ⌝ }
@@ -71,13 +65,7 @@ pub(crate) fn see_three(
 }
 
 // The symbols from one place to another.
-pub(crate) fn see_run(
-    t: &[u16; 1024],
-    symbols: &[u16],
-    from: usize,
-    to: usize,
-    turns: u32,
-) -> Kept
+pub(crate) fn see_run(t: &[u16; 1024], symbols: &[u16], from: usize, to: usize, turns: u32) -> Kept
     requires { ⌜ now t ≡ decodingTable ⌝ }
     requires { ⌜ TenBits (now symbols) ⌝ }
     requires { ⌜ from ≤ to ⌝ }
@@ -85,10 +73,7 @@ pub(crate) fn see_run(
     requires { ⌜ Clean (now symbols) from from 65535 turns ⌝ }
     ensures { λ r. ⌜ Clean (now (symbols .entry)) from to (r .good) (r .turns) ⌝ }
 {
-    let mut k = Kept {
-        good: 65535,
-        turns,
-    };
+    let mut k = Kept { good: 65535, turns };
     let mut i = from;
     while i < to {
         let x = see(t, symbols[i], k.good, k.turns);

@@ -45,7 +45,7 @@ wrong-in-all-requires : tie.Need-wrong-in-all-requires
 wrong-in-all-requires c κs = given _ (sym (c .before .before .before .before .before .before .before .before .before .before .before .is-window .ensures) ∙ c .before .before .before .before .before .before .before .before .before .before .if1 .taken) (c .before .before .before .before .before .before .before .before .shape-of .ensures) (c .before .before .before .before .before .before .before .before .before .decoding-table .ensures)
 
 returns : tie.Need-returns
-returns c = 
+returns c =
     let a = c .before .before .before .before .before .before .before .before .before .before .before .before .before .before .args in
     let w = a .symbols .now in
     let is : isWindow (a .f) (length w) ≡ true = sym (c .before .before .before .before .before .before .before .before .before .before .before .before .is-window .ensures) ∙ c .before .before .before .before .before .before .before .before .before .before .before .if1 .taken in
@@ -57,7 +57,7 @@ stream-line-requires : tie.Need-stream-line-requires
 stream-line-requires c κs = search needs
 
 returns-2 : tie.Need-returns-2
-returns-2 c = 
+returns-2 c =
     let a = c .before .before .before .before .args in
     let is : isWindow (a .f) (length (a .symbols .now)) ≡ false = sym (c .before .before .is-window .ensures) ∙ c .before .if1 .left in
     rw (is, ← (c .stream-line .ensures))

@@ -49,7 +49,7 @@ byte-of-requires-4 : tie.Need-byte-of-requires-4
 byte-of-requires-4 c κs = search needs
 
 returns : tie.Need-returns
-returns c = 
+returns c =
     let s = c .before .before .before .before .before .before .before .before .before .before in
     let table = s .pre .table in
     content-is (s .args .p) (s .args .symbols .now) (byte-is _ table (c .before .before .before .before .before .before .byte-of .ensures)) (byte-is _ table (c .before .before .before .before .byte-of2 .ensures))

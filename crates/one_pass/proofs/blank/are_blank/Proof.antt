@@ -24,7 +24,7 @@ repeats-requires : tie.Need-repeats-requires
 repeats-requires c κs = search needs
 
 returns-2 : tie.Need-returns-2
-returns-2 c = 
+returns-2 c =
     let a = c .before .before .before .before .before .args in
     λ t. all-blank (a .symbols .now) (a .from) (a .turns) (a .to) (c .repeats .ensures t) (c .before .before .begins-blank .ensures (c .before .if2 .taken))
 

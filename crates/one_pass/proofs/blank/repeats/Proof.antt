@@ -46,13 +46,13 @@ loop-less : tie.Need-loop-less Inv-loop μ-loop
 loop-less c = search needs
 
 loop-again : tie.Need-loop-again Inv-loop μ-loop
-loop-again c = 
+loop-again c =
     let w = c .before .before .before .before .args .symbols .now in
     let v = c .before .before .before .loop in
     (omega (arith, v .inv .0), search needs, λ z k h l. repeats-turn w (v .other) (v .i) z (λ y. v .inv .2 y k h) l)
 
 returns : tie.Need-returns Inv-loop μ-loop
-returns c = 
+returns c =
     let v = c .before .loop in
     λ t. record { again = λ k h l. v .inv .2 (eqb-true _ _ t) k h (omega (arith, c .loop-test .left)) }
 

@@ -77,10 +77,13 @@ same-length : tie.Need-same-length
 same-length c = search needs
 
 returns : tie.Need-returns
-returns c = (simp length-set (c .before .before .before .before .before .before .before .before .before .before .pre .1 .1 .1 .1), (
-      rw (c .before .before .before .crc-word .ensures, c .before .before .crc-word2 .ensures, c .before .crc-word3 .ensures, c .crc-word4 .ensures, c .before .before .before .before .before .before .see-three2 .ensures, c .before .before .before .before .before .before .before .see-three .ensures),
-      rw (c .before .before .before .before .before .before .see-three2 .ensures, c .before .before .before .before .before .before .before .see-three .ensures),
-    ))
+returns c = (
+  simp length-set (c .before .before .before .before .before .before .before .before .before .before .pre .1 .1 .1 .1),
+  (
+    rw (c .before .before .before .crc-word .ensures, c .before .before .crc-word2 .ensures, c .before .crc-word3 .ensures, c .crc-word4 .ensures, c .before .before .before .before .before .before .see-three2 .ensures, c .before .before .before .before .before .before .before .see-three .ensures),
+    rw (c .before .before .before .before .before .before .see-three2 .ensures, c .before .before .before .before .before .before .before .see-three .ensures),
+  ),
+)
 
 pub place-four-spec : {M : Type 1} → statement M
 place-four-spec =

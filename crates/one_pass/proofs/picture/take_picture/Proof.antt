@@ -16,14 +16,14 @@ use Rattle.one_pass.proofs.picture.take_piece.Reads as take-piece-reads
 use Rattle.one_pass.proofs.see.passes.Reads as passes-reads
 
 abbrev Inv-loop : tie.InvT-loop
-Inv-loop t half symbols turns rows₀ p₀ j₀ rows p j = 
+Inv-loop t half symbols turns rows₀ p₀ j₀ rows p j =
     (j ≤ 1920) × (j % 120 ≡ 0) × (length rows ≡ 3840 * half) × Got half symbols rows₀ j p rows
 
 abbrev μ-loop : tie.MeasureT-loop
 μ-loop t half symbols turns rows₀ p₀ j₀ rows p j = 1920 - j
 
 loop-holds : tie.Need-loop-holds Inv-loop μ-loop
-loop-holds c = 
+loop-holds c =
     let s = c .before .before in
     (omega arith, refl, s .pre .1 .1 .1 .1 .1 .0, got-begin (s .args .half) (s .args .turns) (s .args .symbols .now) (s .args .rows .now) (s .pre .1 .1 .1 .1 .1 .1))
 
@@ -31,7 +31,7 @@ add-take-piece : tie.Need-add-take-piece Inv-loop μ-loop
 add-take-piece c = search needs
 
 take-piece-requires : tie.Need-take-piece-requires Inv-loop μ-loop
-take-piece-requires c κs = 
+take-piece-requires c κs =
     let s = c .before .before .before .before .before in
     let v = c .before .before .loop in
     let t = c .before .loop-test .taken in
@@ -47,7 +47,7 @@ loop-less : tie.Need-loop-less Inv-loop μ-loop
 loop-less c = search needs
 
 loop-again : tie.Need-loop-again Inv-loop μ-loop
-loop-again c = 
+loop-again c =
     let s = c .before .before .before .before .before .before .before .before .before .before in
     let v = c .before .before .before .before .before .before .before .loop in
     let e = c .before .before .before .before .take-piece .ensures in
@@ -58,14 +58,14 @@ same-length : tie.Need-same-length Inv-loop μ-loop
 same-length c = omega (arith, c .before .before .before .before .take-piece .ensures .0, c .before .before .before .before .before .before .before .before .before .before .pre .1 .1 .1 .1 .1 .0)
 
 returns : tie.Need-returns Inv-loop μ-loop
-returns c = 
+returns c =
     (c .before .before .before .before .take-piece .ensures .0, λ t. absurd (true≢false (sym t ∙ sym (c .before .passes .ensures) ∙ c .if1 .left)))
 
 same-length-2 : tie.Need-same-length-2 Inv-loop μ-loop
 same-length-2 c = omega (arith, c .before .loop .inv .2, c .before .before .before .before .pre .1 .1 .1 .1 .1 .0)
 
 returns-2 : tie.Need-returns-2 Inv-loop μ-loop
-returns-2 c = 
+returns-2 c =
     let v = c .before .loop in
     let end : v .j ≡ 1920 = omega (arith, v .inv .0, c .loop-test .left) in
     (v .inv .2, λ _. rw end at (v .inv .3))

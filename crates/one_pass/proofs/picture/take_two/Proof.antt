@@ -2,23 +2,21 @@
 -- Assumes nothing.
 use mathlib.Core.Path.{_≡_}
 use mathlib.Core.List.{List}
-use Prim.Native.Nat.{ℕ, _+_, _-_, _%_, _≤_, _<_}
+use Prim.Native.Nat.{ℕ, _-_, _%_, _≤_}
 use native.Mathlib.Omega.{arith}
 use lib.ListN.{length}
-use borrow.Author.Needs.{needs}
 use Rattle.one_pass.specs.Picture.{Got}
-use Rattle.one_pass.proofs.Getting.{got-two}
 use Rattle.one_pass.proofs.picture.take_two.Statement.{statement}
 use Rattle.one_pass.proofs.picture.take_two.Tie as tie
 use Rattle.one_pass.proofs.picture.take_two.Reads as reads
 use Rattle.one_pass.proofs.picture.take_two.Lts as lts
-use Rattle.one_pass.proofs.picture.place_two.Reads as place-two-reads
+use Rattle.one_pass.proofs.picture.turn_two.Reads as turn-two-reads
 
 abbrev Inv-loop : tie.InvT-loop
-Inv-loop t symbols from to rows₀ p₀ j₀ rows p j = 
+Inv-loop t symbols from to rows₀ p₀ j₀ rows p j =
     (from ≤ j)
     × (j ≤ to)
-    × ((to - j) % 2 ≡ 0)
+    × ((to - j) % 4 ≡ 0)
     × (length rows ≡ 3840)
     × ((old : List ℕ) → Got 1 symbols old from p₀ rows₀ → Got 1 symbols old j p rows)
 
@@ -26,55 +24,34 @@ abbrev μ-loop : tie.MeasureT-loop
 μ-loop t symbols from to rows₀ p₀ j₀ rows p j = to - j
 
 loop-holds : tie.Need-loop-holds Inv-loop μ-loop
-loop-holds c = 
+loop-holds c =
     let s = c .before .before in
     (omega arith, s .pre .1 .1 .0, s .pre .1 .1 .1 .1 .0, s .pre .1 .1 .1 .1 .1 .1, λ old g. g)
 
-place-two-requires : tie.Need-place-two-requires Inv-loop μ-loop
-place-two-requires c κs = 
+turn-two-requires : tie.Need-turn-two-requires Inv-loop μ-loop
+turn-two-requires c κs =
     let s = c .before .before .before .before .before in
     let v = c .before .before .loop in
-    (s .pre .0, (s .pre .1 .0, (omega (arith, c .before .loop-test .taken, s .pre .1 .1 .1 .0), (s .pre .1 .1 .1 .1 .1 .0, v .inv .3))))
-
-add-place-two : tie.Need-add-place-two Inv-loop μ-loop
-add-place-two c = search needs
-
-place-two-requires-2 : tie.Need-place-two-requires-2 Inv-loop μ-loop
-place-two-requires-2 c κs = 
-    let s = c .before .before .before .before .before .before .before .before .before in
-    let v = c .before .before .before .before .before .before .loop in
-    let size = c .before .before .before .place-two .ensures .0 in
-    (s .pre .0, (s .pre .1 .0, (omega (arith, c .before .before .before .before .before .loop-test .taken, v .inv .2, s .pre .1 .1 .1 .0), (s .pre .1 .1 .1 .1 .1 .0, size))))
+    (s .pre .0, (s .pre .1 .0, (omega (arith, c .before .loop-test .taken, v .inv .2, s .pre .1 .1 .1 .0), (s .pre .1 .1 .1 .1 .1 .0, v .inv .3))))
 
 add-j : tie.Need-add-j Inv-loop μ-loop
-add-j c = search needs
+add-j c = omega (arith, c .before .before .before .before .loop-test .taken, c .before .before .before .before .before .before .before .before .pre .1 .1 .1 .0)
 
 loop-less : tie.Need-loop-less Inv-loop μ-loop
-loop-less c = omega (arith, c .before .before .before .before .before .before .before .before .loop-test .taken)
+loop-less c = omega (arith, c .before .before .before .before .loop-test .taken)
 
 loop-again : tie.Need-loop-again Inv-loop μ-loop
-loop-again c = 
-    let s = c .before .before .before .before .before .before .before .before .before .before .before .before in
-    let w = s .args .symbols .now in
-    let v = c .before .before .before .before .before .before .before .before .before .loop in
-    let t = c .before .before .before .before .before .before .before .before .loop-test .taken in
-    let below : v .j < 1920 = omega (arith, t, s .pre .1 .1 .1 .0) in
-    let next : v .j + 1 < 1920 = omega (arith, t, v .inv .2, s .pre .1 .1 .1 .0) in
-    let e = c .before .before .before .before .before .before .place-two .ensures in
-    let d = c .before .before .place-two2 .ensures in
-    let two : v .j + 1 + 1 ≡ v .j + 2 = omega arith in (
-      omega (arith, v .inv .0),
-      omega (arith, t, v .inv .2),
-      omega (arith, v .inv .2),
-      d .0,
-      λ old g. rw (d .1 .0, d .1 .1, e .1 .0, e .1 .1, ← two) (got-two w next (got-two w below (v .inv .4 old g))),
-    )
+loop-again c =
+    let v = c .before .before .before .before .before .loop in
+    let t = c .before .before .before .before .loop-test .taken in
+    let e = c .before .before .turn-two .ensures in
+    (omega (arith, v .inv .0), omega (arith, t, v .inv .2), omega (arith, v .inv .2), e .0, λ old g. e .1 old (v .inv .4 old g))
 
 same-length : tie.Need-same-length Inv-loop μ-loop
 same-length c = omega (arith, c .before .loop .inv .3)
 
 returns : tie.Need-returns Inv-loop μ-loop
-returns c = 
+returns c =
     let v = c .before .loop in
     let end : v .j ≡ c .before .before .before .before .args .to = omega (arith, v .inv .1) in
     (v .inv .3, λ old g. rw end at (v .inv .4 old g))
@@ -86,9 +63,7 @@ take-two-spec =
     Inv-loop
     μ-loop
     loop-holds
-    place-two-requires
-    add-place-two
-    place-two-requires-2
+    turn-two-requires
     add-j
     loop-less
     loop-again

@@ -57,7 +57,7 @@ unpack-requires : tie.Need-unpack-requires
 unpack-requires c κs = search needs
 
 returns : tie.Need-returns
-returns c = 
+returns c =
     let a = c .before .before .before .before .before .before .before .before .before .before .before .args in
     three-is (a .symbols .now) (a .o) (a .good) (a .turns) (c .before .before .before .before .before .before .before .before .see .ensures) (c .before .before .before .before .before .before .see2 .ensures) (c .before .before .before .before .see3 .ensures) (c .unpack .ensures)
 

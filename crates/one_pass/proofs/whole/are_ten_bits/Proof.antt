@@ -35,13 +35,13 @@ loop-less : tie.Need-loop-less Inv-loop μ-loop
 loop-less c = search needs
 
 loop-again : tie.Need-loop-again Inv-loop μ-loop
-loop-again c = 
+loop-again c =
     let w = c .before .before .before .args .symbols .now in
     let v = c .before .before .loop in
     (search needs, below-more (λ k. getD w k 0 ≤ bitOr (v .all) (getD w (v .i) 0)) (v .i) (λ k h. omega (arith, v .inv .1 k h, or-left-most (v .all) (getD w (v .i) 0))) (or-right-most (v .all) (getD w (v .i) 0)))
 
 returns : tie.Need-returns Inv-loop μ-loop
-returns c = 
+returns c =
     let v = c .before .loop in
     λ t. record { below = λ k h. omega (arith, v .inv .1 k (omega (arith, c .loop-test .left)), ltb-true (v .all) 1024 t) }
 

@@ -41,7 +41,7 @@ add-see-run : tie.Need-add-see-run
 add-see-run c = search needs
 
 see-run-requires : tie.Need-see-run-requires
-see-run-requires c κs = 
+see-run-requires c κs =
     let s = c .before .before .before .before .before in
     let w = s .args .symbols .now in
     let eav = c .before .is-eav .ensures (not-false _ (c .if1 .left)) .going (s .pre .1 .1 .bit) in
@@ -58,23 +58,23 @@ returns-2 : tie.Need-returns-2
 returns-2 c = (λ t. absurd (true≢false (sym t ∙ c .unended2 .ensures .0)), λ t. absurd (true≢false (sym t ∙ c .unended2 .ensures .1)))
 
 tail-of-requires : tie.Need-tail-of-requires
-tail-of-requires c κs = 
+tail-of-requires c κs =
     let s = c .before .before .before .before .before .before .before .before in
     let right = sym (c .before .passes .ensures) ∙ not-false _ (c .if2 .left) in
     (s .pre .0, (s .pre .1 .0, tied (s .args .p) (s .args .symbols .now) (c .before .before .see-run .ensures) right (omega arith)))
 
 returns-3 : tie.Need-returns-3
-returns-3 c = 
+returns-3 c =
     let s = c .before .before .before .before .before .before .before .before .before in
     let w = s .args .symbols .now in
     let right = sym (c .before .before .passes .ensures) ∙ not-false _ (c .before .if2 .left) in
     let at : 5772 * s .args .p .half + 24 * s .args .p .half ≡ 5796 * s .args .p .half = omega arith in
     let e = c .tail-of .ensures in (
       λ t.
-      record {
-        eav = c .before .before .before .before .before .is-eav .ensures (not-false _ (c .before .before .before .before .if1 .left)) .going (s .pre .1 .1 .bit);
-        bytes = join w (rw at at (c .before .before .before .see-run .ensures .clean right)) (e .0 t);
-      },
+          record {
+            eav = c .before .before .before .before .before .is-eav .ensures (not-false _ (c .before .before .before .before .if1 .left)) .going (s .pre .1 .1 .bit);
+            bytes = join w (rw at at (c .before .before .before .see-run .ensures .clean right)) (e .0 t);
+          },
       e .1,
     )
 

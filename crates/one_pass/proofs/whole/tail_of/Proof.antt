@@ -25,7 +25,7 @@ are-blank-requires : tie.Need-are-blank-requires
 are-blank-requires c κs = (omega (arith, c .before .before .pre .0 .long), omega arith)
 
 returns : tie.Need-returns
-returns c = 
+returns c =
     let s = c .before .before .before .before in
     let a = s .args in
     let w = a .symbols .now in
@@ -36,7 +36,7 @@ returns c =
     )
 
 see-run-requires : tie.Need-see-run-requires
-see-run-requires c κs = 
+see-run-requires c κs =
     let s = c .before .before .before .before in
     (s .pre .0 .table, (s .pre .1 .0, (omega (arith, s .pre .0 .long), (omega arith, goes-on (s .args .p) (s .args .symbols .now) (s .pre .1 .1)))))
 

@@ -31,7 +31,7 @@ shape-of-requires : tie.Need-shape-of-requires
 shape-of-requires c κs = search needs
 
 take-window-requires : tie.Need-take-window-requires
-take-window-requires c κs = 
+take-window-requires c κs =
     let a = c .before .before .before .before .before .before .before .before .before .before .args in
     let t = sym (c .before .before .before .before .before .before .before .is-ready .ensures) ∙ c .before .before .before .before .before .before .if1 .taken in
     let p = c .before .shape-of .ensures in
@@ -42,7 +42,7 @@ same-length : tie.Need-same-length
 same-length c = search needs
 
 returns : tie.Need-returns
-returns c = 
+returns c =
     let a = c .before .before .before .before .before .before .before .before .before .before .before .before .before .args in
     let t = sym (c .before .before .before .before .before .before .before .before .before .before .is-ready .ensures) ∙ c .before .before .before .before .before .before .before .before .before .if1 .taken in
     let p = c .before .before .before .before .shape-of .ensures in

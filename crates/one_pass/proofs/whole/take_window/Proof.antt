@@ -33,7 +33,7 @@ mul-see-run : tie.Need-mul-see-run
 mul-see-run c = search needs
 
 see-run-requires : tie.Need-see-run-requires
-see-run-requires c κs = 
+see-run-requires c κs =
     let s = c .before .before .before .before .before in
     let w = s .args .symbols .now in
     let sav = c .before .before .behind-sav .ensures (c .before .if1 .left) in
@@ -50,7 +50,7 @@ returns-2 : tie.Need-returns-2
 returns-2 c = (c .before .before .before .before .before .before .before .before .before .pre .1 .1, (λ t. absurd (true≢false (sym t ∙ c .nothing2 .ensures .0)), λ t. absurd (true≢false (sym t ∙ c .nothing2 .ensures .1))))
 
 take-picture-requires : tie.Need-take-picture-requires
-take-picture-requires c κs = 
+take-picture-requires c κs =
     let s = c .before .before .before .before .before .before .before .before .before in
     let w = s .args .symbols .now in
     let right = sym (c .before .before .passes .ensures) ∙ not-false _ (c .before .if2 .left) in
@@ -70,7 +70,7 @@ returns-3 : tie.Need-returns-3
 returns-3 c = (omega (arith, c .before .before .before .before .before .take-picture .ensures .0), (λ t. absurd (true≢false (sym t ∙ c .nothing3 .ensures .0)), λ t. absurd (true≢false (sym t ∙ c .nothing3 .ensures .1))))
 
 end-of-requires : tie.Need-end-of-requires
-end-of-requires c κs = 
+end-of-requires c κs =
     let s = c .before .before .before .before .before .before .before .before .before .before .before .before .before .before in
     let rights = sym (c .before .passes2 .ensures) ∙ not-false _ (c .if3 .left) in
     let got = c .before .before .before .before .take-picture .ensures .1 rights in
@@ -86,7 +86,7 @@ same-length-2 : tie.Need-same-length-2
 same-length-2 c = search needs
 
 returns-4 : tie.Need-returns-4
-returns-4 c = 
+returns-4 c =
     let s = c .before .before .before .before .before .before .before .before .before .before .before .before .before .before .before .before .before in
     let w = s .args .symbols .now in
     let right = sym (c .before .before .before .before .before .before .before .before .before .before .passes .ensures) ∙ not-false _ (c .before .before .before .before .before .before .before .before .before .if2 .left) in
@@ -94,12 +94,15 @@ returns-4 c =
     let got = c .before .before .before .before .before .before .before .take-picture .ensures .1 rights in
     let e = c .before .before .end-of .ensures in (
       omega (arith, c .before .before .before .before .before .before .before .take-picture .ensures .0),
-      (λ t.
-      record {
-        scanned = rw (c .before .disparity-by .ensures, c .disparity-by2 .ensures) (scanned-whole (s .args .p) w (c .before .before .before .before .before .before .before .before .before .before .before .before .before .before .behind-sav .ensures (c .before .before .before .before .before .before .before .before .before .before .before .before .before .if1 .left)) (c .before .before .before .before .before .before .before .before .before .before .before .see-run .ensures) right (got .clean) rights (e .0 t));
-        sums = sums-are (s .args .p) w (s .pre .0 .small .half) (s .pre .0 .half) (s .pre .1 .1) got;
-        picture = picture-is (s .args .p) w (s .pre .0 .small .half) (s .pre .0 .half) (s .pre .1 .1) got;
-      }, e .1),
+      (
+        λ t.
+            record {
+              scanned = rw (c .before .disparity-by .ensures, c .disparity-by2 .ensures) (scanned-whole (s .args .p) w (c .before .before .before .before .before .before .before .before .before .before .before .before .before .before .behind-sav .ensures (c .before .before .before .before .before .before .before .before .before .before .before .before .before .if1 .left)) (c .before .before .before .before .before .before .before .before .before .before .before .see-run .ensures) right (got .clean) rights (e .0 t));
+              sums = sums-are (s .args .p) w (s .pre .0 .small .half) (s .pre .0 .half) (s .pre .1 .1) got;
+              picture = picture-is (s .args .p) w (s .pre .0 .small .half) (s .pre .0 .half) (s .pre .1 .1) got;
+            },
+        e .1,
+      ),
     )
 
 pub take-window-spec : {M : Type 1} → statement M

@@ -22,7 +22,7 @@ fill-is-right-requires : tie.Need-fill-is-right-requires
 fill-is-right-requires c κs = search needs
 
 returns : tie.Need-returns
-returns c = 
+returns c =
     let s = c .before .before .before .before .before .before in
     let a = s .args in
     let right =
@@ -34,7 +34,7 @@ lowest-place-requires : tie.Need-lowest-place-requires
 lowest-place-requires c κs = search needs
 
 returns-2 : tie.Need-returns-2
-returns-2 c = 
+returns-2 c =
     let s = c .before .before .before .before .before .before .before in
     let a = s .args in
     let right =
@@ -47,7 +47,7 @@ lowest-place-requires-2 : tie.Need-lowest-place-requires-2
 lowest-place-requires-2 c κs = search needs
 
 returns-3 : tie.Need-returns-3
-returns-3 c = 
+returns-3 c =
     let s = c .before .before .before .before .before in
     let a = s .args in
     let right =

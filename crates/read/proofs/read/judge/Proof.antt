@@ -26,7 +26,7 @@ span-lengths-requires : tie.Need-span-lengths-requires
 span-lengths-requires c κs = search needs
 
 returns : tie.Need-returns
-returns c = 
+returns c =
     let a = c .before .before .before .before .before .before .args in
     let w = a .symbols .now in
     let lengths = c .before .before .span-lengths .ensures in
@@ -38,13 +38,13 @@ array-borrow-prefix-rows : tie.Need-array-borrow-prefix-rows
 array-borrow-prefix-rows c = omega (arith, ap (λ (l : SpanLengths). l .samples) (c .before .before .span-lengths .ensures), small (c .before .before .before .before .before .before .args .f) refl .half)
 
 slice-aggregate-read-window : tie.Need-slice-aggregate-read-window
-slice-aggregate-read-window c = 
+slice-aggregate-read-window c =
     let m = ap (λ (l : SpanLengths). l .samples) (c .before .before .before .span-lengths .ensures) in
     let few : c .before .before .before .span-lengths .result .samples ≤ 7680 = omega (arith, m, small (c .before .before .before .before .before .before .before .args .f) refl .half) in
     sym (length-take-le _ _ few)
 
 read-window-requires : tie.Need-read-window-requires
-read-window-requires c κs = 
+read-window-requires c κs =
     let a = c .before .before .before .before .before .before .before .args in
     let w = a .symbols .now in
     let lengths = c .before .before .before .span-lengths .ensures in
@@ -57,7 +57,7 @@ read-window-requires c κs =
     (is, length-take-le _ _ few ∙ m)
 
 returns-2 : tie.Need-returns-2
-returns-2 c = 
+returns-2 c =
     let a = c .before .before .before .before .before .before .before .before .before .args in
     let w = a .symbols .now in
     let lengths = c .before .before .before .before .before .span-lengths .ensures in
@@ -68,7 +68,7 @@ returns-2 c =
     c .before .read-window .ensures .0 ∙ sym (judge-is (a .f) w is)
 
 returns-3 : tie.Need-returns-3
-returns-3 c = 
+returns-3 c =
     let a = c .before .before .before .args in
     sym (unknown (a .f) (a .symbols .now) 0 (sym (c .before .is-known .ensures) ∙ c .if1 .left) .1)
 

@@ -18,7 +18,7 @@ use Rattle.read.proofs.read.judge_words.Lts as lts
 use Rattle.read.proofs.picture.judge_picture.Reads as judge-picture-reads
 
 returns : tie.Need-returns
-returns c = 
+returns c =
     let s = c .before .before .before .before .before in
     let a = s .args in
     let verdict = ap (λ (v : Service). v .verdict) (s .pre .1 .0) ∙ tests-are (a .f) (a .symbols .now) (s .pre .0) in
@@ -26,12 +26,12 @@ returns c =
     verdict ∙ stays (take 4 tests) (drop 4 tests) (λ z. c .if1 .taken (ap (λ (v : Verdict). v .number) verdict ∙ z))
 
 judge-picture-requires : tie.Need-judge-picture-requires
-judge-picture-requires c κs = 
+judge-picture-requires c κs =
     let s = c .before .before .before .before .before in
     (s .pre .0, (ap (λ (v : Service). v .line .0) (s .pre .1 .0), (s .pre .1 .1 .0, s .pre .1 .1 .1)))
 
 returns-2 : tie.Need-returns-2
-returns-2 c = 
+returns-2 c =
     let s = c .before .before .before .before .before .before in
     let a = s .args in
     let verdict = ap (λ (v : Service). v .verdict) (s .pre .1 .0) ∙ tests-are (a .f) (a .symbols .now) (s .pre .0) in

@@ -23,7 +23,7 @@ span-lengths-requires : tie.Need-span-lengths-requires
 span-lengths-requires c κs = search needs
 
 returns : tie.Need-returns
-returns c = 
+returns c =
     let a = c .before .before .before .before .before .before .before .args in
     let w = a .symbols .now in
     let lengths = c .before .before .span-lengths .ensures in
@@ -33,7 +33,7 @@ returns c =
     (sym e, rows-kept (a .f) w (a .rows .now) e (omega arith))
 
 returns-2 : tie.Need-returns-2
-returns-2 c = 
+returns-2 c =
     let a = c .before .before .before .before .before .before .before .before .before .args in
     let w = a .symbols .now in
     let lengths = c .before .before .before .before .span-lengths .ensures in
@@ -46,7 +46,7 @@ returns-2 c =
     (sym e, rows-kept (a .f) w (a .rows .now) e (omega arith))
 
 read-window-requires : tie.Need-read-window-requires
-read-window-requires c κs = 
+read-window-requires c κs =
     let a = c .before .before .before .before .before .before .before .before .before .before .args in
     let w = a .symbols .now in
     let lengths = c .before .before .before .before .before .span-lengths .ensures in
@@ -62,7 +62,7 @@ same-length : tie.Need-same-length
 same-length c = search needs
 
 returns-3 : tie.Need-returns-3
-returns-3 c = 
+returns-3 c =
     let a = c .before .before .before .before .before .before .before .before .before .before .before .before .before .args in
     let w = a .symbols .now in
     let lengths = c .before .before .before .before .before .before .before .before .span-lengths .ensures in
@@ -76,7 +76,7 @@ returns-3 c =
     (read .0 ∙ sym (read-is (a .f) w is (length (a .rows .now)) room), read .1 ∙ rows-read (a .f) w is (a .rows .now) room)
 
 returns-4 : tie.Need-returns-4
-returns-4 c = 
+returns-4 c =
     let a = c .before .before .before .before .args in
     let w = a .symbols .now in
     let e = unknown (a .f) w (length (a .rows .now)) (sym (c .before .is-known .ensures) ∙ c .if1 .left) .0 in

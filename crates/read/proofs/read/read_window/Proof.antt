@@ -15,7 +15,7 @@ take-requires : tie.Need-take-requires
 take-requires c κs = search needs
 
 read-words-requires : tie.Need-read-words-requires
-read-words-requires c κs = 
+read-words-requires c κs =
     let s = c .before .before .before .before .before .before .before .before .before in
     let taken = c .before .before .before .before .before .take .ensures in
     let whole = taken .1 .0 (c .before .before .if1 .taken) in
@@ -25,7 +25,7 @@ same-length : tie.Need-same-length
 same-length c = search needs
 
 returns : tie.Need-returns
-returns c = 
+returns c =
     let read = c .before .before .read-words .ensures in
     (read .0, read .1 (c .before .before .before .before .before .before .before .before .before .before .before .before .args .rows .now) (sym (c .before .before .before .before .before .before .before .before .take .ensures .0)))
 
@@ -36,7 +36,7 @@ same-length-2 : tie.Need-same-length-2
 same-length-2 c = search needs
 
 returns-2 : tie.Need-returns-2
-returns-2 c = 
+returns-2 c =
     let read = c .before .before .read-by-steps .ensures in
     (read .0, read .1 (c .before .before .before .before .before .before .before .before .before .before .before .args .rows .now) (sym (c .before .before .before .before .before .before .before .take .ensures .0)))
 
