@@ -17,7 +17,7 @@ pub enum Found {
 }
 
 // The symbols that a recording may have.
-pub(crate) fn limit() -> usize
+pub fn limit() -> usize
     ensures { λ r. ⌜ r ≡ limitOf ⌝ }
 {
     2097152

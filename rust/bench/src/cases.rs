@@ -1,5 +1,7 @@
 //! The lines that are sent and read to be measured.
 
+use chance::Random;
+use outside::spans::sent_symbols;
 use plain::span::{shape, Shape};
 
 /// Spans in one turn.
@@ -8,11 +10,11 @@ pub const SPANS: usize = 8;
 /// Turns of which the best counts.
 pub const TURNS: usize = 3_000;
 
-/// The simple version has a turn once in so many: it would take most of the time.
-pub const SELDOM: usize = 100;
+/// What the wire carries, in millions of symbols a second: 120 times 1,125 spans of 7,920 symbols, and as many in the other formats.
+pub const WIRE: f64 = 1069.2;
 
-/// What the wire carries, in millions of symbols a second.
-pub const WIRE: usize = 1069;
+/// What it carries of the picture in format 1, in millions of samples a second: in each of these spans the 3,840 of a picture row.
+pub const WIRE_SAMPLES: f64 = 518.4;
 
 pub struct Case {
     pub label: &'static str,
@@ -32,5 +34,11 @@ pub const CASES: [Case; 5] = [
 impl Case {
     pub fn shape(&self) -> Shape {
         shape(self.format, self.depth).expect("a known format and depth")
+    }
+
+    /// Spans to be read, all of this line.
+    pub fn sent(&self) -> Vec<Vec<u16>> {
+        let mut random = Random(2);
+        (0..SPANS).map(|k| sent_symbols(&mut random, self.shape(), self.depth, self.line, k % 2 == 1)).collect()
     }
 }

@@ -1,6 +1,13 @@
-//! What the programs share that measure the library against plain Rust: which lines are measured, how time is taken, and versions written
-//! to be fast. The simple versions are those of `plain`, which goes place by place and bit by bit.
+//! The library measured against plain Rust: against `plain`, which goes place by place and bit by bit, and against versions written to be
+//! fast. In one run, on the same input, both built for release.
 
+pub mod agreement;
 pub mod cases;
 pub mod fast;
+pub mod growth;
+pub mod memory;
+pub mod operations;
+pub mod plot;
+pub mod recordings;
+pub mod tables;
 pub mod timing;

@@ -2,6 +2,27 @@
 
 use std::time::Instant;
 
+/// What the processor has given to this thread so far, in seconds: it stands still while another program is let in.
+fn given() -> f64 {
+    #[repr(C)]
+    struct Time {
+        seconds: i64,
+        nanoseconds: i64,
+    }
+    extern "C" {
+        fn clock_gettime(clock: i32, time: *mut Time) -> i32;
+    }
+    const OF_THREAD: i32 = 3;
+    let mut time = Time { seconds: 0, nanoseconds: 0 };
+    // Sound: it is the struct of x86-64 Linux, and lent until the call has ended.
+    assert_eq!(unsafe { clock_gettime(OF_THREAD, &mut time) }, 0);
+    time.seconds as f64 + time.nanoseconds as f64 / 1e9
+}
+
+/// Seconds from which on a work is long. A short one has a turn now and then in which no other program is let in; a long one may have none.
+/// But the processor's account was seen to be ten microseconds short, so short works go by the clock alone.
+const LONG: f64 = 0.005;
+
 /// The least time that a work has taken, in seconds. Works that are compared take their turns one after the other, so that what else the
 /// machine does meets them alike.
 #[derive(Clone, Copy)]
@@ -11,10 +32,13 @@ impl Least {
     /// Nothing was timed yet.
     pub const NONE: Least = Least(f64::MAX);
 
+    /// By the clock, and a long work by the processor where another program was let in.
     pub fn time(&mut self, work: impl FnOnce()) {
-        let start = Instant::now();
+        let (before, start) = (given(), Instant::now());
         work();
-        self.0 = self.0.min(start.elapsed().as_secs_f64());
+        let elapsed = start.elapsed().as_secs_f64();
+        let worked = given() - before;
+        self.0 = self.0.min(if worked < LONG { elapsed } else { elapsed.min(worked) });
     }
 
     pub fn seconds(self) -> f64 {
@@ -25,8 +49,29 @@ impl Least {
     pub fn rate(self, count: usize) -> f64 {
         count as f64 / self.0 / 1e6
     }
+}
 
-    pub fn over(self, other: Least) -> f64 {
-        self.0 / other.0
+/// The simple version has a turn once in so many: it would take most of the time.
+const SELDOM: usize = 20;
+
+/// The same work by each of the three versions.
+pub struct Three {
+    pub library: Least,
+    pub fast: Least,
+    pub plain: Least,
+}
+
+impl Three {
+    /// The versions in turns.
+    pub fn time(turns: usize, mut library: impl FnMut(), mut fast: impl FnMut(), mut plain: impl FnMut()) -> Three {
+        let mut three = Three { library: Least::NONE, fast: Least::NONE, plain: Least::NONE };
+        for turn in 0..turns {
+            three.library.time(&mut library);
+            three.fast.time(&mut fast);
+            if turn % SELDOM == 0 {
+                three.plain.time(&mut plain);
+            }
+        }
+        three
     }
 }

@@ -7,6 +7,7 @@ pub mod published;
 pub mod read;
 pub mod recording;
 pub mod span;
+pub mod test_picture;
 pub mod words;
 
 /// The number of a refusal and its place, 0 where the papers give it none (01, "Refusal numbers").

@@ -1,6 +1,9 @@
 //! Reading (01, "Receiving and finding"): a span is read in one pass without a look at what may be wrong. Only where something was, it is
 //! looked for.
 
+pub mod judge;
+pub mod recording;
+
 use super::words::{crcc_words, named, repair, step, XYZ};
 use brazulint::{Content, Delivery};
 use plain::code::{encode, K28_5, K29_7};
@@ -221,4 +224,17 @@ pub fn read(tables: &Tables, format: u32, depth: u32, symbols: &[u16], rows: &mu
         rows.fill(0);
         plain::read::window(shape, depth, symbols).expect_err("something was wrong")
     })
+}
+
+/// The same for a caller who does not ask why a span is refused, and to whom rows are nothing then.
+#[inline(never)]
+fn accepted(tables: &Tables, shape: Shape, depth: u32, symbols: &[u16], rows: &mut [u16]) -> Option<Delivery> {
+    assert!(symbols.len() == shape.symbols() && rows.len() == shape.samples());
+    // Sound: both lengths are right.
+    unsafe {
+        match shape.streams {
+            2 => span::<2>(tables, shape, depth, symbols, rows),
+            _ => span::<4>(tables, shape, depth, symbols, rows),
+        }
+    }
 }

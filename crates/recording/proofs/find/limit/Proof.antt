@@ -1,13 +1,13 @@
 -- `recording::find::limit` meets its contract.
 -- Assumes nothing.
-use mathlib.Core.Path.{refl}
+use native.Mathlib.Omega.{arith}
 use Rattle.recording.specs.Recording.{limit}
 use Rattle.recording.proofs.find.limit.Statement.{statement}
 use Rattle.recording.proofs.find.limit.Tie as tie
 
 returns : tie.Need-returns
 unfolding limit
-returns c = refl
+returns c = omega arith
 
 pub limit-spec : {M : Type 1} → statement M
 limit-spec = tie.close (tie.spec returns)

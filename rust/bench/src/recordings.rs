@@ -1,7 +1,7 @@
-//! Recordings of the longest length in which no span is found, some of them made to keep the finder busy (01, "Receiving and finding").
+//! Recordings of the longest length, some of them made to keep the finder busy (01, "Receiving and finding").
 
 use chance::Random;
-use outside::spans::{made_characters, made_words};
+use outside::spans::{made_characters, made_words, sent_symbols};
 use plain::code::{K28_5, K29_7};
 use plain::read::window;
 use plain::recording::LIMIT;
@@ -39,6 +39,21 @@ pub fn false_starts() -> Vec<u16> {
     symbols(false, &characters).0
 }
 
+/// The SAV of an active line, again and again: every twelfth place looks like the start of a span for as long as a SAV has symbols.
+pub fn timing_codes() -> Vec<u16> {
+    let (mut random, shape) = (Random(8), span_shape());
+    let words = made_words(&mut random, shape, DEPTH, 100);
+    let sav = &made_characters(&mut random, shape, &words)[..12];
+    let characters: Vec<u16> = (0..LIMIT).map(|i| sav[i % 12]).collect();
+    symbols(false, &characters).0
+}
+
+/// Spans one behind the other, all as they should be.
+pub fn sent_spans() -> Vec<u16> {
+    let (mut random, shape) = (Random(9), span_shape());
+    repeated(|| sent_symbols(&mut random, shape, DEPTH, 100, false))
+}
+
 /// The last byte of the last fill word is another: test 20 passes, and test 26 fails at the last place.
 pub fn wrong_last_fills() -> Vec<u16> {
     let (last, last_word) = (span_shape().symbols() - 1, span_shape().words() - 1);
@@ -54,14 +69,21 @@ pub fn late_special_characters() -> Vec<u16> {
 /// Spans one behind the other, each with a character changed. The refusal of each, with its place, is given.
 fn spoilt_spans(change: impl Fn(&mut [u16]), refused: Refused) -> Vec<u16> {
     let (mut random, shape) = (Random(5), span_shape());
-    let mut recording = Vec::new();
-    while recording.len() < LIMIT {
+    repeated(|| {
         let words = made_words(&mut random, shape, DEPTH, 100);
         let mut characters = made_characters(&mut random, shape, &words);
         change(&mut characters);
         let span = symbols(random.seldom(2), &characters).0;
         assert_eq!(window(shape, DEPTH, &span).err(), Some(refused));
-        recording.extend(span);
+        span
+    })
+}
+
+/// As many spans as there is room for, and the beginning of one more.
+fn repeated(mut span: impl FnMut() -> Vec<u16>) -> Vec<u16> {
+    let mut recording = Vec::new();
+    while recording.len() < LIMIT {
+        recording.extend(span());
     }
     recording.truncate(LIMIT);
     recording

@@ -1,0 +1,9 @@
+pub mod Lefts
+pub mod LowFirst
+pub mod Outputs
+pub mod Ready
+pub mod Sendings
+pub mod Sizes
+pub mod Starts
+pub mod Wants
+pub mod Whole

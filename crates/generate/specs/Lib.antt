@@ -1,0 +1,3 @@
+pub mod Generated
+pub mod Parameters
+pub mod Pieces

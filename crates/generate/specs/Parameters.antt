@@ -1,0 +1,54 @@
+-- What is asked of the test generator: six bytes, and the refusals in the order of document 01's table.
+-- Assumes nothing.
+use Prim.Native.Nat.{ℕ, _*_}
+use mathlib.Core.Bool.{Bool, cond, _&&_}
+use mathlib.Core.List.{List, [], _∷_}
+use lib.Dec.{leb, ltb}
+use lib.ListN.{length, getD}
+use Rattle.ground.specs.Answer.{Answer, refused, given, Row, unless, checked}
+use Rattle.line.specs.Stream.{isLine}
+use Rattle.span.specs.declared.format.Format.{Format}
+use Rattle.span.specs.Format.{isKnown, shapeOf, symbolsIn}
+use Rattle.recording.specs.Recording.{limit}
+use Rattle.text.specs.Words.{wordAt}
+use Rattle.generate.specs.declared.parameters.Parameters.{Parameters}
+use Rattle.generate.specs.declared.parameters.Wanted.{Wanted}
+use Rattle.generate.specs.declared.parameters.Wanted.the-variants.{Recording, UnknownFormat, NoLine, WrongInput}
+
+-- a byte of format, a byte of depth; a byte that is missing is neither
+abbrev pub formatIn : List ℕ → Format
+formatIn input = record { number = getD input 0 0; depth = getD input 1 0 }
+
+-- the first line, two bytes, low byte first; where one of them is missing it is line 0, which is none
+abbrev pub lineIn : List ℕ → ℕ
+lineIn input = cond (ltb (length input) 4) 0 (wordAt input 1)
+
+-- the number of spans, two bytes, low byte first
+abbrev pub countIn : List ℕ → ℕ
+countIn input = wordAt input 2
+
+-- whether all six are there; what follows them is ignored
+abbrev pub isWhole : List ℕ → Bool
+isWhole input = leb 6 (length input)
+
+-- whether the finder takes a recording of that many spans
+abbrev pub isShort : List ℕ → Bool
+isShort input = leb (countIn input * symbolsIn (shapeOf (formatIn input))) limit
+
+-- the paper's number for each answer
+abbrev pub paperWanted : Wanted → Answer Parameters
+paperWanted (Recording p) = given p
+paperWanted UnknownFormat = refused 1 0
+paperWanted NoLine = refused 2 0
+paperWanted WrongInput = refused 3 0
+
+-- 1 for an unknown format or depth, 2 where the first line is not 1 to 1125, 3 where bytes are missing or the recording would be too long
+abbrev pub rowsOf : List ℕ → List Row
+rowsOf input =
+    unless 1 (isKnown (formatIn input)) ∷ unless 2 (isLine (lineIn input)) ∷ unless 3 (isWhole input && isShort input) ∷ []
+
+abbrev pub parametersIn : List ℕ → Parameters
+parametersIn input = record { format = formatIn input; first = record { 0 = lineIn input }; count = countIn input }
+
+abbrev pub wantedOf : List ℕ → Answer Parameters
+wantedOf input = checked (rowsOf input) (parametersIn input)

@@ -1,0 +1,83 @@
+// The start of what is written, and what is left behind it.
+use crate::left::Left;
+use crate::parameters::Parameters;
+use crate::parameters::Wanted;
+ghost use mathlib.Core.Path.{_≡_};
+ghost use Prim.Native.Nat.{_≤_};
+ghost use lib.ListN.{length};
+ghost use lib.Seq.{sets};
+ghost use Rattle.io.specs.Counts.{Counts};
+ghost use Rattle.generate.specs.Pieces.{startOf, allOf, nothing as none, leftOf, Ready};
+
+// How many bytes it has, and what is left.
+pub(crate) struct Start {
+    pub(crate) end: usize,
+    pub(crate) left: Left,
+}
+
+// All spans of a recording, from the disparity before a fresh signal.
+fn all_of(p: Parameters) -> Left
+    ensures { λ r. ⌜ r ≡ allOf p ⌝ }
+{
+    let format = p.format;
+    let line = p.first;
+    let disparity = symbol::disparity::before_fresh_signal();
+    Left {
+        format,
+        line,
+        disparity,
+        count: p.count,
+    }
+}
+
+fn nothing() -> Left
+    ensures { λ r. ⌜ r ≡ none ⌝ }
+{
+    let format = span::format::format_of(0, 0);
+    let line = line::stream::stream_line(0);
+    let disparity = symbol::disparity::before_fresh_signal();
+    Left {
+        format,
+        line,
+        disparity,
+        count: 0,
+    }
+}
+
+// A refusal, and nothing left.
+fn put_refusal(words: &[u8], out: &mut [u8]) -> Start
+    requires { ⌜ length (now words) ≤ length (now out) ⌝ }
+    ensures start { λ r. ⌜ r ≡ record { end = length (now (words .entry)); left = none } ⌝ }
+    ensures written { λ _. ⌜ now (out .exit) ≡ sets (now (out .entry)) 0 (now (words .entry)) ⌝ }
+{
+    let end = text::put::put_text(words, out, 0);
+    let left = nothing();
+    Start { end, left }
+}
+
+// The bytes of format and depth, or that it is refused.
+pub(crate) fn put_start(input: &[u8], out: &mut [u8]) -> Start
+    requires { ⌜ 10 ≤ length (now out) ⌝ }
+    ensures counts { λ r. ⌜ Counts (r .end) (now (out .exit)) ⌝ }
+    ensures ready { λ r. ⌜ Ready (r .left) ⌝ }
+    ensures end { λ r. ⌜ r .end ≡ length (startOf (now (input .entry))) ⌝ }
+    ensures left { λ r. ⌜ r .left ≡ leftOf (now (input .entry)) ⌝ }
+    ensures written { λ _. ⌜ now (out .exit) ≡ sets (now (out .entry)) 0 (startOf (now (input .entry))) ⌝ }
+{
+    match crate::parameters::wanted_in(input) {
+        Wanted::Recording(p) => {
+            let end = text::put::put_text(&input[..2], out, 0);
+            let left = all_of(p);
+            return Start { end, left };
+        },
+        Wanted::UnknownFormat => {
+            return put_refusal(b"refused 1\n", out);
+        },
+        Wanted::NoLine => {
+            return put_refusal(b"refused 2\n", out);
+        },
+        Wanted::WrongInput => {
+            return put_refusal(b"refused 3\n", out);
+        },
+    }
+}

@@ -1,0 +1,37 @@
+// The spans that are left, written one after the other. No contract can say what is written: `put_next` says what each piece is.
+use crate::left::Left;
+use libc::STDOUT_FILENO;
+ghost use mathlib.Core.Path.{_≡_};
+ghost use Prim.Native.Nat.{_*_};
+ghost use lib.ListN.{length};
+ghost use Rattle.span.specs.Format.{shapeOf, samplesIn, symbolsIn};
+ghost use Rattle.generate.specs.Pieces.{Ready};
+
+// A piece for each span; it stops where nobody takes them.
+fn write_pieces(left: Left, samples: &mut [u16], symbols: &mut [u16], out: &mut [u8])
+    requires { ⌜ Ready left ⌝ }
+    requires { ⌜ length (now samples) ≡ samplesIn (shapeOf (left .format)) ⌝ }
+    requires { ⌜ length (now symbols) ≡ symbolsIn (shapeOf (left .format)) ⌝ }
+    requires { ⌜ length (now out) ≡ 2 * symbolsIn (shapeOf (left .format)) ⌝ }
+{
+    let mut s = left;
+    while 0 < s.count {
+        s = crate::left::put_next(s, samples, symbols, out);
+        if !io::write_all(STDOUT_FILENO, out) {
+            return;
+        }
+    }
+}
+
+pub(crate) fn write_left(left: Left)
+    requires { ⌜ Ready left ⌝ }
+{
+    let lengths = span::length::span_lengths(left.format);
+    let m = lengths.samples;
+    let n = lengths.symbols;
+    let k = 2 * n;
+    let mut samples = [0u16; 7680];
+    let mut symbols = [0u16; 19008];
+    let mut out = [0u8; 38016];
+    write_pieces(left, &mut samples[..m], &mut symbols[..n], &mut out[..k]);
+}

@@ -1,0 +1,6 @@
+pub mod Codes
+pub mod Images
+pub mod OneToOne
+pub mod Puttings
+pub mod Rows
+pub mod Sendings

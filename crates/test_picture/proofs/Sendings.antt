@@ -1,0 +1,80 @@
+-- The samples of the test picture may be sent, on every line of a stream.
+-- Assumes nothing.
+use mathlib.Core.Path.{_≡_, refl, sym, subst}
+use mathlib.Core.Bool.{true, false}
+use Prim.Native.Nat.{ℕ, _+_, _*_, _/_, _%_, _<_}
+use native.Mathlib.Omega.{arith}
+use lib.Dec.{eqb}
+use lib.ListN.{length, getD}
+use Rattle.ground.specs.Answer.{given}
+use Rattle.ground.specs.Range.{within}
+use Rattle.ground.proofs.Cases.{on-test}
+use Rattle.ground.proofs.Ranges.{is-within}
+use Rattle.ground.proofs.Writing.{length-table, getD-table}
+use Rattle.line.specs.Picture.{basicLineOf}
+use Rattle.line.specs.Stream.{isLine, isActive}
+use Rattle.picture.specs.Division.{lineFrom, sampleFrom}
+use Rattle.symbol.specs.declared.disparity.Disparity.{Disparity}
+use Rattle.span.specs.declared.content.Content.{Content}
+use Rattle.span.specs.declared.format.Format.{Format}
+use Rattle.span.specs.Format.{isKnown, shapeOf, samplesIn, symbolsIn}
+use Rattle.span.specs.Image.{imageOf}
+use Rattle.span.specs.Sample.{blank, boundsOf}
+use Rattle.span.specs.Span.{spanAfter}
+use Rattle.send.specs.Send.{asked, sendOf}
+use Rattle.send.proofs.Checking.{outside-never}
+use Rattle.send.proofs.Refusals.{sends}
+use Rattle.blanking.specs.Blanking.{blankRow}
+use Rattle.test_picture.specs.TestPicture.{stepOf, sampleBy, testSamples}
+use Rattle.test_picture.proofs.Codes.{code-low, code-high}
+use Rattle.test_picture.proofs.Images.{picture-long, sample-is}
+
+module _ (f : Format) (n : ℕ) where
+  -- a number that the line may carry
+  abbrev Inside : ℕ → Type 0
+  Inside x = within (boundsOf f n .low) (boundsOf f n .high) x ≡ true
+
+  pub are-blanking : isActive n ≡ false → testSamples f n ≡ blankRow f
+  unfolding testSamples
+  are-blanking t = simp t
+
+  -- a code at the depth of the format
+  code-inside : isActive n ≡ true → (line sample : ℕ) → Inside (sampleBy (stepOf f) line sample)
+  code-inside active line sample =
+      let low = code-low line sample in
+      let high = code-high line sample in
+      on-test (eqb (f .depth) 10)
+      (λ ten. simp (active, ten) (is-within 4 1019 _ (omega arith) (omega arith)))
+      (λ twelve. simp (active, twelve) (is-within 16 4079 _ (omega arith) (omega arith)))
+
+  -- as many samples as a span has
+  pub samples-long : length (testSamples f n) ≡ samplesIn (shapeOf f)
+  samples-long =
+      on-test (isActive n) (picture-long f n)
+      (λ t. rw (are-blanking t) (length-table (samplesIn (shapeOf f)) (λ i. blank f (i / 1920))))
+
+  pub each-inside : (i : ℕ) → i < length (testSamples f n) → Inside (getD (testSamples f n) i 0)
+  each-inside i h =
+      on-test (isActive n)
+      (λ active.
+      let t = i / 1920 in
+      let j = i % 1920 in
+      let place : 1920 * t + j ≡ i = omega arith in
+      let few : t < 2 * shapeOf f .half = omega (arith, samples-long) in
+      let u = imageOf f 1 t in
+      let is = sample-is f n active t j few (omega arith) in
+      subst (λ (k : ℕ). Inside (getD (testSamples f n) k 0)) place
+      (subst Inside (sym is) (code-inside active (lineFrom u (basicLineOf n)) (sampleFrom u j))))
+      (λ t.
+      let inside : i < samplesIn (shapeOf f) = omega (arith, samples-long) in
+      rw (are-blanking t, getD-table (samplesIn (shapeOf f)) (λ k. blank f (k / 1920)) i 0 inside)
+      (simp t (is-within 0x100 0x100 0x100 (omega arith) (omega arith))))
+
+  -- so a call with them is refused nothing
+  pub is-sent :
+      (d : Disparity) (content : Content)
+      → isKnown f ≡ true → isLine n ≡ true
+      → sendOf d f (asked n content (testSamples f n)) (symbolsIn (shapeOf f)) ≡ given (spanAfter d f (asked n content (testSamples f n)))
+  is-sent d content known line =
+      sends d f (asked n content (testSamples f n)) (symbolsIn (shapeOf f)) known line samples-long refl (length (testSamples f n))
+      (sym (outside-never _ _ _ each-inside)) (omega arith)

@@ -1,0 +1,120 @@
+// The samples that a link carries of the test picture: those of the first images.
+use crate::answer::Put;
+use line::picture::PictureLine;
+use line::stream::StreamLine;
+use span::format::Format;
+ghost use mathlib.Core.Path.{_≡_};
+ghost use mathlib.Core.Bool.{true};
+ghost use mathlib.Core.List.{_++_};
+ghost use Prim.Native.Nat.{_+_, _-_, _*_, _≤_};
+ghost use lib.ListN.{length};
+ghost use lib.Seq.{sets};
+ghost use Rattle.line.specs.Stream.{isActive};
+ghost use Rattle.dividing.specs.Row.{divided};
+ghost use Rattle.span.specs.Format.{isKnown, shapeOf, samplesIn};
+ghost use Rattle.test_picture.specs.Putting.{paperPut, samplesOf, samplesPut};
+ghost use Rattle.test_picture.specs.TestPicture.{stepOf, rowBy, testSamples};
+
+// How many twelve-bit codes are one at the depth of a format.
+fn step_of(f: Format) -> u16
+    ensures { λ r. ⌜ r ≡ stepOf f ⌝ }
+{
+    if span::format::depth_of(f) == 10 {
+        return 4;
+    }
+    1
+}
+
+// The first or the second picture line that give a line of basic images.
+fn picture_line_of(basic: PictureLine, second: usize) -> PictureLine
+    requires { ⌜ 1 ≤ basic .0 ⌝ }
+    requires { ⌜ basic .0 ≤ 1080 ⌝ }
+    requires { ⌜ second ≤ 1 ⌝ }
+    ensures { λ r. ⌜ r .0 ≡ 2 * basic .0 - 1 + second ⌝ }
+{
+    line::picture::picture_line(2 * line::picture::number_of(basic) - 1 + second as u16)
+}
+
+// A row of the picture, divided: that of its first image and then that of its second, from a place on.
+fn put_images(
+    line: PictureLine,
+    step: u16,
+    row: &mut [u16],
+    first: &mut [u16],
+    second: &mut [u16],
+    samples: &mut [u16],
+    at: usize,
+)
+    requires { ⌜ 1 ≤ step ⌝ }
+    requires { ⌜ length (now row) ≡ 3840 ⌝ }
+    requires { ⌜ length (now first) ≡ 1920 ⌝ }
+    requires { ⌜ length (now second) ≡ 1920 ⌝ }
+    requires { ⌜ at + 3840 ≤ length (now samples) ⌝ }
+    ensures { λ _. ⌜ now (samples .exit) ≡ sets (now (samples .entry)) at (divided 0 1920 (rowBy step (line .0)) ++ divided 1 1920 (rowBy step (line .0))) ⌝ }
+{
+    crate::row::put_codes(line, step, row);
+    dividing::split::split(row, first, second);
+    crate::copy::copy_to(first, samples, at);
+    crate::copy::copy_to(second, samples, at + 1920);
+}
+
+// The samples of an active line: the rows of the picture lines that its images have there, a row for each two streams.
+fn put_picture(
+    f: Format,
+    l: StreamLine,
+    row: &mut [u16],
+    first: &mut [u16],
+    second: &mut [u16],
+    samples: &mut [u16],
+)
+    requires { ⌜ isActive (l .0) ≡ true ⌝ }
+    requires { ⌜ length (now row) ≡ 3840 ⌝ }
+    requires { ⌜ length (now first) ≡ 1920 ⌝ }
+    requires { ⌜ length (now second) ≡ 1920 ⌝ }
+    requires { ⌜ length (now samples) ≡ samplesIn (shapeOf f) ⌝ }
+    ensures { λ _. ⌜ now (samples .exit) ≡ testSamples f (l .0) ⌝ }
+{
+    let step = step_of(f);
+    let basic = line::picture::basic_line_of(l);
+    let rows = span::format::shape_of(f).half;
+    let mut i = 0;
+    while i < rows {
+        let line = picture_line_of(basic, i);
+        put_images(line, step, row, first, second, samples, 3840 * i);
+        i += 1;
+    }
+}
+
+// The samples of a line into a row that has room for them: the picture on active lines, blanking on any other.
+fn put_line(f: Format, l: StreamLine, samples: &mut [u16])
+    requires { ⌜ isKnown f ≡ true ⌝ }
+    requires { ⌜ length (now samples) ≡ samplesIn (shapeOf f) ⌝ }
+    ensures { λ _. ⌜ now (samples .exit) ≡ testSamples f (l .0) ⌝ }
+{
+    if line::stream::is_active(l) {
+        let mut row = [0u16; 3840];
+        let mut first = [0u16; 1920];
+        let mut second = [0u16; 1920];
+        put_picture(f, l, &mut row, &mut first, &mut second, samples);
+        return;
+    }
+    blanking::blanking::fill_blanking(f, samples);
+}
+
+// The samples of a stream line, stream by stream.
+pub fn put_samples(f: Format, l: StreamLine, samples: &mut [u16]) -> Put
+    ensures answer { λ r. ⌜ paperPut r ≡ samplesOf f (l .0) (now (samples .entry)) ⌝ }
+    ensures samples { λ _. ⌜ now (samples .exit) ≡ samplesPut f (l .0) (now (samples .entry)) ⌝ }
+{
+    if !span::format::is_known(f) {
+        return Put::UnknownFormat;
+    }
+    if !line::stream::is_line(l) {
+        return Put::NoLine;
+    }
+    if samples.len() != span::length::span_lengths(f).samples {
+        return Put::WrongOutput;
+    }
+    put_line(f, l, samples);
+    Put::Done
+}

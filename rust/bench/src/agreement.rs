@@ -1,0 +1,11 @@
+//! That versions answer the same, whatever form their answers have.
+
+use brazulint::Delivery;
+use plain::read::Delivered;
+
+/// Whether a span was read as the plain reader does, but for its rows.
+pub fn same(own: &Delivery, plain: &Delivered) -> bool {
+    let content = [own.content.sav1, own.content.sav2, own.content.eav1, own.content.eav2];
+    let disparities = (own.positive_before, own.positive_after) == (plain.positive_before, plain.positive_after);
+    (own.line, own.repairs, content) == (plain.line, plain.repairs, plain.content) && disparities
+}

@@ -1,0 +1,23 @@
+//! Measures the library against plain Rust, prints the tables of docs/BENCHMARKS.md, and writes its plot to the file that is named. What
+//! is measured is told on standard error as it comes.
+
+use bench::{growth, memory, operations, plot, tables};
+use std::process::ExitCode;
+
+fn main() -> ExitCode {
+    let Some(file) = std::env::args_os().nth(1) else {
+        eprintln!("usage: bench FILE.svg");
+        return ExitCode::FAILURE;
+    };
+    let (speeds, growth) = (operations::measure(), growth::measure());
+    println!("{}", tables::speeds(&speeds));
+    println!("{}\n", memory::measure());
+    print!("{}", tables::growth(&growth));
+    match std::fs::write(&file, plot::svg(&speeds, &growth)) {
+        Ok(()) => ExitCode::SUCCESS,
+        Err(error) => {
+            eprintln!("{}: {error}", file.to_string_lossy());
+            ExitCode::FAILURE
+        }
+    }
+}

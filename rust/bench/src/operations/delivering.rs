@@ -1,0 +1,82 @@
+//! A recording of many spans delivered, by steps of the next span.
+
+use super::Speeds;
+use crate::agreement::same;
+use crate::cases::{Case, CASES};
+use crate::fast::read::judge::Judge;
+use crate::fast::read::{recording, tables};
+use crate::timing::Three;
+use brazulint::Delivery;
+use chance::Random;
+use outside::spans::sent_symbols;
+use plain::read::Delivered;
+
+const SPANS: usize = 100;
+const TURNS: usize = 500;
+
+/// Spans one behind the other, of forty lines that are all active or all blanking as the case says.
+fn recorded(case: &Case) -> Vec<u16> {
+    let (mut random, shape) = (Random(7), case.shape());
+    let span = |k| sent_symbols(&mut random, shape, case.depth, case.line + k as u32 % 40, k % 2 == 1);
+    (0..SPANS).flat_map(span).collect()
+}
+
+// Each version gives the place after the span, and what it says.
+
+fn by_library(case: &Case, symbols: &[u16], start: u64, rows: &mut [u16]) -> Option<(u64, Delivery)> {
+    let answer = brazulint::next(case.format, case.depth, symbols, start, rows);
+    let next = answer.result().expect("a recording that is not too long");
+    next.map(|(_, delivery)| (answer.resume, delivery))
+}
+
+fn by_fast(judge: &mut Judge, case: &Case, symbols: &[u16], start: u64, rows: &mut [u16]) -> Option<(u64, Delivery)> {
+    let next = recording::next(judge, case.format, case.depth, symbols, start, rows).expect("a recording that is not too long");
+    next.map(|(place, delivery)| (place + case.shape().symbols() as u64, delivery))
+}
+
+fn by_plain(case: &Case, symbols: &[u16], start: u64) -> Option<(u64, Delivered)> {
+    let shape = case.shape();
+    let next = plain::recording::next(case.format, case.depth, symbols, start, shape.samples()).expect("a recording that is not too long");
+    next.map(|(place, delivered)| (place + shape.symbols() as u64, delivered))
+}
+
+fn agree(judge: &mut Judge, case: &Case, symbols: &[u16]) {
+    let [mut own, mut quick] = [(); 2].map(|()| vec![0; case.shape().samples()]);
+    let (mut start, mut count) = (0, 0);
+    while let Some((after, expected)) = by_plain(case, symbols, start) {
+        let right = |next: Option<(u64, Delivery)>| next.is_some_and(|(end, delivery)| end == after && same(&delivery, &expected));
+        assert!(right(by_library(case, symbols, start, &mut own)) && own == expected.rows, "{}: the library", case.label);
+        assert!(right(by_fast(judge, case, symbols, start, &mut quick)) && quick == expected.rows, "{}: the fast version", case.label);
+        (start, count) = (after, count + 1);
+    }
+    assert!(count == SPANS && by_library(case, symbols, start, &mut own).is_none());
+    assert!(by_fast(judge, case, symbols, start, &mut quick).is_none());
+}
+
+/// Steps to the end of a recording, all spans of which have to come.
+fn steps<T>(mut next: impl FnMut(u64) -> Option<(u64, T)>) {
+    let (mut start, mut count) = (0, 0);
+    while let Some((after, _)) = next(start) {
+        (start, count) = (after, count + 1);
+    }
+    assert_eq!(count, SPANS);
+}
+
+fn measured(judge: &mut Judge, case: &Case) -> Speeds {
+    let symbols = recorded(case);
+    agree(judge, case, &symbols);
+    let [mut rows, mut other] = [(); 2].map(|()| vec![0; case.shape().samples()]);
+    let three = Three::time(
+        TURNS,
+        || steps(|start| by_library(case, &symbols, start, &mut rows)),
+        || steps(|start| by_fast(judge, case, &symbols, start, &mut other)),
+        || steps(|start| by_plain(case, &symbols, start)),
+    );
+    Speeds::of_symbols("deliver", case.label, three, symbols.len())
+}
+
+pub fn measure() -> Vec<Speeds> {
+    let tables = tables();
+    let mut judge = Judge::new(&tables);
+    CASES.iter().map(|case| measured(&mut judge, case)).collect()
+}

@@ -1,0 +1,31 @@
+//! The test picture (docs/DECISIONS.md, "The test picture"): rings round the middle, and what a link of the first images carries of it.
+
+use crate::picture::place;
+use crate::span::{Shape, ROW};
+use crate::words::{is_active, BLANKING};
+
+/// The twelve-bit code of a sample of a picture line.
+pub fn code(line: u32, sample: u32) -> u16 {
+    let (down, right) = (i64::from(line) - 1080, i64::from(sample) - 1920);
+    16 + ((down.pow(2) + right.pow(2)) / 512 % 4064) as u16
+}
+
+/// The samples of a stream line, stream by stream. Each sample of the two picture lines that it carries goes where the division puts it;
+/// images that the link does not carry are left out.
+pub fn samples(shape: Shape, depth: u32, line: u32) -> Vec<u16> {
+    let mut rows = vec![BLANKING; shape.samples()];
+    if is_active(line) {
+        for picture_line in [2 * (line - 41) - 1, 2 * (line - 41)] {
+            for sample in 0..3840 {
+                let at = place(picture_line, sample).expect("a sample of the picture");
+                assert_eq!(at.stream_line, line);
+                let code = code(picture_line, sample);
+                let stream = at.image as usize - 1;
+                if stream < shape.streams {
+                    rows[ROW * stream + at.sample as usize] = if depth == 10 { code >> 2 } else { code };
+                }
+            }
+        }
+    }
+    rows
+}
