@@ -1,3 +1,5 @@
 pub mod Frame
 pub mod Knock
+pub mod Piece
 pub mod Receiving
+pub mod Sending

@@ -28,7 +28,7 @@ fn put_row(rows: &[u16], t: usize, picture: &mut [u16], at: usize)
 }
 
 // What one span brings.
-fn put_span(first: u16, delivery: Delivery, rows: &[u16], heard: &mut [u8], picture: &mut [u16])
+fn put_span(first: u16, delivery: Delivery, rows: &[u16], heard: &mut [u16], picture: &mut [u16])
     requires { ⌜ first ≤ 1121 ⌝ }
     requires { ⌜ length (now rows) ≡ 7680 ⌝ }
     requires { ⌜ length (now heard) ≡ 5 ⌝ }
@@ -53,7 +53,7 @@ pub(crate) fn receive(
     first: u16,
     symbols: &[u16],
     rows: &mut [u16],
-    heard: &mut [u8],
+    heard: &mut [u16],
     picture: &mut [u16],
 )
     requires { ⌜ first ≤ 1121 ⌝ }

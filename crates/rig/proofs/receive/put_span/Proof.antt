@@ -29,6 +29,11 @@ sub-k c =
 cast-k : tie.Need-cast-k
 cast-k c = search needs
 
+mul-heard : tie.Need-mul-heard
+mul-heard c =
+    let w = c .before in
+    omega (arith, to-high _ _ _ (sym (w .within .ensures) ∙ c .if1 .taken))
+
 slice-write-heard : tie.Need-slice-write-heard
 slice-write-heard c =
     let w = c .before in
@@ -122,6 +127,7 @@ put-span-spec =
     within-requires
     sub-k
     cast-k
+    mul-heard
     slice-write-heard
     is-active-requires
     mul-put-row
