@@ -1,7 +1,7 @@
 -- `rig::carry::carry` meets its contract: the tests say which row of the table is met, if one is.
 -- Assumes nothing.
 use Prim.Native.Nat.{ℕ, _≤_, _<_}
-use mathlib.Core.Path.{_≡_}
+use mathlib.Core.Path.{_≡_, refl}
 use native.Mathlib.Omega.{arith}
 use lib.ListN.{length}
 use borrow.Author.Needs.{needs}
@@ -43,7 +43,9 @@ slice-aggregate-carry-in-2 : tie.Need-slice-aggregate-carry-in-2
 slice-aggregate-carry-in-2 c = search needs
 
 carry-in-requires : tie.Need-carry-in-requires
-carry-in-requires c κs = search needs
+carry-in-requires c κs =
+    let third = c .before .before .before .before in
+    (omega (arith, third .before .before .if1 .left), (refl, (refl, (third .before .if2 .left, third .if3 .left))))
 
 same-length : tie.Need-same-length
 same-length c = search needs
