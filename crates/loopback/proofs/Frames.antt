@@ -15,8 +15,8 @@ use Rattle.symbol.specs.declared.disparity.Disparity.{Disparity}
 use Rattle.rig.specs.declared.knock.Knock.{Knock}
 use Rattle.rig.specs.Piece.{heardIn, carryOf}
 use Rattle.rig.proofs.Carrying.{carries}
-use Rattle.rig.proofs.Parts.{part-put}
-use Rattle.loopback.specs.Summary.{heardOf}
+use Rattle.reception.proofs.Parts.{part-put}
+use Rattle.loopback.specs.Frame.{heardOf}
 
 length-heard : (k : Knock) (piece : ℕ) → length (heardIn k piece) ≡ 5
 unfolding heardIn

@@ -1,5 +1,4 @@
 pub mod Bytes
-pub mod Counting
 pub mod Frames
 pub mod Inputs
-pub mod Items
+pub mod Whole

@@ -1,3 +1,3 @@
 pub mod File
+pub mod Frame
 pub mod Input
-pub mod Summary

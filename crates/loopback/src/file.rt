@@ -33,7 +33,7 @@ pub(crate) fn put_piece(piece: usize, picture: &[u16], out: &mut [u8]) -> usize
     let mut at = 0;
     let mut i = 0;
     while i < 5 {
-        if ground::range::within(42, 1121, (5 * piece + 1 + i) as u16) {
+        if line::stream::is_active(line::stream::stream_line((5 * piece + 1 + i) as u16)) {
             let from = 7680 * i;
             let to = from + 7680;
             at = put_words(&picture[from..to], out, at);

@@ -2,7 +2,6 @@
 // say where and how long; the picture that arrives goes to a file, and what was lost to standard output.
 mod file;
 mod input;
-mod summary;
 
 use libc::STDIN_FILENO;
 use libc::STDOUT_FILENO;
@@ -12,7 +11,7 @@ ghost use mathlib.Core.Path.{_≡_};
 ghost use mathlib.Core.Bool.{true};
 ghost use Prim.Native.Nat.{_≤_};
 ghost use lib.ListN.{length};
-ghost use Rattle.loopback.specs.Summary.{heardOf};
+ghost use Rattle.loopback.specs.Frame.{heardOf};
 
 // The file that the first argument names, or loopback.pgm, opened anew; below 0 where it cannot be, which is said.
 fn open_picture() -> i32 {
@@ -83,6 +82,6 @@ fn main() {
     }
     libc::close(fd);
     let mut text = [0u8; 128];
-    let end = summary::put_summary(&heard, &mut text);
+    let end = losses::summary::put_summary(&heard, &mut text);
     io::write_all(STDOUT_FILENO, &text[..end]);
 }

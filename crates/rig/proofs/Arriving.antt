@@ -29,12 +29,12 @@ use Rattle.recording.proofs.Readings.{reading-told, span-marked}
 use Rattle.demands.specs.Form.{Sending, WasSent, readingOf}
 use Rattle.demands.proofs.Sendings.{sent-read}
 use Rattle.rig.specs.declared.knock.Knock.{Knock}
-use Rattle.rig.specs.Frame.{link}
+use Rattle.reception.specs.Link.{link}
 use Rattle.rig.specs.Knock.{struck, knocked, lost}
 use Rattle.rig.specs.Sending.{askedOn}
 use Rattle.rig.proofs.Knocking.{length-knocked, knocked-at}
 use Rattle.rig.proofs.Lines.{length-span, line-sent}
-use Rattle.rig.proofs.Links.{link-known, link-symbols}
+use Rattle.reception.proofs.Links.{link-known, link-symbols}
 
 -- ---- 0 is no symbol
 

@@ -1,11 +1,8 @@
 pub mod Arriving
-pub mod Bringing
 pub mod Carrying
 pub mod Knocking
 pub mod Lines
-pub mod Links
+pub mod Losing
 pub mod Outcomes
-pub mod Parts
 pub mod Pieces
-pub mod Putting
 pub mod Slots

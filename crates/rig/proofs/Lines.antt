@@ -7,12 +7,13 @@ use Prim.Native.Nat.{ℕ, zero, suc, _+_, _-_, _*_, _≤_, _<_}
 use native.Mathlib.Omega.{arith}
 use lib.ListN.{length, length-append}
 use lib.Seq.{sets}
+use borrow.Author.Tests.{lt-ltb}
 use Rattle.ground.specs.Answer.{Answer, refused, given, unlessRefused}
 use Rattle.ground.proofs.Answers.{when-given}
 use Rattle.ground.proofs.Ranges.{is-within}
 use Rattle.ground.proofs.Writing.{sets-append, sets-whole}
 use Rattle.symbol.specs.declared.disparity.Disparity.{Disparity}
-use Rattle.line.specs.Stream.{isLine}
+use Rattle.line.specs.Stream.{isLine, lineAfter}
 use Rattle.span.specs.declared.content.Content.the-variants.{NoneNamed}
 use Rattle.span.specs.declared.format.Format.{Format}
 use Rattle.span.specs.Format.{shapeOf, samplesIn, symbolsIn}
@@ -26,9 +27,9 @@ use Rattle.test_picture.specs.Putting.{samplesPut}
 use Rattle.test_picture.specs.TestPicture.{testSamples}
 use Rattle.test_picture.proofs.Puttings.{puts-samples}
 use Rattle.test_picture.proofs.Sendings.{is-sent}
-use Rattle.rig.specs.Frame.{link}
+use Rattle.reception.specs.Link.{link}
 use Rattle.rig.specs.Sending.{askedOn, askedFrom, sentFrom, afterFrom}
-use Rattle.rig.proofs.Links.{link-known, link-samples, link-symbols}
+use Rattle.reception.proofs.Links.{link-known, link-samples, link-symbols}
 
 -- ---- one line
 
@@ -42,15 +43,15 @@ module _ (n : ℕ) (low : 1 ≤ n) (high : n ≤ 1125) where
   pub line-sent : (d : Disparity) → sendOf d link (askedOn n) 19008 ≡ given (spanAfter d link (askedOn n))
   line-sent d = ap (sendOf d link (askedOn n)) (sym link-symbols) ∙ is-sent link n d NoneNamed link-known is-line
 
-  -- what the code asks for, where the format and the number were answered
-  pub asked-is : {f : Format} {m : ℕ} (words : List ℕ) {samples : List ℕ} → f ≡ link → m ≡ n → length words ≡ 7680 → samples ≡ samplesPut f m words
-      → asked m NoneNamed samples ≡ askedOn n
-  asked-is {f} {m} words {samples} e is long put =
+  -- what the code asks for, where the format was answered
+  pub asked-is : {f : Format} (words : List ℕ) {samples : List ℕ} → f ≡ link → length words ≡ 7680 → samples ≡ samplesPut f n words
+      → asked n NoneNamed samples ≡ askedOn n
+  asked-is {f} words {samples} e long put =
       let are : samples ≡ testSamples link n =
       put
-      ∙ ap₂ (λ (g : Format) (k : ℕ). samplesPut g k words) e is
+      ∙ ap (λ (g : Format). samplesPut g n words) e
       ∙ sym (when-given words (testSamples link n) (puts-samples link n words link-known is-line (long ∙ sym link-samples))) in
-      ap₂ (λ (k : ℕ) (l : List ℕ). asked k NoneNamed l) is are
+      ap (asked n NoneNamed) are
 
   -- and what it is answered
   module _ (d : Disparity) {f : Format} {a : Asked} (symbols : List ℕ) (e : f ≡ link) (is : a ≡ askedOn n) (room : length symbols ≡ 19008) where
@@ -84,6 +85,10 @@ module _ (n : ℕ) (low : 1 ≤ n) (high : n ≤ 1125) where
 
 -- ---- one after the other
 
+-- the line after one that is not the last has the next number
+pub next-line : (n : ℕ) → n < 1125 → lineAfter n ≡ n + 1
+next-line n h = simp (lt-ltb n 1125 h)
+
 pub no-line-more : (d : Disparity) (n : ℕ) → (sentFrom d n 0 ≡ []) × (afterFrom d n 0 ≡ d)
 unfolding askedFrom signalFrom afterFrom
 no-line-more d n = (refl, refl)
@@ -109,7 +114,10 @@ pub all-sent : (d : Disparity) (n : ℕ) (symbols : List ℕ) → length symbols
 all-sent d n symbols room = sets-whole symbols (sentFrom d n 5) (length-sent d n 5 ∙ sym room)
 
 -- a loop over five lines: what is left, put behind what is there, is the whole
-module _ (first k : ℕ) (h : k < 5) (d : Disparity) {after : Disparity} (is : after ≡ spanAfter d link (askedOn (first + k))) where
+module _ (first k : ℕ) (h : k < 5) (d : Disparity) {after : Disparity} (n : ℕ) (here : n ≡ first + k) (was : after ≡ spanAfter d link (askedOn n)) where
+  is : after ≡ spanAfter d link (askedOn (first + k))
+  is = was ∙ ap (λ (i : ℕ). spanAfter d link (askedOn i)) here
+
   pub after-turn : afterFrom after (first + (k + 1)) (5 - (k + 1)) ≡ afterFrom d (first + k) (5 - k)
   after-turn =
       let m = 5 - (k + 1) in
@@ -118,7 +126,7 @@ module _ (first k : ℕ) (h : k < 5) (d : Disparity) {after : Disparity} (is : a
       ap₂ (λ (e : Disparity) (n : ℕ). afterFrom e n m) is (sym next)
       ∙ sym (ap (afterFrom d (first + k)) more ∙ after-more d (first + k) m)
 
-  pub sent-turn : (symbols : List ℕ) {out : List ℕ} → out ≡ sets symbols (19008 * k) (spanSymbols d link (askedOn (first + k)))
+  pub sent-turn : (symbols : List ℕ) {out : List ℕ} → out ≡ sets symbols (19008 * k) (spanSymbols d link (askedOn n))
       → sets out (19008 * (k + 1)) (sentFrom after (first + (k + 1)) (5 - (k + 1))) ≡ sets symbols (19008 * k) (sentFrom d (first + k) (5 - k))
   sent-turn symbols put =
       let m = 5 - (k + 1) in
@@ -126,7 +134,8 @@ module _ (first k : ℕ) (h : k < 5) (d : Disparity) {after : Disparity} (is : a
       let next : suc (first + k) ≡ first + (k + 1) = omega arith in
       let span = spanSymbols d link (askedOn (first + k)) in
       let rest = sentFrom (spanAfter d link (askedOn (first + k))) (suc (first + k)) m in
-      ap₂ (λ (l r : List ℕ). sets l (19008 * (k + 1)) r) put
+      ap₂ (λ (l r : List ℕ). sets l (19008 * (k + 1)) r)
+      (put ∙ ap (λ (i : ℕ). sets symbols (19008 * k) (spanSymbols d link (askedOn i))) here)
       (ap₂ (λ (e : Disparity) (n : ℕ). sentFrom e n m) is (sym next))
       ∙ sets-append symbols span rest (19008 * k) (19008 * (k + 1)) (omega (arith, length-span d (first + k)))
       ∙ ap (sets symbols (19008 * k)) (sym (ap (sentFrom d (first + k)) more ∙ sent-more d (first + k) m))

@@ -28,13 +28,17 @@ use Rattle.test_picture.specs.TestPicture.{testSample, testRow, rowAt, testSamp
 use Rattle.test_picture.proofs.Images.{on-four}
 use Rattle.test_picture.proofs.Rows.{length-row as length-of-row, row-of-codes, row-ten, row-twelve}
 use Rattle.rig.specs.declared.knock.Knock.{Knock}
-use Rattle.rig.specs.Frame.{link, lineIn}
+use Rattle.reception.specs.Link.{link}
+use Rattle.rig.specs.Frame.{lineIn}
 use Rattle.rig.specs.Knock.{knocked, lost}
 use Rattle.rig.specs.Piece.{black, sentRows, rowsAt, pictureIn, heardIn}
-use Rattle.rig.specs.Receiving.{bothRows, brings, flag, heardFrom, shownFrom}
-use Rattle.rig.specs.Sending.{askedOn, sentFrom}
+use Rattle.reception.specs.Receiving.{bothRows, brings, flag, putAll, ready, heardBy, shownBy}
+use Rattle.rig.specs.Sending.{askedOn, sentFrom, afterFrom}
 use Rattle.rig.proofs.Arriving.{sending, placeOf}
-use Rattle.rig.proofs.Bringing.{length-row}
+use Rattle.reception.proofs.Bringing.{length-row}
+use Rattle.reception.proofs.Readiness.{is-ready}
+use Rattle.rig.proofs.Knocking.{length-knocked}
+use Rattle.rig.proofs.Lines.{length-sent}
 use Rattle.rig.proofs.Pieces.{arrivedFrom, Slots, piece-put}
 use Rattle.rig.proofs.Slots.{padded}
 
@@ -113,12 +117,15 @@ whole-slot c e =
 
 -- ---- the slots
 
+pub length-rows : (k : Knock) (n : ℕ) → length (rowsAt k n) ≡ 7680
+length-rows k n =
+    length-cond (lost k n) black (sentRows n) length-black
+    (length-cond (isActive n) _ black (length-two (2 * basicLineOf n - 1) (2 * basicLineOf n)) length-black)
+
 module _ (k : Knock) where
   rows : Slots k 7680 brings (rowsAt k)
   rows = record {
-    sized = λ n.
-        length-cond (lost k n) black (sentRows n) length-black
-        (length-cond (isActive n) _ black (length-two (2 * basicLineOf n - 1) (2 * basicLineOf n)) length-black);
+    sized = length-rows k;
     dark = λ n t. ap (λ (b : Bool). cond b black (sentRows n)) t;
     fits = λ d n.
         on-test (isActive n)
@@ -137,27 +144,43 @@ module _ (k : Knock) where
         ∙ ap (λ (b : Bool). padded 7680 (cond b (bothRows (readingOf link (sending d n) .words)) [])) (sym a));
   }
 
--- ---- a piece, in the steps of the code: sent, knocked, and delivered into memory that was cleared
+-- ---- a piece, in the steps of the code: sent, knocked, and received where there is room for it
 
-module _ (k : Knock) (piece : ℕ) (there : piece < 225) (d : Disparity) {sent symbols : List ℕ} (was-sent : sent ≡ sentFrom d (5 * piece + 1) 5)
-    (was-struck : symbols ≡ knocked k (95040 * piece) sent) where
-  symbols-are : symbols ≡ arrivedFrom k d (5 * piece + 1) 5
+module _ (k : Knock) (piece : ℕ) (there : piece < 225) (d : Disparity) {first : ℕ} (from : first ≡ 5 * piece + 1) {sent symbols : List ℕ}
+    (was-sent : sent ≡ sentFrom d first 5) (was-struck : symbols ≡ knocked k (95040 * piece) sent) (heard picture : List ℕ)
+    (flags-fit : length heard ≡ 5) (rows-fit : length picture ≡ 38400) where
+  symbols-are : symbols ≡ arrivedFrom k d first 5
   symbols-are =
-      let q : 95040 * piece ≡ placeOf (5 * piece + 1) = omega arith in
+      let q : 95040 * piece ≡ placeOf first = omega arith in
       was-struck ∙ ap₂ (knocked k) q was-sent
 
-  pub heard-is : (entry : List ℕ) {cleared out : List ℕ} → length entry ≡ 5 → cleared ≡ replicate (length entry) 0
-      → out ≡ heardFrom (5 * piece + 1) cleared (deliveryFrom link symbols 0) → out ≡ heardIn k piece
-  unfolding heardIn table
-  heard-is entry long clear out =
-      out
-      ∙ ap₂ (λ (b l : List ℕ). heardFrom (5 * piece + 1) b (deliveryFrom link l 0)) (clear ∙ ap (λ (m : ℕ). replicate m 0) long) symbols-are
-      ∙ piece-put k (flags k) (5 * piece + 1) (omega arith) (omega arith) d
+  long : length symbols ≡ 95040
+  long = ap length was-struck ∙ length-knocked k (95040 * piece) sent ∙ ap length was-sent ∙ length-sent d first 5
 
-  pub picture-is : (entry : List ℕ) {cleared out : List ℕ} → length entry ≡ 38400 → cleared ≡ replicate (length entry) 0
-      → out ≡ shownFrom (5 * piece + 1) cleared (deliveryFrom link symbols 0) → out ≡ pictureIn k piece
+  room : ready first (length symbols) (length heard) (length picture) ≡ true
+  room =
+      is-ready first (length symbols) (length heard) (length picture)
+      (record { line = omega arith; short = omega (arith, long); flags = flags-fit; rows = rows-fit })
+
+  -- the slots of the piece's lines are those of lines from its first on
+  lines : {size : ℕ} {what : Reading → List ℕ} {slot : ℕ → List ℕ} → Slots k size what slot
+      → putAll size what first (replicate (size * 5) 0) (deliveryFrom link symbols 0) ≡ upto 5 (λ i. slot (lineIn piece i))
+  lines {size} {what} {slot} s =
+      ap (λ (l : List ℕ). putAll size what first (replicate (size * 5) 0) (deliveryFrom link l 0)) symbols-are
+      ∙ piece-put k s first (omega arith) (omega arith) d
+      ∙ ap (λ (n : ℕ). upto 5 (λ i. slot (n + i))) from
+
+  pub heard-is : {out : List ℕ} → out ≡ cond (ready first (length symbols) (length heard) (length picture)) (heardBy first symbols) heard
+      → out ≡ heardIn k piece
+  unfolding heardIn table
+  heard-is e = e ∙ ap (λ (b : Bool). cond b (heardBy first symbols) heard) room ∙ lines (flags k)
+
+  pub picture-is : {out : List ℕ} → out ≡ cond (ready first (length symbols) (length heard) (length picture)) (shownBy first symbols) picture
+      → out ≡ pictureIn k piece
   unfolding pictureIn
-  picture-is entry long clear out =
-      out
-      ∙ ap₂ (λ (b l : List ℕ). shownFrom (5 * piece + 1) b (deliveryFrom link l 0)) (clear ∙ ap (λ (m : ℕ). replicate m 0) long) symbols-are
-      ∙ piece-put k (rows k) (5 * piece + 1) (omega arith) (omega arith) d
+  picture-is e = e ∙ ap (λ (b : Bool). cond b (shownBy first symbols) picture) room ∙ lines (rows k)
+
+-- and the disparity after it
+pub after-is : (piece : ℕ) (d : Disparity) {first : ℕ} → first ≡ 5 * piece + 1 → {after : Disparity} → after ≡ afterFrom d first 5
+    → after ≡ afterFrom d (lineIn piece 0) 5
+after-is piece d {first} from e = let q : first ≡ lineIn piece 0 = omega arith in e ∙ ap (λ (n : ℕ). afterFrom d n 5) q

@@ -25,14 +25,14 @@ use Rattle.recording.specs.Recording.{Reading, reading, deliveryFrom}
 use Rattle.recording.proofs.Readings.{span-marked}
 use Rattle.demands.specs.Form.{readingOf}
 use Rattle.rig.specs.declared.knock.Knock.{Knock}
-use Rattle.rig.specs.Frame.{link}
+use Rattle.reception.specs.Link.{link}
 use Rattle.rig.specs.Knock.{knocked, lost}
-use Rattle.rig.specs.Receiving.{putOne, putAll}
+use Rattle.reception.specs.Receiving.{putOne, putAll}
 use Rattle.rig.specs.Sending.{askedOn, sentFrom}
 use Rattle.rig.proofs.Arriving.{sending, placeOf, arrived, arrives, is-lost, none-inside}
 use Rattle.rig.proofs.Knocking.{knocked-append}
 use Rattle.rig.proofs.Lines.{length-span, no-line-more, sent-more}
-use Rattle.rig.proofs.Links.{link-known, link-symbols}
+use Rattle.reception.proofs.Links.{link-known, link-symbols}
 use Rattle.rig.proofs.Slots.{padded, slot-put}
 
 abbrev N : ℕ

@@ -1,5 +1,4 @@
 pub mod Frame
 pub mod Knock
 pub mod Piece
-pub mod Receiving
 pub mod Sending

@@ -8,7 +8,7 @@ use Rattle.span.specs.Span.{spanAfter, signalFrom}
 use Rattle.span.specs.Stream.{Asked}
 use Rattle.send.specs.Send.{asked}
 use Rattle.test_picture.specs.TestPicture.{testSamples}
-use Rattle.rig.specs.Frame.{link}
+use Rattle.reception.specs.Link.{link}
 
 -- what is asked for on line n: its samples of the test picture, and no content bytes
 abbrev pub askedOn : ℕ → Asked

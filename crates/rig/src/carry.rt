@@ -18,7 +18,7 @@ pub enum Carried {
     WrongOutput,
 }
 
-// A piece that there is, with room for what comes of it. Its symbols, and the words of a span, stand in memory that is lent for them.
+// A piece that there is, with room for what comes of it. Its symbols, and the samples of a line, stand in memory that is lent for them.
 fn carry_in(
     piece: usize,
     d: Disparity,
@@ -37,12 +37,10 @@ fn carry_in(
     ensures heard { λ _. ⌜ now (heard .exit) ≡ heardIn k piece ⌝ }
     ensures picture { λ _. ⌜ now (picture .exit) ≡ pictureIn k piece ⌝ }
 {
-    let first = (5 * piece + 1) as u16;
+    let first = line::stream::stream_line((5 * piece + 1) as u16);
     let after = crate::transmit::send_piece(first, d, words, symbols);
     crate::knock::strike(k, 95040 * piece, symbols);
-    ground::fill::fill(heard, 0);
-    ground::fill::fill(picture, 0);
-    crate::receive::receive(first, symbols, words, heard, picture);
+    reception::receive::receive(first, symbols, heard, picture);
     after
 }
 

@@ -8,6 +8,7 @@ use native.Mathlib.Omega.{arith}
 use lib.ListN.{length, drop, length-take}
 use borrow.Author.Needs.{needs}
 use Rattle.ground.specs.Written.{upto}
+use Rattle.line.specs.Stream.{isActive}
 use Rattle.text.proofs.Putting.{Put, put-length}
 use Rattle.loopback.proofs.Bytes.{lineBytes, no-line, active-put, blank-put, piece-put}
 use Rattle.loopback.proofs.file.put_piece.Statement.{statement}
@@ -28,20 +29,23 @@ loop-holds c =
     let a = c .before .before .args in
     (omega arith, refl, omega arith, no-line (a .piece) (a .picture .now) (a .out .now))
 
-mul-within : tie.Need-mul-within Inv-loop μ-loop
-mul-within c = search needs
+mul-stream-line : tie.Need-mul-stream-line Inv-loop μ-loop
+mul-stream-line c = search needs
 
-add-within : tie.Need-add-within Inv-loop μ-loop
-add-within c = search needs
+add-stream-line : tie.Need-add-stream-line Inv-loop μ-loop
+add-stream-line c = search needs
 
-add-within-2 : tie.Need-add-within-2 Inv-loop μ-loop
-add-within-2 c = search needs
+add-stream-line-2 : tie.Need-add-stream-line-2 Inv-loop μ-loop
+add-stream-line-2 c = search needs
 
-cast-within : tie.Need-cast-within Inv-loop μ-loop
-cast-within c = search needs
+cast-stream-line : tie.Need-cast-stream-line Inv-loop μ-loop
+cast-stream-line c = search needs
 
-within-requires : tie.Need-within-requires Inv-loop μ-loop
-within-requires c κs = search needs
+stream-line-requires : tie.Need-stream-line-requires Inv-loop μ-loop
+stream-line-requires c κs = search needs
+
+is-active-requires : tie.Need-is-active-requires Inv-loop μ-loop
+is-active-requires c κs = search needs
 
 mul-from : tie.Need-mul-from Inv-loop μ-loop
 mul-from c = search needs
@@ -63,7 +67,7 @@ part-put-words-end c = search needs
 
 put-words-requires : tie.Need-put-words-requires Inv-loop μ-loop
 put-words-requires c κs =
-    let loop = c .before .before .before .before .before in
+    let loop = c .before .before .before .before .before .before in
     let v = loop .loop in
     let start = loop .before .before .before in
     let i = 7680 * v .i in
@@ -77,17 +81,19 @@ loop-less c = search needs
 
 loop-again : tie.Need-loop-again Inv-loop μ-loop
 loop-again c =
-    let test = c .before in
-    let v = test .before .before .loop in
-    let a = test .before .before .before .before .before .args in
+    let active = c .before in
+    let line = active .before in
+    let v = line .before .before .loop in
+    let a = line .before .before .before .before .before .args in
+    let test = ap isActive (sym (line .stream-line .ensures)) ∙ sym (active .is-active .ensures) in
     let i = 7680 * v .i in
     let few = length-take (i + 7680 - i) (drop i (a .picture .now)) in
     ⊎-elim
     (λ w.
-    let put = active-put (a .piece) (a .picture .now) (v .i) (sym (test .within .ensures) ∙ w .0 .taken) (v .inv .3) (w .7 ∙ w .3 .ensures .0) (w .6 ∙ w .3 .ensures .1) in
+    let put = active-put (a .piece) (a .picture .now) (v .i) (test ∙ w .0 .taken) (v .inv .3) (w .7 ∙ w .3 .ensures .0) (w .6 ∙ w .3 .ensures .1) in
     (omega arith, put-length put, omega (arith, w .7 ∙ w .3 .ensures .0, few, v .inv .2), put))
     (λ w.
-    let put = blank-put (a .piece) (a .picture .now) (v .i) (sym (test .within .ensures) ∙ w .0 .left) (v .inv .3) (w .2) (w .1) in
+    let put = blank-put (a .piece) (a .picture .now) (v .i) (test ∙ w .0 .left) (v .inv .3) (w .2) (w .1) in
     (omega arith, put-length put, omega (arith, w .2, v .inv .2), put))
     (c .if1 .came)
 
@@ -109,11 +115,12 @@ put-piece-spec =
     Inv-loop
     μ-loop
     loop-holds
-    mul-within
-    add-within
-    add-within-2
-    cast-within
-    within-requires
+    mul-stream-line
+    add-stream-line
+    add-stream-line-2
+    cast-stream-line
+    stream-line-requires
+    is-active-requires
     mul-from
     add-to
     mul-put-words

@@ -10,9 +10,6 @@ use Rattle.rig.proofs.transmit.send_line.Tie as tie
 link-requires : tie.Need-link-requires
 link-requires c κs = search needs
 
-stream-line-requires : tie.Need-stream-line-requires
-stream-line-requires c κs = search needs
-
 put-samples-requires : tie.Need-put-samples-requires
 put-samples-requires c κs = search needs
 
@@ -32,14 +29,13 @@ returns : tie.Need-returns
 returns c =
     let sent = c .before .before .before .before .before in
     let put = sent .before .before .before .before .before in
-    let l = put .before .before in
-    let f = l .before in
+    let f = put .before .before in
     let start = f .before .before .before in
     let a = start .args in
     let pre = start .pre in
-    let is = asked-is (a .n) (pre .0) (pre .1 .0) (a .words .now) (f .link .ensures) (l .stream-line .ensures) (pre .1 .1 .0) (put .put-samples .ensures .1) in (
-      after-is (a .n) (pre .0) (pre .1 .0) (a .d) (a .symbols .now) (f .link .ensures) is (pre .1 .1 .1) (c .before .after .given .1) (sent .send .ensures .0),
-      symbols-are (a .n) (pre .0) (pre .1 .0) (a .d) (a .symbols .now) (f .link .ensures) is (pre .1 .1 .1) (sent .send .ensures .1),
+    let is = asked-is (a .l .0) (pre .0) (pre .1 .0) (a .words .now) (f .link .ensures) (pre .1 .1 .0) (put .put-samples .ensures .1) in (
+      after-is (a .l .0) (pre .0) (pre .1 .0) (a .d) (a .symbols .now) (f .link .ensures) is (pre .1 .1 .1) (c .before .after .given .1) (sent .send .ensures .0),
+      symbols-are (a .l .0) (pre .0) (pre .1 .0) (a .d) (a .symbols .now) (f .link .ensures) is (pre .1 .1 .1) (sent .send .ensures .1),
     )
 
 same-length-3 : tie.Need-same-length-3
@@ -52,14 +48,13 @@ returns-2 : tie.Need-returns-2
 returns-2 c =
     let sent = c .before .before .before in
     let put = sent .before .before .before .before .before in
-    let l = put .before .before in
-    let f = l .before in
+    let f = put .before .before in
     let start = f .before .before .before in
     let a = start .args in
     let pre = start .pre in
-    let is = asked-is (a .n) (pre .0) (pre .1 .0) (a .words .now) (f .link .ensures) (l .stream-line .ensures) (pre .1 .1 .0) (put .put-samples .ensures .1) in
+    let is = asked-is (a .l .0) (pre .0) (pre .1 .0) (a .words .now) (f .link .ensures) (pre .1 .1 .0) (put .put-samples .ensures .1) in
     absurd
-    (is-after (a .n) (pre .0) (pre .1 .0) (a .d) (a .symbols .now) (f .link .ensures) is (pre .1 .1 .1) (sent .send .result)
+    (is-after (a .l .0) (pre .0) (pre .1 .0) (a .d) (a .symbols .now) (f .link .ensures) is (pre .1 .1 .1) (sent .send .result)
     (λ after z. no-key (rw z at (c .match .keys2))) (sent .send .ensures .0))
 
 pub send-line-spec : {M : Type 1} → statement M
@@ -67,7 +62,6 @@ send-line-spec =
     tie.close
     (tie.spec
     link-requires
-    stream-line-requires
     put-samples-requires
     send-requires
     enum-known-after
