@@ -1,5 +1,6 @@
 pub mod Cutting
 pub mod Finding
+pub mod Marks
 pub mod Spans
 pub mod Splitting
 pub mod Steps

@@ -1,3 +1,4 @@
 pub mod Delivering
 pub mod Nexts
+pub mod OneStep
 pub mod Saying

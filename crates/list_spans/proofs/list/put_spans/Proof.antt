@@ -7,9 +7,10 @@ use native.Mathlib.Omega.{arith}
 use lib.ListN.{length}
 use borrow.Author.Needs.{needs}
 use Rattle.recording.specs.Recording.{deliveryFrom}
+use Rattle.stepping.proofs.OneStep.{none-left, stepped, ended, no-key}
 use Rattle.list_spans.specs.Listing.{lineText, linesOf}
 use Rattle.list_spans.proofs.Left.{Left, all-left, piece-put, nothing-left}
-use Rattle.list_spans.proofs.Stepping.{first-line, none-left, stepped, ended, no-key}
+use Rattle.list_spans.proofs.Stepping.{within-limit, line-shorter, first-line}
 use Rattle.list_spans.proofs.list.put_spans.Statement.{statement}
 use Rattle.list_spans.proofs.list.put_spans.Tie as tie
 
@@ -47,9 +48,9 @@ put-line-requires c κs =
     let a = start .args in
     let pre = start .pre in
     let step =
-    stepped (a .f) (pre .0) (a .symbols .now) (pre .1 .0) (v .place) (v .inv .1) (v .rows) (v .inv .2 ∙ pre .1 .1 .0) (s .answer .given .1)
+    stepped (a .f) (pre .0) (a .symbols .now) (within-limit _ (pre .1 .0)) (v .place) (v .inv .1) (v .rows) (v .inv .2 ∙ pre .1 .1 .0) (s .answer .given .1)
     (n .step-at .ensures .0) (n .step-at .ensures .1 .0) in
-    omega (arith, step .behind, step .inside, v .inv .0, v .inv .3, pre .1 .0, pre .1 .1 .1)
+    omega (arith, step .behind, line-shorter (a .f) (pre .0), step .inside, v .inv .0, v .inv .3, pre .1 .0, pre .1 .1 .1)
 
 loop-less : tie.Need-loop-less Inv-loop μ-loop
 loop-less c =
@@ -60,9 +61,9 @@ loop-less c =
     let a = start .args in
     let pre = start .pre in
     let step =
-    stepped (a .f) (pre .0) (a .symbols .now) (pre .1 .0) (v .place) (v .inv .1) (v .rows) (v .inv .2 ∙ pre .1 .1 .0) (s .answer .given .1)
+    stepped (a .f) (pre .0) (a .symbols .now) (within-limit _ (pre .1 .0)) (v .place) (v .inv .1) (v .rows) (v .inv .2 ∙ pre .1 .1 .0) (s .answer .given .1)
     (n .step-at .ensures .0) (n .step-at .ensures .1 .0) in
-    omega (arith, step .behind, step .inside)
+    omega (arith, step .behind, line-shorter (a .f) (pre .0), step .inside)
 
 loop-again : tie.Need-loop-again Inv-loop μ-loop
 loop-again c =
@@ -73,13 +74,13 @@ loop-again c =
     let a = start .args in
     let pre = start .pre in
     let step =
-    stepped (a .f) (pre .0) (a .symbols .now) (pre .1 .0) (v .place) (v .inv .1) (v .rows) (v .inv .2 ∙ pre .1 .1 .0) (s .answer .given .1)
+    stepped (a .f) (pre .0) (a .symbols .now) (within-limit _ (pre .1 .0)) (v .place) (v .inv .1) (v .rows) (v .inv .2 ∙ pre .1 .1 .0) (s .answer .given .1)
     (n .step-at .ensures .0) (n .step-at .ensures .1 .0) in
     let put = c .before .before .put-line .ensures in
     let number = c .before .before .before .before .number-of in
     let place = s .answer .given .0 .0 .place in
     let more = linesOf (deliveryFrom (a .f) (a .symbols .now) (n .step-at .result .after)) in (
-      omega (arith, step .behind, v .inv .0, put .1 .0),
+      omega (arith, step .behind, line-shorter (a .f) (pre .0), v .inv .0, put .1 .0),
       step .inside,
       search needs,
       search needs,
@@ -101,7 +102,7 @@ returns c =
     let a = start .args in
     let pre = start .pre in
     let none =
-    ended (a .f) (pre .0) (a .symbols .now) (pre .1 .0) (v .place) (v .inv .1) (v .rows) (v .inv .2 ∙ pre .1 .1 .0) (n .step-at .result .answer)
+    ended (a .f) (pre .0) (a .symbols .now) (within-limit _ (pre .1 .0)) (v .place) (v .inv .1) (v .rows) (v .inv .2 ∙ pre .1 .1 .0) (n .step-at .result .answer)
     (λ s z. no-key (rw z at (c .match .keys2))) (n .step-at .ensures .0) in
     let all = nothing-left (v .inv .4) (ap linesOf none) in
     (all .0, (omega (arith, v .inv .0, v .inv .1, pre .1 .0), all .1))

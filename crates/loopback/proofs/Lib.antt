@@ -1,0 +1,4 @@
+pub mod Bytes
+pub mod Frames
+pub mod Inputs
+pub mod Whole

@@ -1,0 +1,38 @@
+-- The picture as a file: a binary PGM of sixteen bits.
+-- Assumes nothing.
+use Prim.Native.Nat.{ℕ, _+_, _*_, _/_, _%_}
+use mathlib.Core.Bool.{cond}
+use mathlib.Core.List.{List, [], _∷_, _++_}
+use lib.ListN.{take, drop, replicate}
+use Rattle.ground.specs.Written.{upto}
+use Rattle.line.specs.Stream.{isActive}
+use Rattle.rig.specs.declared.knock.Knock.{Knock}
+use Rattle.rig.specs.Frame.{lineIn}
+use Rattle.rig.specs.Knock.{lost}
+use Rattle.rig.specs.Piece.{pictureIn}
+use Rattle.test_picture.specs.TestPicture.{testRow}
+
+-- each word is two bytes, the high byte first
+unfoldable pub bytesOf : List ℕ → List ℕ
+bytesOf [] = []
+bytesOf (w ∷ words) = w / 256 ∷ w % 256 ∷ bytesOf words
+
+-- "P5", width and height, the largest value, a line each
+abbrev pub header : List ℕ
+header = 80 ∷ 53 ∷ 10 ∷ 51 ∷ 56 ∷ 52 ∷ 48 ∷ 32 ∷ 50 ∷ 49 ∷ 54 ∷ 48 ∷ 10 ∷ 52 ∷ 48 ∷ 57 ∷ 53 ∷ 10 ∷ []
+
+-- the two rows of line i of a piece, of its ten
+abbrev pub rowsOf : List ℕ → ℕ → List ℕ
+rowsOf picture i = take 7680 (drop (7680 * i) picture)
+
+-- of a piece, the rows of its active lines are written
+unfoldable pub pieceBytes : ℕ → List ℕ → List ℕ
+pieceBytes piece picture = upto 5 (λ i. cond (isActive (lineIn piece i)) (bytesOf (rowsOf picture i)) [])
+
+-- the file: the header, and then piece after piece
+abbrev pub fileOf : Knock → List ℕ
+fileOf k = header ++ upto 225 (λ piece. pieceBytes piece (pictureIn k piece))
+
+-- the row of picture line y, which stream line 41 + (y + 1) / 2 carries: that of the test picture, or a black one (law `file-is`)
+abbrev pub rowOn : Knock → ℕ → List ℕ
+rowOn k y = cond (lost k (41 + (y + 1) / 2)) (replicate 3840 0) (testRow y)

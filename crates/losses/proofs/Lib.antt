@@ -1,0 +1,3 @@
+pub mod Counting
+pub mod Items
+pub mod Rooms

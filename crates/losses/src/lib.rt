@@ -1,0 +1,2 @@
+// What is told of a frame at the end: how many of its lines were lost, and which.
+pub mod summary;

@@ -1,0 +1,5 @@
+pub mod Bringing
+pub mod Links
+pub mod Parts
+pub mod Putting
+pub mod Readiness

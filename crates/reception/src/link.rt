@@ -1,0 +1,11 @@
+// The link.
+use span::format::Format;
+ghost use mathlib.Core.Path.{_≡_};
+ghost use Rattle.reception.specs.Link.{link as linkOf};
+
+// Format 3 at 12 bits.
+pub fn link() -> Format
+    ensures { λ r. ⌜ r ≡ linkOf ⌝ }
+{
+    span::format::format_of(3, 12)
+}

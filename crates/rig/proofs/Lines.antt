@@ -1,0 +1,141 @@
+-- Lines that are sent: a call for one is answered, and one line after the other is the signal.
+-- Assumes nothing.
+use mathlib.Core.Path.{_≡_, refl, sym, ap, ap₂, _∙_}
+use mathlib.Core.Bool.{true}
+use mathlib.Core.List.{List, [], _∷_, _++_}
+use Prim.Native.Nat.{ℕ, zero, suc, _+_, _-_, _*_, _≤_, _<_}
+use native.Mathlib.Omega.{arith}
+use lib.ListN.{length, length-append}
+use lib.Seq.{sets}
+use borrow.Author.Tests.{lt-ltb}
+use Rattle.ground.specs.Answer.{Answer, refused, given, unlessRefused}
+use Rattle.ground.proofs.Answers.{when-given}
+use Rattle.ground.proofs.Ranges.{is-within}
+use Rattle.ground.proofs.Writing.{sets-append, sets-whole}
+use Rattle.symbol.specs.declared.disparity.Disparity.{Disparity}
+use Rattle.line.specs.Stream.{isLine, lineAfter}
+use Rattle.span.specs.declared.content.Content.the-variants.{NoneNamed}
+use Rattle.span.specs.declared.format.Format.{Format}
+use Rattle.span.specs.Format.{shapeOf, samplesIn, symbolsIn}
+use Rattle.span.specs.Span.{spanSymbols, spanAfter, signalFrom}
+use Rattle.span.specs.Stream.{Asked}
+use Rattle.span.proofs.Lengths.{known-has-streams, length-of-symbols}
+use Rattle.send.specs.declared.send.Sent.{Sent}
+use Rattle.send.specs.declared.send.Sent.the-variants.{After, UnknownFormat, NoLine, WrongInput, WrongOutput, NotAllowed}
+use Rattle.send.specs.Send.{asked, paperSent, sendOf, sentBuffer}
+use Rattle.test_picture.specs.Putting.{samplesPut}
+use Rattle.test_picture.specs.TestPicture.{testSamples}
+use Rattle.test_picture.proofs.Puttings.{puts-samples}
+use Rattle.test_picture.proofs.Sendings.{is-sent}
+use Rattle.reception.specs.Link.{link}
+use Rattle.rig.specs.Sending.{askedOn, askedFrom, sentFrom, afterFrom}
+use Rattle.reception.proofs.Links.{link-known, link-samples, link-symbols}
+
+-- ---- one line
+
+pub length-span : (d : Disparity) (n : ℕ) → length (spanSymbols d link (askedOn n)) ≡ 19008
+length-span d n = length-of-symbols link (askedOn n) (known-has-streams link link-known) d ∙ link-symbols
+
+module _ (n : ℕ) (low : 1 ≤ n) (high : n ≤ 1125) where
+  is-line : isLine n ≡ true
+  is-line = is-within 1 1125 n low high
+
+  pub line-sent : (d : Disparity) → sendOf d link (askedOn n) 19008 ≡ given (spanAfter d link (askedOn n))
+  line-sent d = ap (sendOf d link (askedOn n)) (sym link-symbols) ∙ is-sent link n d NoneNamed link-known is-line
+
+  -- what the code asks for, where the format was answered
+  pub asked-is : {f : Format} (words : List ℕ) {samples : List ℕ} → f ≡ link → length words ≡ 7680 → samples ≡ samplesPut f n words
+      → asked n NoneNamed samples ≡ askedOn n
+  asked-is {f} words {samples} e long put =
+      let are : samples ≡ testSamples link n =
+      put
+      ∙ ap (λ (g : Format). samplesPut g n words) e
+      ∙ sym (when-given words (testSamples link n) (puts-samples link n words link-known is-line (long ∙ sym link-samples))) in
+      ap (asked n NoneNamed) are
+
+  -- and what it is answered
+  module _ (d : Disparity) {f : Format} {a : Asked} (symbols : List ℕ) (e : f ≡ link) (is : a ≡ askedOn n) (room : length symbols ≡ 19008) where
+    answer : sendOf d f a (length symbols) ≡ given (spanAfter d link (askedOn n))
+    answer =
+        ap₂ (λ (g : Format) (b : Asked). sendOf d g b (length symbols)) e is
+        ∙ ap (sendOf d link (askedOn n)) room
+        ∙ line-sent d
+
+    pub after-is : {r : Sent} {after : Disparity} → r ≡ After after → paperSent r ≡ sendOf d f a (length symbols) → after ≡ spanAfter d link (askedOn n)
+    after-is {r} {after} x y =
+        let same : given after ≡ given (spanAfter d link (askedOn n)) = sym (ap paperSent x) ∙ y ∙ answer in
+        cc same
+
+    not-refused : {number place : ℕ} → refused number place ≡ sendOf d f a (length symbols) → ⊥
+    not-refused x = let z : _≡_ {A = ℕ} 0 1 = cc (x ∙ answer) in omega arith
+
+    pub is-after : (r : Sent) → ((after : Disparity) → r ≡ After after → ⊥) → paperSent r ≡ sendOf d f a (length symbols) → ⊥
+    is-after (After after) x y = x after refl
+    is-after UnknownFormat x y = not-refused y
+    is-after NoLine x y = not-refused y
+    is-after WrongInput x y = not-refused y
+    is-after WrongOutput x y = not-refused y
+    is-after (NotAllowed place) x y = not-refused y
+
+    pub symbols-are : {out : List ℕ} → out ≡ sentBuffer d f a symbols → out ≡ spanSymbols d link (askedOn n)
+    symbols-are x =
+        x
+        ∙ sym (when-given symbols (spanSymbols d f a) answer)
+        ∙ ap₂ (λ (g : Format) (b : Asked). spanSymbols d g b) e is
+
+-- ---- one after the other
+
+-- the line after one that is not the last has the next number
+pub next-line : (n : ℕ) → n < 1125 → lineAfter n ≡ n + 1
+next-line n h = simp (lt-ltb n 1125 h)
+
+pub no-line-more : (d : Disparity) (n : ℕ) → (sentFrom d n 0 ≡ []) × (afterFrom d n 0 ≡ d)
+unfolding askedFrom signalFrom afterFrom
+no-line-more d n = (refl, refl)
+
+pub sent-more : (d : Disparity) (n m : ℕ)
+    → sentFrom d n (suc m) ≡ spanSymbols d link (askedOn n) ++ sentFrom (spanAfter d link (askedOn n)) (suc n) m
+unfolding askedFrom signalFrom
+sent-more d n m = refl
+
+after-more : (d : Disparity) (n m : ℕ) → afterFrom d n (suc m) ≡ afterFrom (spanAfter d link (askedOn n)) (suc n) m
+unfolding afterFrom
+after-more d n m = refl
+
+pub length-sent : (d : Disparity) (n m : ℕ) → length (sentFrom d n m) ≡ 19008 * m
+length-sent d n zero = ap length (no-line-more d n .0)
+length-sent d n (suc m) =
+    let rest = sentFrom (spanAfter d link (askedOn n)) (suc n) m in
+    ap length (sent-more d n m)
+    ∙ length-append (spanSymbols d link (askedOn n)) rest
+    ∙ omega (arith, length-span d n, length-sent (spanAfter d link (askedOn n)) (suc n) m)
+
+pub all-sent : (d : Disparity) (n : ℕ) (symbols : List ℕ) → length symbols ≡ 95040 → sets symbols 0 (sentFrom d n 5) ≡ sentFrom d n 5
+all-sent d n symbols room = sets-whole symbols (sentFrom d n 5) (length-sent d n 5 ∙ sym room)
+
+-- a loop over five lines: what is left, put behind what is there, is the whole
+module _ (first k : ℕ) (h : k < 5) (d : Disparity) {after : Disparity} (n : ℕ) (here : n ≡ first + k) (was : after ≡ spanAfter d link (askedOn n)) where
+  is : after ≡ spanAfter d link (askedOn (first + k))
+  is = was ∙ ap (λ (i : ℕ). spanAfter d link (askedOn i)) here
+
+  pub after-turn : afterFrom after (first + (k + 1)) (5 - (k + 1)) ≡ afterFrom d (first + k) (5 - k)
+  after-turn =
+      let m = 5 - (k + 1) in
+      let more : 5 - k ≡ suc m = omega arith in
+      let next : suc (first + k) ≡ first + (k + 1) = omega arith in
+      ap₂ (λ (e : Disparity) (n : ℕ). afterFrom e n m) is (sym next)
+      ∙ sym (ap (afterFrom d (first + k)) more ∙ after-more d (first + k) m)
+
+  pub sent-turn : (symbols : List ℕ) {out : List ℕ} → out ≡ sets symbols (19008 * k) (spanSymbols d link (askedOn n))
+      → sets out (19008 * (k + 1)) (sentFrom after (first + (k + 1)) (5 - (k + 1))) ≡ sets symbols (19008 * k) (sentFrom d (first + k) (5 - k))
+  sent-turn symbols put =
+      let m = 5 - (k + 1) in
+      let more : 5 - k ≡ suc m = omega arith in
+      let next : suc (first + k) ≡ first + (k + 1) = omega arith in
+      let span = spanSymbols d link (askedOn (first + k)) in
+      let rest = sentFrom (spanAfter d link (askedOn (first + k))) (suc (first + k)) m in
+      ap₂ (λ (l r : List ℕ). sets l (19008 * (k + 1)) r)
+      (put ∙ ap (λ (i : ℕ). sets symbols (19008 * k) (spanSymbols d link (askedOn i))) here)
+      (ap₂ (λ (e : Disparity) (n : ℕ). sentFrom e n m) is (sym next))
+      ∙ sets-append symbols span rest (19008 * k) (19008 * (k + 1)) (omega (arith, length-span d (first + k)))
+      ∙ ap (sets symbols (19008 * k)) (sym (ap (sentFrom d (first + k)) more ∙ sent-more d (first + k) m))

@@ -1,0 +1,4 @@
+pub mod Frame
+pub mod Knock
+pub mod Piece
+pub mod Sending

@@ -1,0 +1,53 @@
+-- A piece of the frame, sent, knocked, delivered and joined: what comes of it, in terms of the knock alone.
+-- Assumes nothing.
+use Prim.Native.Nat.{ℕ, _-_, _*_}
+use mathlib.Core.Bool.{Bool, cond, _&&_}
+use mathlib.Core.List.{List, [], _∷_, _++_}
+use lib.Dec.{eqb, ltb}
+use lib.ListN.{replicate}
+use Rattle.ground.specs.Answer.{Answer, refused, given, unless, checked, unlessRefused}
+use Rattle.ground.specs.Written.{upto, table}
+use Rattle.line.specs.Picture.{basicLineOf}
+use Rattle.line.specs.Stream.{isActive}
+use Rattle.symbol.specs.declared.disparity.Disparity.{Disparity}
+use Rattle.test_picture.specs.TestPicture.{testRow}
+use Rattle.rig.specs.declared.carry.Carried.{Carried}
+use Rattle.rig.specs.declared.carry.Carried.the-variants.{After, NoPiece, WrongOutput}
+use Rattle.rig.specs.declared.knock.Knock.{Knock}
+use Rattle.rig.specs.Frame.{lineIn}
+use Rattle.rig.specs.Knock.{lost}
+use Rattle.rig.specs.Sending.{afterFrom}
+
+-- two lines of a picture without light
+abbrev pub black : List ℕ
+black = replicate 7680 0
+
+-- the two lines of the test picture that stream line n carries: 2l - 1 and 2l, where l is the basic images' line on it (004, 5.3 and 6.1). No
+-- blanking line carries any.
+abbrev pub sentRows : ℕ → List ℕ
+sentRows n = cond (isActive n) (testRow (2 * basicLineOf n - 1) ++ testRow (2 * basicLineOf n)) black
+
+-- those that arrive: of a line that is lost, black ones
+abbrev pub rowsAt : Knock → ℕ → List ℕ
+rowsAt k n = cond (lost k n) black (sentRows n)
+
+-- all of a piece
+unfoldable pub pictureIn : Knock → ℕ → List ℕ
+pictureIn k piece = upto 5 (λ i. rowsAt k (lineIn piece i))
+
+-- which of its lines were heard: 1, and 0 for a line that is lost
+unfoldable pub heardIn : Knock → ℕ → List ℕ
+heardIn k piece = table 5 (λ i. cond (lost k (lineIn piece i)) 0 1)
+
+-- ---- the call
+
+-- the numbers are those that document 01 gives to lines and outputs
+abbrev pub paperCarried : Carried → Answer Disparity
+paperCarried (After d) = given d
+paperCarried NoPiece = refused 2 0
+paperCarried WrongOutput = refused 4 0
+
+-- 2 where the frame has no such piece: it has 225; then 4 where there is not room for five flags and ten rows. Else the disparity after its spans.
+abbrev pub carryOf : ℕ → Disparity → ℕ → ℕ → Answer Disparity
+carryOf piece d heard picture =
+    checked (unless 2 (ltb piece 225) ∷ unless 4 (eqb heard 5 && eqb picture 38400) ∷ []) (afterFrom d (lineIn piece 0) 5)
