@@ -36,6 +36,7 @@ use Rattle.send.specs.declared.picture.Passed.{Passed}
 use Rattle.send.specs.Put.{timingChars, groupChars, scaled, pictureChars, sumOf, passedAt, crccBehind, sumIn, crccChars, behind, behindChars, runChars, wholeChars, Fits}
 use Rattle.send.specs.Send.{Good}
 use Rattle.send.proofs.Putting.{Put, renamed, told, whole, same-group}
+use Rattle.send.proofs.Runs.{one-run}
 
 -- what stands in brackets another way
 regroup : (t g h c r : List ℕ) → t ++ ((g ++ h) ++ (c ++ r)) ≡ (t ++ (g ++ (h ++ c))) ++ r
@@ -138,7 +139,7 @@ module _ (f : Format) (a : Asked) (good : Good f a) (factor : ℕ) (is : factor 
     content = contentOf f (a .content)
 
     abbrev blanks : List ℕ
-    blanks = runChars (half * shapeOf f .ancillary) 0x100 ++ runChars (shapeOf f .fill) 0x100
+    blanks = runChars (half * shapeOf f .ancillary + shapeOf f .fill) 0x100
 
     eav-is : charsFromEav f a ≡ behindChars half passed next content ++ blanks
     unfolding timingChars behindChars runChars
@@ -147,7 +148,7 @@ module _ (f : Format) (a : Asked) (good : Good f a) (factor : ℕ) (is : factor 
         ∙ ap (λ (l : List ℕ). timingChars half 266 (content .eav1) (content .eav2) xyz ++ l)
         (ap₂ (λ (x y : List ℕ). x ++ y) number-is
         (ap₂ (λ (x y : List ℕ). x ++ y) crcc-is
-        (ap₂ (λ (x y : List ℕ). x ++ y) (blank-area f (a .line)) (bytes-replicate (shapeOf f .fill) 0x100))))
+        (ap₂ (λ (x y : List ℕ). x ++ y) (blank-area f (a .line)) (bytes-replicate (shapeOf f .fill) 0x100) ∙ one-run (half * shapeOf f .ancillary) (shapeOf f .fill) 0x100)))
         ∙ regroup (timingChars half 266 (content .eav1) (content .eav2) xyz) (groupChars half (λ _. lineWords next .ln0)) (groupChars half (λ _. lineWords next .ln1))
         (crccChars half passed xyz (lineWords next)) blanks
 

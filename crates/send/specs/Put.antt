@@ -149,7 +149,7 @@ wholeChars p d w n content =
     sav
     ++ (pictureChars half 1920 w
     ++ (behindChars half (passedAt half (behind d sav) w 1920) (lineAfter n) content
-    ++ (runChars (half * p .ancillary) 0x100 ++ runChars (p .fill) 0x100)))
+    ++ runChars (half * p .ancillary + p .fill) 0x100))
 
 -- a pair of the word leaves the disparity of the offset as it was
 pub record Stays (d w : ℕ) : Type 0 where

@@ -107,8 +107,8 @@ pub(crate) fn put_behind(
     put_crcc(symbols, turns, half, d3, p, xyz, n, out, at + 18 * half)
 }
 
-// The whole span, of which two pairs of streams at most are sent: SAV and picture, what stands behind it, and blanking twice, in the
-// ancillary area and in the fill. Blanking leaves the disparity as it was.
+// The whole span, of which two pairs of streams at most are sent: SAV and picture, what stands behind it, and blanking, which is one run
+// through the ancillary area and the fill. Blanking leaves the disparity as it was.
 pub(crate) fn put_span(
     symbols: &[u16; 536],
     turns: &[u16; 268],
@@ -132,7 +132,7 @@ pub(crate) fn put_span(
     ensures out { λ _. ⌜ now (out .exit) ≡ put d (wholeChars p d (scaled factor (now (samples .entry))) (l .0) content) 0 (now (out .entry)) ⌝ }
 {
     let half = p.half;
-    let ancillary = half * p.ancillary;
+    let pairs = half * p.ancillary + p.fill;
     let xyz = word::timing::timing_word(line::stream::v_of(l), false);
     let d1 = crate::timing::put_timing(
         symbols,
@@ -148,15 +148,6 @@ pub(crate) fn put_span(
     );
     let q = crate::picture::put_picture(symbols, turns, half, factor, samples, d1, out, 12 * half);
     let d2 = put_behind(symbols, turns, half, q, l, content, out, 5772 * half);
-    crate::put::put_run(symbols, turns, ancillary, d2, 0x100, out, 5796 * half);
-    crate::put::put_run(
-        symbols,
-        turns,
-        p.fill,
-        d2,
-        0x100,
-        out,
-        5796 * half + 3 * ancillary,
-    );
+    crate::put::put_run(symbols, turns, pairs, d2, 0x100, out, 5796 * half);
     d2
 }
