@@ -8,7 +8,7 @@ use native.Mathlib.Omega.{arith}
 use Rattle.line.specs.Stream.{vOf, lineAfter}
 use Rattle.word.specs.Timing.{timing}
 use Rattle.send.specs.declared.picture.Passed.{Passed}
-use Rattle.send.specs.Put.{behind, put, timingChars, scaled, pictureChars, passedAt, behindChars, wholeChars}
+use Rattle.send.specs.Put.{behind, put, timingChars, wordAt, pictureChars, passedAt, behindChars, wholeChars}
 use Rattle.send.proofs.Passing.{length-picture}
 use Rattle.send.proofs.Putting.{Put, made, renamed, then, is-offset, same-size}
 use Rattle.send.proofs.Runs.{blank-stays, run-made}
@@ -58,7 +58,7 @@ put-behind-requires : tie.Need-put-behind-requires
 put-behind-requires c κs =
     let s = c .before .before .before .before .before .before .before .before .before .before .before .before .before .before .before in
     let p1 = made (c .before .before .before .before .before .before .before .put-timing .ensures) in
-    let p2 = passed-put (s .args .p .half) (scaled (s .args .factor) (s .args .samples .now)) (c .before .before .before .put-picture .ensures) in
+    let p2 = passed-put (s .args .p .half) (wordAt (s .args .words .now)) (c .before .before .before .put-picture .ensures) in
     (s .pre .0, (s .pre .1 .0, (s .pre .1 .1 .0, (s .pre .1 .1 .1 .0 .half, (is-offset p2, omega (arith, same-size p1, same-size p2, s .pre .1 .1 .1 .1 .1 .1 .1))))))
 
 mul-put-run : tie.Need-mul-put-run
@@ -69,7 +69,7 @@ put-run-requires : tie.Need-put-run-requires
 put-run-requires c κs =
     let s = c .before .before .before .before .before .before .before .before .before .before .before .before .before .before .before .before .before .before .before in
     let p1 = made (c .before .before .before .before .before .before .before .before .before .before .before .put-timing .ensures) in
-    let p2 = passed-put (s .args .p .half) (scaled (s .args .factor) (s .args .samples .now)) (c .before .before .before .before .before .before .before .put-picture .ensures) in
+    let p2 = passed-put (s .args .p .half) (wordAt (s .args .words .now)) (c .before .before .before .before .before .before .before .put-picture .ensures) in
     let p3 = made (c .before .before .before .put-behind .ensures) in
     (s .pre .0, (s .pre .1 .0, (is-offset p3, (blank-stays _, omega (arith, same-size p1, same-size p2, same-size p3, s .pre .1 .1 .1 .1 .1 .1 .1)))))
 
@@ -82,7 +82,7 @@ returns c =
     let s = c .before .before .before .before .before .before .before .before .before .before .before .before .before .before .before .before .before .before .before .before .before .before in
     let a = s .args in
     let half = a .p .half in
-    let w = scaled (a .factor) (a .samples .now) in
+    let w = wordAt (a .words .now) in
     let code = c .before .before .before .before .before .before .before .before .before .before .before .before .before .before .before .before .timing-word .ensures ∙ ap (λ (v : Bool). timing v false) (c .before .before .before .before .before .before .before .before .before .before .before .before .before .before .before .before .before .v-of .ensures) in
     let sav = timingChars half 261 (a .content .sav1) (a .content .sav2) (timing (vOf (a .l .0)) false) in
     let p1 = renamed (ap (timingChars half 261 (a .content .sav1) (a .content .sav2)) (sym code)) (made (c .before .before .before .before .before .before .before .before .before .before .before .before .before .before .put-timing .ensures)) in
