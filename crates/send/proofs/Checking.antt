@@ -1,41 +1,56 @@
 -- The check of samples: what one turn of it does, and what it tells of each sample.
 -- Assumes nothing.
-use mathlib.Core.Path.{_≡_, refl, ap, _∙_}
-use mathlib.Core.Bool.{Bool, true, false, not, _&&_, and-true, and-false}
+use mathlib.Core.Path.{_≡_, refl, sym, ap, _∙_}
+use mathlib.Core.Bool.{Bool, true, false, not, _&&_, and-true, and-false, true≢false}
 use mathlib.Core.List.{List, [], _∷_}
 use mathlib.Core.Option.{Option, none, some}
-use Prim.Native.Nat.{ℕ, zero, suc, _+_, _≤_, _<_}
+use Prim.Native.Nat.{ℕ, zero, suc, _+_, _-_, _%_, _≤_, _<_}
 use native.Mathlib.Nat.{le-of-suc-le-suc, not-suc-le-zero}
 use native.Mathlib.Omega.{arith}
 use lib.Bits.{bitOr, or-zero-r, or-add-and, and-le-l}
 use lib.Dec.{eqb}
 use lib.ListN.{length, getD, drop, drop-of-length-le}
-use borrow.Author.Tests.{ne-eqb}
+use borrow.Author.Tests.{eqb-true, eq-eqb, ne-eqb}
 use Rattle.ground.specs.Range.{within}
 use Rattle.ground.specs.Search.{firstBelow}
 use Rattle.ground.proofs.Cases.{on-test}
+use Rattle.ground.proofs.Ranges.{is-within, not-within}
 use Rattle.ground.proofs.Reading.{next-left}
 use Rattle.ground.proofs.Searches.{Lowest, hit, is-hit, is-miss}
 use Rattle.ground.proofs.Tests.{both-left, both-right}
-use Rattle.send.specs.Check.{outsideOf, allWithin, firstOutside}
+use Rattle.send.specs.Check.{allWithin, firstOutside}
 
--- a one that is put in stays
-stays : (found : ℕ) → eqb (bitOr found 1) 0 ≡ false
-stays found = ne-eqb (bitOr found 1) 0 (λ z. omega (arith, or-add-and found 1, and-le-l found 1))
+-- what is put in and is not 0 stays
+stays : (found out : ℕ) → eqb out 0 ≡ false → eqb (bitOr found out) 0 ≡ false
+stays found out e =
+    ne-eqb (bitOr found out) 0 (λ z. let n : out ≡ 0 = omega (arith, or-add-and found out, and-le-l found out) in true≢false (sym (eq-eqb out 0 n) ∙ e))
 
 module _ (low high : ℕ) where
+  -- the difference, which wraps below the bounds, and how far it is above them
+  module _ (x y : ℕ) (bounded : high < 65536) (order : low ≤ high) (small : y < 65536) (wraps : (y + low) % 65536 ≡ x) where
+    pub far-outside : high - low < y → eqb (y - (high - low)) 0 ≡ within low high x
+    far-outside h =
+        ne-eqb (y - (high - low)) 0 (λ z. omega arith) ∙ sym (not-within low high x (λ p q. omega arith))
+
+    pub near-within : y ≤ high - low → eqb 0 0 ≡ within low high x
+    near-within h = sym (is-within low high x (omega arith) (omega arith))
+
   -- one sample more
   looked :
-      (found x : ℕ) (xs : List ℕ)
-      → (eqb (bitOr found (outsideOf low high x)) 0 && allWithin low high xs) ≡ (eqb found 0 && allWithin low high (x ∷ xs))
+      (found out x : ℕ) (xs : List ℕ)
+      → eqb out 0 ≡ within low high x
+      → (eqb (bitOr found out) 0 && allWithin low high xs) ≡ (eqb found 0 && allWithin low high (x ∷ xs))
   unfolding allWithin
-  looked found x xs = on-test (within low high x) (λ t. simp (t, or-zero-r)) (λ t. simp (t, stays, and-false))
+  looked found out x xs e =
+      on-test (within low high x)
+      (λ t. let n : out ≡ 0 = eqb-true out 0 (e ∙ t) in simp (t, n, or-zero-r))
+      (λ t. simp (t, stays found out (e ∙ t), and-false))
 
   pub look-turn :
-      {out : ℕ} (found : ℕ) (xs : List ℕ) (i : ℕ)
-      → i < length xs → out ≡ outsideOf low high (getD xs i 0)
+      (found out : ℕ) (xs : List ℕ) (i : ℕ)
+      → i < length xs → eqb out 0 ≡ within low high (getD xs i 0)
       → (eqb (bitOr found out) 0 && allWithin low high (drop (i + 1) xs)) ≡ (eqb found 0 && allWithin low high (drop i xs))
-  look-turn found xs i h e = rw (e, next-left xs i 0 h) (looked found (getD xs i 0) (drop (i + 1) xs))
+  look-turn found out xs i h e = rw (next-left xs i 0 h) (looked found out (getD xs i 0) (drop (i + 1) xs) e)
 
   pub look-done : (found : ℕ) (xs : List ℕ) (i : ℕ) → length xs ≤ i → (eqb found 0 && allWithin low high (drop i xs)) ≡ eqb found 0
   unfolding allWithin

@@ -5,6 +5,7 @@ pub mod Passing
 pub mod Putting
 pub mod Refusals
 pub mod Runs
+pub mod Scaling
 pub mod Sizes
 pub mod TimingCodes
 pub mod Whole

@@ -2,7 +2,7 @@
 -- Assumes nothing.
 use mathlib.Core.Path.{_≡_, refl, sym, ap, ap₂, _∙_}
 use mathlib.Core.List.{List, [], _∷_, _++_}
-use Prim.Native.Nat.{ℕ, zero, suc, _+_, _*_, _≤_, _<_}
+use Prim.Native.Nat.{ℕ, zero, suc, _+_, _*_, _/_, _%_, _≤_, _<_}
 use native.Mathlib.Omega.{arith}
 use lib.ListN.{length, set}
 use lib.Seq.{sets, length-sets}
@@ -11,6 +11,7 @@ use Rattle.ground.specs.Written.{upto}
 use Rattle.symbol.specs.declared.disparity.Disparity.{Disparity}
 use Rattle.encoder.specs.Tables.{offsetOf, ofOffset}
 use Rattle.encoder.proofs.Entries.{offset-again}
+use Rattle.packing.specs.Bytes.{bytesOf}
 use Rattle.span.specs.Encoding.{symbolsFrom, afterRun}
 use Rattle.span.proofs.Encoding.{symbols-append, after-append, length-symbols}
 use Rattle.send.specs.declared.coder.Three.{Three}
@@ -86,6 +87,29 @@ three-put d at out x y z p =
 -- the two promises of a call as one
 pub made : {d at e : ℕ} {cs before after : List ℕ} → (e ≡ behind d cs) × (after ≡ put d cs at before) → Put d cs at before e after
 made p = record { offset = p .0; out = p .1 }
+
+-- of a number whose low twelve bits are m, what stands above the lowest byte; and of that the lowest byte
+above-byte : (q m : ℕ) → (q * 4096 + m) / 256 ≡ q * 16 + m / 256
+above-byte q m = omega arith
+
+middle-byte : (q r : ℕ) → r < 16 → q % 16 * 16 + r % 16 ≡ (q * 16 + r) % 256
+middle-byte q r h = omega arith
+
+top-byte : (k : ℕ) → k < 256 → k % 256 ≡ k
+top-byte k h = omega arith
+
+-- two words as one number, the second above the first: its bytes are theirs
+pub both-chars : (n : ℕ) → n < 16777216 → pairChars (n % 4096) (n / 4096) ≡ n % 256 ∷ n / 256 % 256 ∷ n / 65536 ∷ []
+unfolding bytesOf
+both-chars n h =
+    let whole : n / 4096 * 4096 + n % 4096 ≡ n = omega arith in
+    let first : n % 4096 % 256 ≡ n % 256 = omega arith in
+    let second : n / 4096 % 16 * 16 + n % 4096 / 256 % 16 ≡ n / 256 % 256 =
+    middle-byte (n / 4096) (n % 4096 / 256) (omega arith)
+    ∙ ap (λ (k : ℕ). k % 256) (sym (above-byte (n / 4096) (n % 4096)) ∙ ap (λ (k : ℕ). k / 256) whole) in
+    let top : n / 4096 / 16 ≡ n / 65536 = omega arith in
+    let third : n / 4096 / 16 % 256 ≡ n / 65536 = ap (λ (k : ℕ). k % 256) top ∙ top-byte (n / 65536) (omega arith) in
+    rw (first, second, third)
 
 -- one word of each stream: a pair of words with two streams, two with four
 pub group-of-two : (w : ℕ → ℕ) → groupChars 1 w ≡ pairChars (w 0) (w 1)

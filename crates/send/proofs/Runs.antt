@@ -1,12 +1,12 @@
 -- Pairs of one word again and again, where they leave the disparity as it was.
 -- Assumes nothing.
 use mathlib.Core.Path.{_≡_, refl, sym, ap, _∙_}
-use mathlib.Core.List.{List}
+use mathlib.Core.List.{List, _++_}
 use Prim.Native.Nat.{ℕ, _+_, _*_}
 use lib.ListN.{set}
 use lib.Seq.{sets}
 use Rattle.ground.specs.Written.{upto}
-use Rattle.ground.proofs.Writing.{sets-upto}
+use Rattle.ground.proofs.Writing.{sets-upto, upto-split}
 use Rattle.symbol.specs.declared.disparity.Disparity.{Disparity}
 use Rattle.symbol.specs.declared.disparity.Disparity.the-variants.{Negative, Positive}
 use Rattle.symbol.specs.Code.{afterOf}
@@ -67,6 +67,11 @@ zero-stays d = record { stays = zero-at (ofOffset d) }
 
 pub blank-stays : (d : ℕ) → Stays d 0x100
 blank-stays d = record { stays = blank-at (ofOffset d) }
+
+-- a run and the run behind it are one
+pub one-run : (m n w : ℕ) → runChars m w ++ runChars n w ≡ runChars (m + n) w
+unfolding runChars
+one-run m n w = upto-split m n (λ _. pairChars w w)
 
 -- a run of pairs of such a word, as one run of characters
 pub run-made :

@@ -18,11 +18,12 @@ use Rattle.crcc.specs.Crcc.{crc, crccWords}
 use Rattle.crcc.proofs.Crc.{crc-append}
 use Rattle.word.specs.LineNumber.{lineWords}
 use Rattle.word.specs.Timing.{timing}
+use Rattle.span.specs.declared.content.Content.{Content}
 use Rattle.span.specs.declared.content.ContentBytes.{ContentBytes}
 use Rattle.span.specs.declared.format.Format.{Format}
 use Rattle.span.specs.declared.format.Shape.{Shape}
 use Rattle.span.specs.Content.{contentOf}
-use Rattle.span.specs.Format.{shapeOf, symbolsIn}
+use Rattle.span.specs.Format.{isKnown, shapeOf, samplesIn, symbolsIn}
 use Rattle.span.specs.Encoding.{symbolsFrom, afterRun}
 use Rattle.span.specs.Sample.{allowed, sampleWord, boundsOf}
 use Rattle.span.specs.Span.{interleaved, bytes, charsFromSav, charsFromEav, spanChars, spanSymbols, spanAfter}
@@ -33,9 +34,10 @@ use Rattle.span.proofs.Packing.{bytes-interleaved, bytes-replicate}
 use Rattle.span.proofs.Parts.{parts-from-sav, parts-from-eav, blank-area}
 use Rattle.span.proofs.Samples.{word-is, word-below}
 use Rattle.send.specs.declared.picture.Passed.{Passed}
-use Rattle.send.specs.Put.{timingChars, groupChars, scaled, pictureChars, sumOf, passedAt, crccBehind, sumIn, crccChars, behind, behindChars, runChars, wholeChars, Fits}
+use Rattle.send.specs.Put.{timingChars, groupChars, wordsOf, wordAt, pictureChars, sumOf, passedAt, crccBehind, sumIn, crccChars, behind, put, behindChars, runChars, wholeChars, spanPut, Fits}
 use Rattle.send.specs.Send.{Good}
-use Rattle.send.proofs.Putting.{Put, renamed, told, whole, same-group}
+use Rattle.send.proofs.Putting.{Put, made, renamed, told, whole, same-group}
+use Rattle.send.proofs.Runs.{one-run}
 
 -- what stands in brackets another way
 regroup : (t g h c r : List ℕ) → t ++ ((g ++ h) ++ (c ++ r)) ≡ (t ++ (g ++ (h ++ c))) ++ r
@@ -48,7 +50,7 @@ module _ (f : Format) (a : Asked) (good : Good f a) (factor : ℕ) (is : factor 
   half = shapeOf f .half
 
   abbrev w : ℕ → ℕ → ℕ
-  w = scaled factor (a .samples)
+  w = wordAt (wordsOf factor (a .samples))
 
   known : Known f
   known = known-told f (good .known)
@@ -62,12 +64,15 @@ module _ (f : Format) (a : Asked) (good : Good f a) (factor : ℕ) (is : factor 
 
   -- and the one that is sent
   sample-scaled : (t j : ℕ) → t < 2 * half → j < 1920 → sampleWord f (a .line) t (getD (a .samples) (1920 * t + j) 0) ≡ w t j
+  unfolding wordsOf
   sample-scaled t j l h =
       let x : ℕ = getD (a .samples) (1920 * t + j) 0 in
       let inside : 1920 * t + j < length (a .samples) = omega (arith, good .samples) in
       let place : (1920 * t + j) / 1920 ≡ t = omega arith in
       let ok : allowed f (a .line) t x ≡ true = ap (λ (u : ℕ). allowed f (a .line) u x) (sym place) ∙ may (1920 * t + j) inside in
-      word-is f known (a .line) t x ok ∙ ap (λ (m : ℕ). x * m) (sym is)
+      word-is f known (a .line) t x ok
+      ∙ ap (λ (m : ℕ). x * m) (sym is)
+      ∙ sym (getD-table (length (a .samples)) (λ i. getD (a .samples) i 0 * factor) (1920 * t + j) 0 inside)
 
   picture-is : bytes (interleaved (2 * half) 1920 (picture f a)) ≡ pictureChars half 1920 w
   unfolding picture pictureChars groupChars
@@ -138,7 +143,7 @@ module _ (f : Format) (a : Asked) (good : Good f a) (factor : ℕ) (is : factor 
     content = contentOf f (a .content)
 
     abbrev blanks : List ℕ
-    blanks = runChars (half * shapeOf f .ancillary) 0x100 ++ runChars (shapeOf f .fill) 0x100
+    blanks = runChars (half * shapeOf f .ancillary + shapeOf f .fill) 0x100
 
     eav-is : charsFromEav f a ≡ behindChars half passed next content ++ blanks
     unfolding timingChars behindChars runChars
@@ -147,7 +152,7 @@ module _ (f : Format) (a : Asked) (good : Good f a) (factor : ℕ) (is : factor 
         ∙ ap (λ (l : List ℕ). timingChars half 266 (content .eav1) (content .eav2) xyz ++ l)
         (ap₂ (λ (x y : List ℕ). x ++ y) number-is
         (ap₂ (λ (x y : List ℕ). x ++ y) crcc-is
-        (ap₂ (λ (x y : List ℕ). x ++ y) (blank-area f (a .line)) (bytes-replicate (shapeOf f .fill) 0x100))))
+        (ap₂ (λ (x y : List ℕ). x ++ y) (blank-area f (a .line)) (bytes-replicate (shapeOf f .fill) 0x100) ∙ one-run (half * shapeOf f .ancillary) (shapeOf f .fill) 0x100)))
         ∙ regroup (timingChars half 266 (content .eav1) (content .eav2) xyz) (groupChars half (λ _. lineWords next .ln0)) (groupChars half (λ _. lineWords next .ln1))
         (crccChars half passed xyz (lineWords next)) blanks
 
@@ -165,23 +170,31 @@ module _ (f : Format) (a : Asked) (good : Good f a) (factor : ℕ) (is : factor 
         ap₂ (λ (x y : List ℕ). x ++ y) sav-is eav-is
         ∙ append-assoc (timingChars half 261 (content .sav1) (content .sav2) (timing (vOf (a .line)) false)) (pictureChars half 1920 w) (behindChars half passed next content ++ blanks)
 
-  -- what the sender is asked for and what it answers, by a shape that is the format's
-  pub streams-there : {p : Shape} → p ≡ shapeOf f → 1 ≤ p .half
-  streams-there e = rw e some
-
-  pub samples-there : {p : Shape} → p ≡ shapeOf f → length (a .samples) ≡ 3840 * p .half
-  samples-there e = rw e (omega (arith, good .samples))
-
-  pub span-put : (d : Disparity) {o e : ℕ} {p : Shape} {c : ContentBytes} {before after : List ℕ} → o ≡ offsetOf d → p ≡ shapeOf f
-      → c ≡ contentOf f (a .content) → length before ≡ symbolsIn (shapeOf f) → Put o (wholeChars p o w (a .line) c) 0 before e after
-      → (ofOffset e ≡ spanAfter d f a) × (after ≡ spanSymbols d f a)
+  -- what is put of its words is the span, and fills the buffer
+  pub span-put : (d : Disparity) {r : Disparity} (before : List ℕ) {ws after : List ℕ} → ws ≡ wordsOf factor (a .samples)
+      → length before ≡ symbolsIn (shapeOf f)
+      → (r ≡ ofOffset (behind (offsetOf d) (spanPut f d (a .line) (a .content) ws))) × (after ≡ put (offsetOf d) (spanPut f d (a .line) (a .content) ws) 0 before)
+      → (r ≡ spanAfter d f a) × (after ≡ spanSymbols d f a)
   unfolding wholeChars spanAfter spanSymbols
-  span-put d {o} {p} {c} q r t sized put =
+  span-put d before {ws} q sized e =
       let sav : List ℕ = timingChars half 261 (contentOf f (a .content) .sav1) (contentOf f (a .content) .sav2) (timing (vOf (a .line)) false) in
-      let names : wholeChars p o w (a .line) c ≡ spanChars f a =
-      ap₂ (λ (x : Shape) (y : ContentBytes). wholeChars x o w (a .line) y) r t ∙ sym (whole-is (behind o sav)) in
-      let mine = renamed (sym names) put in
-      let start : ofOffset o ≡ d = ap ofOffset q ∙ offset-again d in (
-        told mine ∙ ap (λ (e : Disparity). afterRun e (spanChars f a)) start,
+      let names : spanPut f d (a .line) (a .content) ws ≡ spanChars f a =
+      ap (spanPut f d (a .line) (a .content)) q ∙ sym (whole-is (behind (offsetOf d) sav)) in
+      let mine = renamed (sym names) (made (refl, e .1)) in
+      let start : ofOffset (offsetOf d) ≡ d = offset-again d in (
+        e .0 ∙ told mine ∙ ap (λ (e : Disparity). afterRun e (spanChars f a)) start,
         whole mine (length-chars f a some ∙ sym sized) ∙ ap (λ (e : Disparity). symbolsFrom e (spanChars f a)) start,
       )
+
+-- a shape, content bytes and an offset that are those asked for
+module _ (f : Format) {p : Shape} (is : p ≡ shapeOf f) where
+  pub streams-there : isKnown f ≡ true → 1 ≤ p .half
+  streams-there known = rw is (known-has-streams f known)
+
+  pub words-there : {n : ℕ} → n ≡ samplesIn (shapeOf f) → n ≡ 3840 * p .half
+  words-there e = rw is (omega arith)
+
+  pub as-asked : (d : Disparity) (n : ℕ) (named : Content) (ws : List ℕ) {o e : ℕ} {c : ContentBytes} {before after : List ℕ} → o ≡ offsetOf d
+      → c ≡ contentOf f named → Put o (wholeChars p o (wordAt ws) n c) 0 before e after
+      → Put (offsetOf d) (spanPut f d n named ws) 0 before e after
+  as-asked d n named ws q t made = rw (is, q, t) at made

@@ -1,18 +1,14 @@
 -- The check of samples against the bounds of a line.
 -- Assumes nothing.
 use Prim.Native.Nat.{ℕ}
-use mathlib.Core.Bool.{Bool, true, not, cond, _&&_}
+use mathlib.Core.Bool.{Bool, true, not, _&&_}
 use mathlib.Core.List.{List, [], _∷_}
 use mathlib.Core.Option.{Option·getD}
 use lib.ListN.{length, getD}
 use Rattle.ground.specs.Range.{within}
 use Rattle.ground.specs.Search.{firstBelow}
 
--- 1 where a sample is outside the bounds
-abbrev pub outsideOf : ℕ → ℕ → ℕ → ℕ
-outsideOf low high x = cond (within low high x) 0 1
-
--- none of a list is
+-- no sample of a list is outside the bounds
 unfoldable pub allWithin : ℕ → ℕ → List ℕ → Bool
 allWithin low high [] = true
 allWithin low high (x ∷ xs) = within low high x && allWithin low high xs

@@ -21,14 +21,19 @@ use Rattle.crcc.specs.Crcc.{crc, crcWord, crccWords}
 use Rattle.word.specs.declared.line_number.LineWords.{LineWords}
 use Rattle.word.specs.LineNumber.{lineWords}
 use Rattle.word.specs.Timing.{timing}
+use Rattle.span.specs.declared.content.Content.{Content}
 use Rattle.span.specs.declared.content.ContentBytes.{ContentBytes}
+use Rattle.span.specs.declared.format.Format.{Format}
 use Rattle.span.specs.declared.format.Shape.{Shape}
+use Rattle.span.specs.Content.{contentOf}
 use Rattle.span.specs.Encoding.{symbolsFrom, afterRun}
+use Rattle.span.specs.Format.{shapeOf}
 use Rattle.span.specs.Span.{interleaved, listed, bytes}
 use Rattle.send.specs.declared.coder.Coded.{Coded}
 use Rattle.send.specs.declared.coder.Three.{Three}
 use Rattle.send.specs.declared.put.Four.{Four}
 use Rattle.send.specs.declared.picture.Passed.{Passed}
+use Rattle.send.specs.declared.picture.Two.{Two}
 
 -- a character
 abbrev pub coded : Disparity → ℕ → Coded
@@ -76,9 +81,13 @@ unfoldable pub timingChars : ℕ → ℕ → ℕ → ℕ → ℕ → List ℕ
 timingChars half k content1 content2 xyz =
     k ∷ k ∷ content1 ∷ content2 ∷ drop 4 (bytes (interleaved (2 * half) 4 (λ t. 0xFFF ∷ 0x000 ∷ 0x000 ∷ xyz ∷ [])))
 
--- word j of stream t of the picture: a sample by the factor
-abbrev pub scaled : ℕ → List ℕ → ℕ → ℕ → ℕ
-scaled factor xs t j = getD xs (1920 * t + j) 0 * factor
+-- each sample by the factor that makes it a word
+unfoldable pub wordsOf : ℕ → List ℕ → List ℕ
+wordsOf factor xs = table (length xs) (λ i. getD xs i 0 * factor)
+
+-- word j of stream t of the picture
+abbrev pub wordAt : List ℕ → ℕ → ℕ → ℕ
+wordAt ws t j = getD ws (1920 * t + j) 0
 
 -- the characters of the first n words of all streams
 unfoldable pub pictureChars : ℕ → ℕ → (ℕ → ℕ → ℕ) → List ℕ
@@ -99,19 +108,9 @@ passedAt half d w n =
       fourth = sumOf half n w 3;
     }
 
--- the same behind one word more of each stream
-abbrev pub summed : ℕ → (ℕ → ℕ) → ℕ → ℕ → ℕ
-summed half w t c = cond (ltb t (2 * half)) (crcWord c (w t)) c
-
-abbrev pub stepped : ℕ → (ℕ → ℕ) → Passed → Passed
-stepped half w p =
-    record {
-      offset = behind (p .offset) (groupChars half w);
-      first = summed half w 0 (p .first);
-      second = summed half w 1 (p .second);
-      third = summed half w 2 (p .third);
-      fourth = summed half w 3 (p .fourth);
-    }
+-- behind one word more of each of two streams, a and b, from an offset and the CRCs of both
+abbrev pub stepped : ℕ → ℕ → ℕ → ℕ → ℕ → Two
+stepped a b d c e = record { offset = behind d (pairChars a b); first = crcWord c a; second = crcWord e b }
 
 -- what the CRC runs over behind the picture: the EAV and the line number
 abbrev pub tailWords : ℕ → LineWords → List ℕ
@@ -149,12 +148,20 @@ wholeChars p d w n content =
     sav
     ++ (pictureChars half 1920 w
     ++ (behindChars half (passedAt half (behind d sav) w 1920) (lineAfter n) content
-    ++ (runChars (half * p .ancillary) 0x100 ++ runChars (p .fill) 0x100)))
+    ++ runChars (half * p .ancillary + p .fill) 0x100))
+
+-- those of a span of words, from a disparity on
+abbrev pub spanPut : Format → Disparity → ℕ → Content → List ℕ → List ℕ
+spanPut f d n content ws = wholeChars (shapeOf f) (offsetOf d) (wordAt ws) n (contentOf f content)
 
 -- a pair of the word leaves the disparity of the offset as it was
 pub record Stays (d w : ℕ) : Type 0 where
   pub stays : afterRun (ofOffset d) (pairChars w w) ≡ ofOffset d
 
--- each sample by the factor is a word
+-- each is a word
+pub record AreWords (xs : List ℕ) : Type 0 where
+  pub below : (i : ℕ) → i < length xs → getD xs i 0 < 4096
+
+-- each sample by the factor is one
 pub record Fits (factor : ℕ) (xs : List ℕ) : Type 0 where
   pub fits : (i : ℕ) → i < length xs → getD xs i 0 * factor < 4096

@@ -1,19 +1,27 @@
 // The check of samples, before anything is sent.
 ghost use mathlib.Core.Path.{_≡_};
-ghost use Rattle.send.specs.Check.{outsideOf, allWithin, firstOutside};
+ghost use Prim.Native.Nat.{_≤_};
+ghost use lib.Dec.{eqb};
+ghost use Rattle.ground.specs.Range.{within};
+ghost use Rattle.send.specs.Check.{allWithin, firstOutside};
 
-// 1 where a sample is outside the bounds.
+// 0 where a sample is within the bounds, else how far it is above them; one below is far above, for the difference wraps. Said so, the
+// loop is a difference and a difference that stops at 0, of eight samples at a time.
 fn outside(low: u16, high: u16, x: u16) -> u16
-    ensures { λ r. ⌜ r ≡ outsideOf low high x ⌝ }
+    requires { ⌜ low ≤ high ⌝ }
+    ensures { λ r. ⌜ eqb r 0 ≡ within low high x ⌝ }
 {
-    if ground::range::within(low, high, x) {
-        return 0;
+    let y = std::num::wrapping_sub_u16(x, low);
+    let room = high - low;
+    if room < y {
+        return y - room;
     }
-    1
+    0
 }
 
 // Whether none is. Each sample is looked at, so that the loop has one way out and takes many at a time.
 fn none_outside(low: u16, high: u16, samples: &[u16]) -> bool
+    requires { ⌜ low ≤ high ⌝ }
     ensures { λ r. ⌜ r ≡ allWithin low high (now (samples .entry)) ⌝ }
 {
     let mut found = 0;
@@ -27,6 +35,7 @@ fn none_outside(low: u16, high: u16, samples: &[u16]) -> bool
 
 // The lowest index of a sample outside the bounds; the length where there is none.
 pub(crate) fn first_outside(low: u16, high: u16, samples: &[u16]) -> usize
+    requires { ⌜ low ≤ high ⌝ }
     ensures { λ r. ⌜ r ≡ firstOutside low high (now (samples .entry)) ⌝ }
 {
     if none_outside(low, high, samples) {

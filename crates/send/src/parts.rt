@@ -12,7 +12,7 @@ ghost use lib.ListN.{length};
 ghost use Rattle.encoder.specs.Tables.{offsetOf, ofOffset, symbolTable, turnTable};
 ghost use Rattle.line.specs.Stream.{lineAfter};
 ghost use Rattle.span.specs.Format.{symbolsIn, Small};
-ghost use Rattle.send.specs.Put.{behind, put, crccBehind, crccChars, behindChars, scaled, Fits, wholeChars};
+ghost use Rattle.send.specs.Put.{behind, put, crccBehind, crccChars, behindChars, wordAt, AreWords, wholeChars};
 
 // The CRCC words of a stream whose picture words leave c: the CRC runs on over the EAV and the line number.
 fn crcc_behind(c: u32, xyz: u16, n: LineWords) -> CrccWords
@@ -107,16 +107,15 @@ pub(crate) fn put_behind(
     put_crcc(symbols, turns, half, d3, p, xyz, n, out, at + 18 * half)
 }
 
-// The whole span, of which two pairs of streams at most are sent: SAV and picture, what stands behind it, and blanking twice, in the
-// ancillary area and in the fill. Blanking leaves the disparity as it was.
+// The whole span, of which two pairs of streams at most are sent: SAV and picture, what stands behind it, and blanking, which is one run
+// through the ancillary area and the fill. Blanking leaves the disparity as it was.
 pub(crate) fn put_span(
     symbols: &[u16; 536],
     turns: &[u16; 268],
     p: Shape,
     l: StreamLine,
     content: ContentBytes,
-    factor: u16,
-    samples: &[u16],
+    words: &[u16],
     d: usize,
     out: &mut [u16],
 ) -> usize
@@ -124,15 +123,15 @@ pub(crate) fn put_span(
     requires { ⌜ now turns ≡ turnTable ⌝ }
     requires { ⌜ 1 ≤ p .half ⌝ }
     requires { ⌜ Small p ⌝ }
-    requires { ⌜ length (now samples) ≡ 3840 * p .half ⌝ }
-    requires { ⌜ Fits factor (now samples) ⌝ }
+    requires { ⌜ AreWords (now words) ⌝ }
+    requires { ⌜ length (now words) ≡ 3840 * p .half ⌝ }
     requires { ⌜ d ≡ offsetOf (ofOffset d) ⌝ }
     requires { ⌜ length (now out) ≡ symbolsIn p ⌝ }
-    ensures offset { λ r. ⌜ r ≡ behind d (wholeChars p d (scaled factor (now (samples .entry))) (l .0) content) ⌝ }
-    ensures out { λ _. ⌜ now (out .exit) ≡ put d (wholeChars p d (scaled factor (now (samples .entry))) (l .0) content) 0 (now (out .entry)) ⌝ }
+    ensures offset { λ r. ⌜ r ≡ behind d (wholeChars p d (wordAt (now (words .entry))) (l .0) content) ⌝ }
+    ensures out { λ _. ⌜ now (out .exit) ≡ put d (wholeChars p d (wordAt (now (words .entry))) (l .0) content) 0 (now (out .entry)) ⌝ }
 {
     let half = p.half;
-    let ancillary = half * p.ancillary;
+    let pairs = half * p.ancillary + p.fill;
     let xyz = word::timing::timing_word(line::stream::v_of(l), false);
     let d1 = crate::timing::put_timing(
         symbols,
@@ -146,17 +145,8 @@ pub(crate) fn put_span(
         out,
         0,
     );
-    let q = crate::picture::put_picture(symbols, turns, half, factor, samples, d1, out, 12 * half);
+    let q = crate::picture::put_picture(symbols, turns, half, words, d1, out, 12 * half);
     let d2 = put_behind(symbols, turns, half, q, l, content, out, 5772 * half);
-    crate::put::put_run(symbols, turns, ancillary, d2, 0x100, out, 5796 * half);
-    crate::put::put_run(
-        symbols,
-        turns,
-        p.fill,
-        d2,
-        0x100,
-        out,
-        5796 * half + 3 * ancillary,
-    );
+    crate::put::put_run(symbols, turns, pairs, d2, 0x100, out, 5796 * half);
     d2
 }

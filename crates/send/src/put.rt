@@ -1,6 +1,6 @@
 // Pieces of a span, put into the symbol buffer at a place.
 ghost use mathlib.Core.Path.{_≡_};
-ghost use Prim.Native.Nat.{_+_, _*_, _≤_, _<_};
+ghost use Prim.Native.Nat.{_+_, _*_, _/_, _%_, _≤_, _<_};
 ghost use mathlib.Core.List.{[], _∷_};
 ghost use lib.ListN.{length};
 ghost use Rattle.encoder.specs.Tables.{offsetOf, ofOffset, symbolTable, turnTable};
@@ -67,6 +67,35 @@ pub(crate) fn put_pair(
         t.first as u16,
         t.second as u16,
         t.third as u16,
+        out,
+        at,
+    )
+}
+
+// The same of two words of twelve bits as one number, the second above the first: its three bytes are theirs.
+pub(crate) fn put_both(
+    symbols: &[u16; 536],
+    turns: &[u16; 268],
+    d: usize,
+    both: u32,
+    out: &mut [u16],
+    at: usize,
+) -> usize
+    requires { ⌜ now symbols ≡ symbolTable ⌝ }
+    requires { ⌜ now turns ≡ turnTable ⌝ }
+    requires { ⌜ d ≡ offsetOf (ofOffset d) ⌝ }
+    requires { ⌜ both < 16777216 ⌝ }
+    requires { ⌜ at + 3 ≤ length (now out) ⌝ }
+    ensures offset { λ r. ⌜ r ≡ behind d (pairChars (both % 4096) (both / 4096)) ⌝ }
+    ensures out { λ _. ⌜ now (out .exit) ≡ put d (pairChars (both % 4096) (both / 4096)) at (now (out .entry)) ⌝ }
+{
+    put_three(
+        symbols,
+        turns,
+        d,
+        (both % 256) as u16,
+        (both / 256 % 256) as u16,
+        (both / 65536) as u16,
         out,
         at,
     )

@@ -6,10 +6,12 @@ use symbol::disparity::Disparity;
 ghost use mathlib.Core.Path.{_≡_};
 ghost use mathlib.Core.Bool.{true};
 ghost use lib.ListN.{length};
+ghost use Rattle.encoder.specs.Tables.{offsetOf, ofOffset};
 ghost use Rattle.line.specs.Stream.{isLine};
 ghost use Rattle.span.specs.Format.{isKnown, shapeOf, samplesIn, symbolsIn};
 ghost use Rattle.span.specs.Sample.{boundsOf};
 ghost use Rattle.span.specs.Span.{spanSymbols, spanAfter};
+ghost use Rattle.send.specs.Put.{behind, put, wordsOf, spanPut, AreWords, Fits};
 ghost use Rattle.send.specs.Send.{Good, asked, paperSent, sendOf, sentBuffer};
 
 pub enum Sent {
@@ -27,7 +29,67 @@ pub enum Sent {
     NotAllowed(usize),
 }
 
-// A span that may be sent. The tables are lent once, here.
+// A span of words, as many as the format asks for. The tables are lent once, here.
+fn send_words(
+    f: Format,
+    l: StreamLine,
+    d: Disparity,
+    content: Content,
+    words: &[u16],
+    out: &mut [u16],
+) -> Disparity
+    requires { ⌜ isKnown f ≡ true ⌝ }
+    requires { ⌜ AreWords (now words) ⌝ }
+    requires { ⌜ length (now words) ≡ samplesIn (shapeOf f) ⌝ }
+    requires { ⌜ length (now out) ≡ symbolsIn (shapeOf f) ⌝ }
+    ensures after { λ r. ⌜ r ≡ ofOffset (behind (offsetOf d) (spanPut f d (l .0) content (now (words .entry)))) ⌝ }
+    ensures symbols { λ _. ⌜ now (out .exit) ≡ put (offsetOf d) (spanPut f d (l .0) content (now (words .entry))) 0 (now (out .entry)) ⌝ }
+{
+    let symbols = encoder::tables::symbol_table();
+    let turns = encoder::tables::turn_table();
+    let p = span::format::shape_of(f);
+    let c = span::content::content_of(f, content);
+    let before = encoder::tables::offset_of(d);
+    let after = crate::parts::put_span(&symbols, &turns, p, l, c, words, before, out);
+    encoder::tables::disparity_at(after)
+}
+
+// Each sample by the factor that makes it a word.
+fn scale(factor: u16, samples: &[u16], words: &mut [u16])
+    requires { ⌜ Fits factor (now samples) ⌝ }
+    requires { ⌜ length (now words) ≡ length (now samples) ⌝ }
+    ensures { λ _. ⌜ now (words .exit) ≡ wordsOf factor (now (samples .entry)) ⌝ }
+{
+    let mut i = 0;
+    while i < samples.len() {
+        words[i] = samples[i] * factor;
+        i += 1;
+    }
+}
+
+// A span that may be sent, with room for its words.
+fn send_scaled(
+    f: Format,
+    l: StreamLine,
+    d: Disparity,
+    content: Content,
+    factor: u16,
+    samples: &[u16],
+    words: &mut [u16],
+    out: &mut [u16],
+) -> Disparity
+    requires { ⌜ Good f (asked (l .0) content (now samples)) ⌝ }
+    requires { ⌜ factor ≡ boundsOf f (l .0) .factor ⌝ }
+    requires { ⌜ length (now words) ≡ length (now samples) ⌝ }
+    requires { ⌜ length (now out) ≡ symbolsIn (shapeOf f) ⌝ }
+    ensures after { λ r. ⌜ r ≡ spanAfter d f (asked (l .0) content (now (samples .entry))) ⌝ }
+    ensures symbols { λ _. ⌜ now (out .exit) ≡ spanSymbols d f (asked (l .0) content (now (samples .entry))) ⌝ }
+{
+    scale(factor, samples, words);
+    send_words(f, l, d, content, words, out)
+}
+
+// A span that may be sent. Samples that are words as they are need no room for them.
 fn send_span(
     f: Format,
     l: StreamLine,
@@ -43,13 +105,12 @@ fn send_span(
     ensures after { λ r. ⌜ r ≡ spanAfter d f (asked (l .0) content (now (samples .entry))) ⌝ }
     ensures symbols { λ _. ⌜ now (out .exit) ≡ spanSymbols d f (asked (l .0) content (now (samples .entry))) ⌝ }
 {
-    let symbols = encoder::tables::symbol_table();
-    let turns = encoder::tables::turn_table();
-    let p = span::format::shape_of(f);
-    let c = span::content::content_of(f, content);
-    let before = encoder::tables::offset_of(d);
-    let after = crate::parts::put_span(&symbols, &turns, p, l, c, factor, samples, before, out);
-    encoder::tables::disparity_at(after)
+    if factor == 1 {
+        return send_words(f, l, d, content, samples, out);
+    }
+    let n = samples.len();
+    let mut words = [0u16; 7680];
+    send_scaled(f, l, d, content, factor, samples, &mut words[..n], out)
 }
 
 // A call whose format, line and lengths are good: its samples are left to tell.

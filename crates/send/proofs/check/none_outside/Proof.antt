@@ -41,7 +41,7 @@ loop-again c =
     let a = c .before .before .before .before .before .args in
     let v = c .before .before .before .loop in
     let h : v .i < length (a .samples .now) = search needs in
-    look-turn (a .low) (a .high) (v .found) (a .samples .now) (v .i) h (c .outside .ensures) ∙ v .inv
+    look-turn (a .low) (a .high) (v .found) _ (a .samples .now) (v .i) h (c .outside .ensures) ∙ v .inv
 
 returns : tie.Need-returns Inv-loop μ-loop
 returns c =

@@ -3,17 +3,16 @@
 use mathlib.Core.Path.{_≡_, sym, ap, _∙_}
 use mathlib.Core.Bool.{Bool, false}
 use mathlib.Core.List.{List}
-use Prim.Native.Nat.{ℕ, _*_}
+use Prim.Native.Nat.{ℕ, _+_, _*_}
 use native.Mathlib.Omega.{arith}
 use Rattle.line.specs.Stream.{vOf, lineAfter}
 use Rattle.word.specs.Timing.{timing}
-use Rattle.span.proofs.Formats.{few-pairs}
 use Rattle.send.specs.declared.picture.Passed.{Passed}
-use Rattle.send.specs.Put.{behind, put, timingChars, scaled, pictureChars, passedAt, behindChars, wholeChars}
+use Rattle.send.specs.Put.{behind, put, timingChars, wordAt, pictureChars, passedAt, behindChars, wholeChars}
 use Rattle.send.proofs.Passing.{length-picture}
 use Rattle.send.proofs.Putting.{Put, made, renamed, then, is-offset, same-size}
 use Rattle.send.proofs.Runs.{blank-stays, run-made}
-use Rattle.send.proofs.Sizes.{length-behind, length-run}
+use Rattle.send.proofs.Sizes.{length-behind}
 use Rattle.send.proofs.TimingCodes.{length-timing}
 use borrow.Author.Needs.{needs}
 use Rattle.send.proofs.parts.put_span.Statement.{statement}
@@ -25,8 +24,11 @@ passed-put : (half : ℕ) (w : ℕ → ℕ → ℕ) {d at : ℕ} {q : Passed} {b
     → Put d (pictureChars half 1920 w) at before (q .offset) after
 passed-put half w e = made (ap (λ (q : Passed). q .offset) (e .0), e .1)
 
-mul-ancillary : tie.Need-mul-ancillary
-mul-ancillary c = search needs
+mul-pairs : tie.Need-mul-pairs
+mul-pairs c = search needs
+
+add-pairs : tie.Need-add-pairs
+add-pairs c = search needs
 
 v-of-requires : tie.Need-v-of-requires
 v-of-requires c κs = search needs
@@ -36,7 +38,7 @@ timing-word-requires c κs = search needs
 
 put-timing-requires : tie.Need-put-timing-requires
 put-timing-requires c κs =
-    let s = c .before .before .before .before .before .before in
+    let s = c .before .before .before .before .before .before .before in
     (s .pre .0, (s .pre .1 .0, (s .pre .1 .1 .0, (s .pre .1 .1 .1 .0 .half, (s .pre .1 .1 .1 .1 .1 .1 .0, (omega arith, omega (arith, s .pre .1 .1 .1 .1 .1 .1 .1)))))))
 
 mul-put-picture : tie.Need-mul-put-picture
@@ -44,53 +46,32 @@ mul-put-picture c = search needs
 
 put-picture-requires : tie.Need-put-picture-requires
 put-picture-requires c κs =
-    let s = c .before .before .before .before .before .before .before .before .before .before in
+    let s = c .before .before .before .before .before .before .before .before .before .before .before in
     let p1 = made (c .before .before .before .put-timing .ensures) in
     (s .pre .0, (s .pre .1 .0, (s .pre .1 .1 .0, (s .pre .1 .1 .1 .0 .half, (s .pre .1 .1 .1 .1 .0, (s .pre .1 .1 .1 .1 .1 .0, (is-offset p1, omega (arith, same-size p1, s .pre .1 .1 .1 .1 .1 .1 .1))))))))
 
 mul-put-behind : tie.Need-mul-put-behind
 mul-put-behind c =
-    let s = c .before .before .before .before .before .before .before .before .before .before .before .before .before .before in omega (arith, s .pre .1 .1 .1 .0 .half)
+    let s = c .before .before .before .before .before .before .before .before .before .before .before .before .before .before .before in omega (arith, s .pre .1 .1 .1 .0 .half)
 
 put-behind-requires : tie.Need-put-behind-requires
 put-behind-requires c κs =
-    let s = c .before .before .before .before .before .before .before .before .before .before .before .before .before .before in
+    let s = c .before .before .before .before .before .before .before .before .before .before .before .before .before .before .before in
     let p1 = made (c .before .before .before .before .before .before .before .put-timing .ensures) in
-    let p2 = passed-put (s .args .p .half) (scaled (s .args .factor) (s .args .samples .now)) (c .before .before .before .put-picture .ensures) in
+    let p2 = passed-put (s .args .p .half) (wordAt (s .args .words .now)) (c .before .before .before .put-picture .ensures) in
     (s .pre .0, (s .pre .1 .0, (s .pre .1 .1 .0, (s .pre .1 .1 .1 .0 .half, (is-offset p2, omega (arith, same-size p1, same-size p2, s .pre .1 .1 .1 .1 .1 .1 .1))))))
 
 mul-put-run : tie.Need-mul-put-run
 mul-put-run c =
-    let s = c .before .before .before .before .before .before .before .before .before .before .before .before .before .before .before .before .before .before in omega (arith, s .pre .1 .1 .1 .0 .half)
+    let s = c .before .before .before .before .before .before .before .before .before .before .before .before .before .before .before .before .before .before .before in omega (arith, s .pre .1 .1 .1 .0 .half)
 
 put-run-requires : tie.Need-put-run-requires
 put-run-requires c κs =
-    let s = c .before .before .before .before .before .before .before .before .before .before .before .before .before .before .before .before .before .before in
+    let s = c .before .before .before .before .before .before .before .before .before .before .before .before .before .before .before .before .before .before .before in
     let p1 = made (c .before .before .before .before .before .before .before .before .before .before .before .put-timing .ensures) in
-    let p2 = passed-put (s .args .p .half) (scaled (s .args .factor) (s .args .samples .now)) (c .before .before .before .before .before .before .before .put-picture .ensures) in
+    let p2 = passed-put (s .args .p .half) (wordAt (s .args .words .now)) (c .before .before .before .before .before .before .before .put-picture .ensures) in
     let p3 = made (c .before .before .before .put-behind .ensures) in
     (s .pre .0, (s .pre .1 .0, (is-offset p3, (blank-stays _, omega (arith, same-size p1, same-size p2, same-size p3, s .pre .1 .1 .1 .1 .1 .1 .1)))))
-
-mul-put-run-2 : tie.Need-mul-put-run-2
-mul-put-run-2 c =
-    let s = c .before .before .before .before .before .before .before .before .before .before .before .before .before .before .before .before .before .before .before .before .before .before in omega (arith, s .pre .1 .1 .1 .0 .half)
-
-mul-put-run-3 : tie.Need-mul-put-run-3
-mul-put-run-3 c =
-    let s = c .before .before .before .before .before .before .before .before .before .before .before .before .before .before .before .before .before .before .before .before .before .before in omega (arith, few-pairs (s .pre .1 .1 .1 .0))
-
-add-put-run : tie.Need-add-put-run
-add-put-run c =
-    let s = c .before .before .before .before .before .before .before .before .before .before .before .before .before .before .before .before .before .before .before .before .before .before in omega (arith, s .pre .1 .1 .1 .0 .half, few-pairs (s .pre .1 .1 .1 .0))
-
-put-run-requires-2 : tie.Need-put-run-requires-2
-put-run-requires-2 c κs =
-    let s = c .before .before .before .before .before .before .before .before .before .before .before .before .before .before .before .before .before .before .before .before .before .before in
-    let p1 = made (c .before .before .before .before .before .before .before .before .before .before .before .before .before .before .before .put-timing .ensures) in
-    let p2 = passed-put (s .args .p .half) (scaled (s .args .factor) (s .args .samples .now)) (c .before .before .before .before .before .before .before .before .before .before .before .put-picture .ensures) in
-    let p3 = made (c .before .before .before .before .before .before .before .put-behind .ensures) in
-    let p4 = run-made (s .args .p .half * s .args .p .ancillary) (is-offset p3) (blank-stays _) (c .before .before .before .put-run .ensures) in
-    (s .pre .0, (s .pre .1 .0, (is-offset p3, (blank-stays _, omega (arith, same-size p1, same-size p2, same-size p3, same-size p4, s .pre .1 .1 .1 .1 .1 .1 .1)))))
 
 same-length : tie.Need-same-length
 same-length c = search needs
@@ -98,31 +79,30 @@ same-length c = search needs
 returns : tie.Need-returns
 unfolding wholeChars
 returns c =
-    let s = c .before .before .before .before .before .before .before .before .before .before .before .before .before .before .before .before .before .before .before .before .before .before .before .before .before in
+    let s = c .before .before .before .before .before .before .before .before .before .before .before .before .before .before .before .before .before .before .before .before .before .before in
     let a = s .args in
     let half = a .p .half in
-    let w = scaled (a .factor) (a .samples .now) in
-    let code = c .before .before .before .before .before .before .before .before .before .before .before .before .before .before .before .before .before .before .before .before .timing-word .ensures ∙ ap (λ (v : Bool). timing v false) (c .before .before .before .before .before .before .before .before .before .before .before .before .before .before .before .before .before .before .before .before .before .v-of .ensures) in
+    let w = wordAt (a .words .now) in
+    let code = c .before .before .before .before .before .before .before .before .before .before .before .before .before .before .before .before .timing-word .ensures ∙ ap (λ (v : Bool). timing v false) (c .before .before .before .before .before .before .before .before .before .before .before .before .before .before .before .before .before .v-of .ensures) in
     let sav = timingChars half 261 (a .content .sav1) (a .content .sav2) (timing (vOf (a .l .0)) false) in
-    let p1 = renamed (ap (timingChars half 261 (a .content .sav1) (a .content .sav2)) (sym code)) (made (c .before .before .before .before .before .before .before .before .before .before .before .before .before .before .before .before .before .before .put-timing .ensures)) in
-    let e = c .before .before .before .before .before .before .before .before .before .before .before .before .before .before .put-picture .ensures in
+    let p1 = renamed (ap (timingChars half 261 (a .content .sav1) (a .content .sav2)) (sym code)) (made (c .before .before .before .before .before .before .before .before .before .before .before .before .before .before .put-timing .ensures)) in
+    let e = c .before .before .before .before .before .before .before .before .before .before .put-picture .ensures in
     let passed = e .0 ∙ ap (λ (o : ℕ). passedAt half o w 1920) (p1 .offset) in
     let p2 = passed-put half w e in
-    let p3 = renamed (ap (λ (q : Passed). behindChars half q (lineAfter (a .l .0)) (a .content)) (sym passed)) (made (c .before .before .before .before .before .before .before .before .before .before .put-behind .ensures)) in
-    let p4 = run-made (half * a .p .ancillary) (is-offset p3) (blank-stays _) (c .before .before .before .before .before .before .put-run .ensures) in
-    let p5 = run-made (a .p .fill) (is-offset p3) (blank-stays _) (c .before .before .put-run2 .ensures) in
+    let p3 = renamed (ap (λ (q : Passed). behindChars half q (lineAfter (a .l .0)) (a .content)) (sym passed)) (made (c .before .before .before .before .before .before .put-behind .ensures)) in
+    let p4 = run-made (half * a .p .ancillary + a .p .fill) (is-offset p3) (blank-stays _) (c .before .before .put-run .ensures) in
     let l1 = length-timing half 261 (a .content .sav1) (a .content .sav2) (timing (vOf (a .l .0)) false) (s .pre .1 .1 .0) (s .pre .1 .1 .1 .0 .half) in
     let l2 = length-picture half 0 w 1920 in
     let l3 = length-behind half (s .pre .1 .1 .0) (s .pre .1 .1 .1 .0 .half) (passedAt half (behind (a .d) sav) w 1920) (lineAfter (a .l .0)) (a .content) in
-    let l4 = length-run (half * a .p .ancillary) 0x100 in
-    let r = then p1 (omega (arith, l1)) (then p2 (omega (arith, l2)) (then p3 (omega (arith, l3)) (then p4 (omega (arith, l4)) p5))) in
+    let r = then p1 (omega (arith, l1)) (then p2 (omega (arith, l2)) (then p3 (omega (arith, l3)) p4)) in
     (r .offset, r .out)
 
 pub put-span-spec : {M : Type 1} → statement M
 put-span-spec =
     tie.close
     (tie.spec
-    mul-ancillary
+    mul-pairs
+    add-pairs
     v-of-requires
     timing-word-requires
     put-timing-requires
@@ -132,9 +112,5 @@ put-span-spec =
     put-behind-requires
     mul-put-run
     put-run-requires
-    mul-put-run-2
-    mul-put-run-3
-    add-put-run
-    put-run-requires-2
     same-length
     returns)

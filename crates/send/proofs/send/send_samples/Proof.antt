@@ -2,12 +2,17 @@
 -- Assumes nothing.
 use mathlib.Core.Path.{_≡_, sym, ap, _∙_}
 use mathlib.Core.List.{List}
-use Prim.Native.Nat.{ℕ, _<_}
+use Prim.Native.Nat.{ℕ, _≤_, _<_}
 use native.Mathlib.Omega.{arith}
+use lib.Dec.{eqb}
 use lib.ListN.{length}
 use Rattle.ground.specs.Answer.{given}
 use Rattle.ground.proofs.Answers.{when-refused, when-given}
+use Rattle.ground.proofs.Cases.{on-test}
+use Rattle.line.specs.Stream.{isActive}
+use Rattle.span.specs.declared.format.Format.{Format}
 use Rattle.span.specs.declared.sample.Bounds.{Bounds}
+use Rattle.span.specs.Sample.{boundsOf}
 use Rattle.send.specs.Check.{firstOutside}
 use Rattle.send.specs.Send.{asked}
 use Rattle.send.proofs.Refusals.{send-meets-6, sends, is-good}
@@ -19,11 +24,21 @@ use Rattle.send.proofs.send.send_samples.Tie as tie
 found-by : (xs : List ℕ) {w : ℕ} {b m : Bounds} → w ≡ firstOutside (b .low) (b .high) xs → b ≡ m → w ≡ firstOutside (m .low) (m .high) xs
 found-by xs e q = e ∙ ap (λ (b : Bounds). firstOutside (b .low) (b .high) xs) q
 
+-- the bounds stand in their order
+in-order : (f : Format) (n : ℕ) {b : Bounds} → b ≡ boundsOf f n → b .low ≤ b .high
+in-order f n e =
+    rw e
+    (on-test (isActive n)
+    (λ active. on-test (eqb (f .depth) 10) (λ ten. simp (active, ten) (omega arith)) (λ twelve. simp (active, twelve) (omega arith)))
+    (λ blanking. simp blanking (omega arith)))
+
 bounds-of-requires : tie.Need-bounds-of-requires
 bounds-of-requires c κs = search needs
 
 first-outside-requires : tie.Need-first-outside-requires
-first-outside-requires c κs = search needs
+first-outside-requires c κs =
+    let a = c .before .before .before .args in
+    in-order (a .f) (a .l .0) (c .bounds-of .ensures)
 
 returns : tie.Need-returns
 returns c =
