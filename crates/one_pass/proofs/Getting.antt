@@ -10,7 +10,7 @@ use borrow.Author.Tests.{eqb-true, eqb-false}
 use Rattle.ground.specs.Written.{table}
 use Rattle.ground.proofs.Cases.{on-test}
 use Rattle.ground.proofs.Writing.{table-same}
-use Rattle.crcc.specs.Crcc.{crc}
+use Rattle.crcc.specs.Crcc.{crc, crcWord}
 use Rattle.packing.specs.declared.bytes.TwoWords.{TwoWords}
 use Rattle.rows.specs.Given.{plainPair}
 use Rattle.rows.specs.Picture.{columnOf, putTwo, sumsOf}
@@ -22,8 +22,10 @@ use Rattle.span.specs.Format.{streams, samplesIn}
 use Rattle.window.specs.Tests.{rows as rowsOf}
 use Rattle.window.specs.Words.{wordAt}
 use Rattle.one_pass.specs.declared.picture.Passed.{Passed}
-use Rattle.one_pass.specs.Picture.{pairIn, placeTwo, rowsTwo, placeFour, rowsFour, Got}
-use Rattle.one_pass.specs.See.{Clean}
+use Rattle.one_pass.specs.declared.see.Six.{Six}
+use Rattle.one_pass.specs.declared.see.Three.{Three}
+use Rattle.one_pass.specs.Picture.{pairIn, putPair, placeTwo, rowsTwo, placeFour, rowsFour, Got}
+use Rattle.one_pass.specs.See.{seenThree, seenSix, Clean}
 use Rattle.one_pass.proofs.Seeing.{three-turn}
 
 -- where a pair stands
@@ -31,7 +33,8 @@ pair-at : (w : List ℕ) (j half u o : ℕ) → o ≡ 3 * (half * (4 + j) + u) �
 pair-at w j half u o e = ap (plainPair w) e
 
 module _ (w : List ℕ) {old : List ℕ} {j : ℕ} {v : Passed} {rows : List ℕ} (h : j < 1920) where
-  got-two : Got 1 w old j v rows → Got 1 w old (j + 1) (placeTwo w j v) (rowsTwo w j rows)
+  pub got-two : Got 1 w old j v rows → Got 1 w old (j + 1) (placeTwo w j v) (rowsTwo w j rows)
+  unfolding seenThree
   got-two g =
       let at : 12 + 3 * j ≡ 3 * (1 * (4 + j) + 0) = omega arith in
       let pair = pair-at w j 1 0 (12 + 3 * j) at in
@@ -46,21 +49,17 @@ module _ (w : List ℕ) {old : List ℕ} {j : ℕ} {v : Passed} {rows : List ℕ
         four = λ e. absurd (omega arith);
       }
 
-  pub then-two : {r : Passed} {after : List ℕ} {k : ℕ} → Got 1 w old j v rows → r ≡ placeTwo w j v → after ≡ rowsTwo w j rows → k ≡ j + 1
-      → Got 1 w old k r after
-  then-two g e q i = rw (e, q, i) (got-two g)
-
-  got-four : Got 2 w old j v rows → Got 2 w old (j + 1) (placeFour w j v) (rowsFour w j rows)
+  pub got-four : Got 2 w old j v rows → Got 2 w old (j + 1) (placeFour w j v) (rowsFour w j rows)
+  unfolding seenThree seenSix
   got-four g =
       let first : 24 + 6 * j ≡ 3 * (2 * (4 + j) + 0) = omega arith in
-      let second : 27 + 6 * j ≡ 3 * (2 * (4 + j) + 1) = omega arith in
+      let second : 24 + 6 * j + 3 ≡ 3 * (2 * (4 + j) + 1) = omega arith in
       let low = pair-at w j 2 0 (24 + 6 * j) first in
-      let high = pair-at w j 2 1 (27 + 6 * j) second in
+      let high = pair-at w j 2 1 (24 + 6 * j + 3) second in
       let x = plainPair w (24 + 6 * j) in
-      let mid : 24 + 6 * j + 3 ≡ 27 + 6 * j = omega arith in
-      let end : 27 + 6 * j + 3 ≡ 12 * 2 + 3 * 2 * (j + 1) = omega arith in
+      let end : 24 + 6 * j + 3 + 3 ≡ 12 * 2 + 3 * 2 * (j + 1) = omega arith in
       record {
-        clean = rw end at (three-turn w (rw mid at (three-turn w (g .clean))));
+        clean = rw end at (three-turn w (three-turn w (g .clean)));
         low-rows = set (set (g .low-rows) j (x .a)) (1920 + j) (x .b);
         low = turn (g .low) h (omega arith) (omega arith) (ap (λ (y : TwoWords). y .a) low) (ap (λ (y : TwoWords). y .b) low) refl refl;
         two = λ e. absurd (omega arith);
@@ -70,9 +69,79 @@ module _ (w : List ℕ) {old : List ℕ} {j : ℕ} {v : Passed} {rows : List ℕ
             (ap (λ (y : TwoWords). y .b) high) refl refl;
       }
 
-  pub then-four : {r : Passed} {after : List ℕ} {k : ℕ} → Got 2 w old j v rows → r ≡ placeFour w j v → after ≡ rowsFour w j rows → k ≡ j + 1
-      → Got 2 w old k r after
-  then-four g e q i = rw (e, q, i) (got-four g)
+-- ---- four words more
+
+module _ (w : List ℕ) {old : List ℕ} {j : ℕ} {v : Passed} {rows : List ℕ} (h : j + 4 ≤ 1920) where
+  pub four-of-two : Got 1 w old j v rows
+      → Got 1 w old (j + 4) (placeTwo w (j + 3) (placeTwo w (j + 2) (placeTwo w (j + 1) (placeTwo w j v))))
+      (rowsTwo w (j + 3) (rowsTwo w (j + 2) (rowsTwo w (j + 1) (rowsTwo w j rows))))
+  four-of-two g =
+      let two : j + 1 + 1 ≡ j + 2 = omega arith in
+      let three : j + 2 + 1 ≡ j + 3 = omega arith in
+      let four : j + 3 + 1 ≡ j + 4 = omega arith in
+      rw four at
+      (got-two w (omega arith)
+      (rw three at (got-two w (omega arith) (rw two at (got-two w (omega arith) (got-two w (omega arith) g))))))
+
+  pub four-of-four : Got 2 w old j v rows
+      → Got 2 w old (j + 4) (placeFour w (j + 3) (placeFour w (j + 2) (placeFour w (j + 1) (placeFour w j v))))
+      (rowsFour w (j + 3) (rowsFour w (j + 2) (rowsFour w (j + 1) (rowsFour w j rows))))
+  four-of-four g =
+      let two : j + 1 + 1 ≡ j + 2 = omega arith in
+      let three : j + 2 + 1 ≡ j + 3 = omega arith in
+      let four : j + 3 + 1 ≡ j + 4 = omega arith in
+      rw four at
+      (got-four w (omega arith)
+      (rw three at (got-four w (omega arith) (rw two at (got-four w (omega arith) (got-four w (omega arith) g))))))
+
+-- what is answered behind four words, and the rows with them, by what was seen of each
+module _ (w : List ℕ) (j : ℕ) (v : Passed) where
+  pub after-two : {a b c d : Three} {m n : ℕ} → a ≡ seenThree w (12 + 3 * j) (v .good) (v .turns)
+      → b ≡ seenThree w (12 + 3 * (j + 1)) (a .good) (a .turns) → c ≡ seenThree w (12 + 3 * (j + 2)) (b .good) (b .turns)
+      → d ≡ seenThree w (12 + 3 * (j + 3)) (c .good) (c .turns)
+      → m ≡ crcWord (crcWord (crcWord (crcWord (v .first) (a .words .a)) (b .words .a)) (c .words .a)) (d .words .a)
+      → n ≡ crcWord (crcWord (crcWord (crcWord (v .second) (a .words .b)) (b .words .b)) (c .words .b)) (d .words .b)
+      → record { good = d .good; turns = d .turns; first = m; second = n; third = v .third; fourth = v .fourth }
+      ≡ placeTwo w (j + 3) (placeTwo w (j + 2) (placeTwo w (j + 1) (placeTwo w j v)))
+  after-two ea eb ec ed em en = rw (em, en, ed, ec, eb, ea)
+
+  pub after-four : {a b c d : Six} {m n k l : ℕ} → a ≡ seenSix w (24 + 6 * j) (v .good) (v .turns)
+      → b ≡ seenSix w (24 + 6 * (j + 1)) (a .good) (a .turns) → c ≡ seenSix w (24 + 6 * (j + 2)) (b .good) (b .turns)
+      → d ≡ seenSix w (24 + 6 * (j + 3)) (c .good) (c .turns)
+      → m ≡ crcWord (crcWord (crcWord (crcWord (v .first) (a .low .a)) (b .low .a)) (c .low .a)) (d .low .a)
+      → n ≡ crcWord (crcWord (crcWord (crcWord (v .second) (a .low .b)) (b .low .b)) (c .low .b)) (d .low .b)
+      → k ≡ crcWord (crcWord (crcWord (crcWord (v .third) (a .high .a)) (b .high .a)) (c .high .a)) (d .high .a)
+      → l ≡ crcWord (crcWord (crcWord (crcWord (v .fourth) (a .high .b)) (b .high .b)) (c .high .b)) (d .high .b)
+      → record { good = d .good; turns = d .turns; first = m; second = n; third = k; fourth = l }
+      ≡ placeFour w (j + 3) (placeFour w (j + 2) (placeFour w (j + 1) (placeFour w j v)))
+  after-four ea eb ec ed em en ek el = rw (em, en, ek, el, ed, ec, eb, ea)
+
+-- the words of what was seen
+pub words-seen : {x : Three} (w : List ℕ) (o good turns : ℕ) → x ≡ seenThree w o good turns → x .words ≡ plainPair w o
+unfolding seenThree
+words-seen w o good turns e = ap (λ (y : Three). y .words) e
+
+pub low-seen : {x : Six} (w : List ℕ) (o good turns : ℕ) → x ≡ seenSix w o good turns → x .low ≡ plainPair w o
+unfolding seenThree seenSix
+low-seen w o good turns e = ap (λ (y : Six). y .low) e
+
+pub high-seen : {x : Six} (w : List ℕ) (o good turns : ℕ) → x ≡ seenSix w o good turns → x .high ≡ plainPair w (o + 3)
+unfolding seenThree seenSix
+high-seen w o good turns e = ap (λ (y : Six). y .high) e
+
+module _ (w : List ℕ) (j : ℕ) (r0 : List ℕ) {r1 r2 r3 r4 : List ℕ} where
+  pub put-two : {a b c d : TwoWords} → a ≡ plainPair w (12 + 3 * j) → b ≡ plainPair w (12 + 3 * (j + 1)) → c ≡ plainPair w (12 + 3 * (j + 2))
+      → d ≡ plainPair w (12 + 3 * (j + 3)) → r1 ≡ putPair a j r0 → r2 ≡ putPair b (j + 1) r1 → r3 ≡ putPair c (j + 2) r2
+      → r4 ≡ putPair d (j + 3) r3 → r4 ≡ rowsTwo w (j + 3) (rowsTwo w (j + 2) (rowsTwo w (j + 1) (rowsTwo w j r0)))
+  put-two ea eb ec ed q1 q2 q3 q4 = rw (q4, q3, q2, q1, ea, eb, ec, ed)
+
+  pub put-four : {a b c d k l m n : TwoWords} → a ≡ plainPair w (24 + 6 * j) → b ≡ plainPair w (24 + 6 * (j + 1))
+      → c ≡ plainPair w (24 + 6 * (j + 2)) → d ≡ plainPair w (24 + 6 * (j + 3)) → k ≡ plainPair w (24 + 6 * j + 3)
+      → l ≡ plainPair w (24 + 6 * (j + 1) + 3) → m ≡ plainPair w (24 + 6 * (j + 2) + 3) → n ≡ plainPair w (24 + 6 * (j + 3) + 3)
+      → r1 ≡ putPair k (3840 + j) (putPair a j r0) → r2 ≡ putPair l (3840 + (j + 1)) (putPair b (j + 1) r1)
+      → r3 ≡ putPair m (3840 + (j + 2)) (putPair c (j + 2) r2) → r4 ≡ putPair n (3840 + (j + 3)) (putPair d (j + 3) r3)
+      → r4 ≡ rowsFour w (j + 3) (rowsFour w (j + 2) (rowsFour w (j + 1) (rowsFour w j r0)))
+  put-four ea eb ec ed ek el em en q1 q2 q3 q4 = rw (q4, q3, q2, q1, ea, eb, ec, ed, ek, el, em, en)
 
 -- at the beginning nothing is
 pub got-begin : (half turns : ℕ) (w old : List ℕ) → Clean w (12 * half) (12 * half) 65535 turns

@@ -163,6 +163,7 @@ module _ (w : List ℕ) where
       → y ≡ seen (symbolAt w (o + 1)) (x .good) (x .turns) → z ≡ seen (symbolAt w (o + 2)) (y .good) (y .turns)
       → u ≡ wordsOf (record { first = x .entry % 256; second = y .entry % 256; third = z .entry % 256 })
       → record { good = z .good; turns = z .turns; words = u } ≡ seenThree w o good turns
+  unfolding seenThree
   three-is {x} {y} {z} {u} o good turns ex ey ez eu =
       let words : u ≡ plainPair w o =
       eu
@@ -173,6 +174,7 @@ module _ (w : List ℕ) where
       rw (words, ez, ey, ex)
 
   pub three-turn : {from i good turns : ℕ} → Clean w from i good turns → Clean w from (i + 3) (seenThree w i good turns .good) (seenThree w i good turns .turns)
+  unfolding seenThree
   three-turn {from} {i} g =
       let two : i + 1 + 1 ≡ i + 2 = omega arith in
       let three : i + 2 + 1 ≡ i + 3 = omega arith in

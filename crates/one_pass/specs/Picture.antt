@@ -9,11 +9,15 @@ use Rattle.packing.specs.declared.bytes.TwoWords.{TwoWords}
 use Rattle.rows.specs.Given.{plainPair}
 use Rattle.rows.proofs.Taking.{Taken}
 use Rattle.one_pass.specs.declared.picture.Passed.{Passed}
-use Rattle.one_pass.specs.See.{seenThree, Clean}
+use Rattle.one_pass.specs.See.{seenThree, seenSix, Clean}
 
 -- word i of the picture, of streams 2u and 2u + 1 of so many pairs
 abbrev pub pairIn : ℕ → List ℕ → ℕ → ℕ → TwoWords
 pairIn half w u i = plainPair w (3 * (half * (4 + i) + u))
+
+-- two words put into the rows of two streams
+abbrev pub putPair : TwoWords → ℕ → List ℕ → List ℕ
+putPair x at rows = set (set rows at (x .a)) (1920 + at) (x .b)
 
 -- behind word j of two streams, and the rows with it
 abbrev pub placeTwo : List ℕ → ℕ → Passed → Passed
@@ -29,27 +33,23 @@ placeTwo w j v =
     }
 
 abbrev pub rowsTwo : List ℕ → ℕ → List ℕ → List ℕ
-rowsTwo w j rows = let x = plainPair w (12 + 3 * j) in set (set rows j (x .a)) (1920 + j) (x .b)
+rowsTwo w j rows = putPair (plainPair w (12 + 3 * j)) j rows
 
 -- behind word j of four
 abbrev pub placeFour : List ℕ → ℕ → Passed → Passed
 placeFour w j v =
-    let x = seenThree w (24 + 6 * j) (v .good) (v .turns) in
-    let y = seenThree w (27 + 6 * j) (x .good) (x .turns) in
+    let x = seenSix w (24 + 6 * j) (v .good) (v .turns) in
     record {
-      good = y .good;
-      turns = y .turns;
-      first = crcWord (v .first) (x .words .a);
-      second = crcWord (v .second) (x .words .b);
-      third = crcWord (v .third) (y .words .a);
-      fourth = crcWord (v .fourth) (y .words .b);
+      good = x .good;
+      turns = x .turns;
+      first = crcWord (v .first) (x .low .a);
+      second = crcWord (v .second) (x .low .b);
+      third = crcWord (v .third) (x .high .a);
+      fourth = crcWord (v .fourth) (x .high .b);
     }
 
 abbrev pub rowsFour : List ℕ → ℕ → List ℕ → List ℕ
-rowsFour w j rows =
-    let x = plainPair w (24 + 6 * j) in
-    let y = plainPair w (27 + 6 * j) in
-    set (set (set (set rows j (x .a)) (1920 + j) (x .b)) (3840 + j) (y .a)) (5760 + j) (y .b)
+rowsFour w j rows = putPair (plainPair w (24 + 6 * j + 3)) (3840 + j) (putPair (plainPair w (24 + 6 * j)) j rows)
 
 -- the first j words of all streams have been taken: those of two into a buffer, and those of the other two, where there are four, into the
 -- buffer with these

@@ -12,6 +12,7 @@ use Rattle.rows.specs.Given.{plainPair}
 use Rattle.scan.specs.Run.{Going}
 use Rattle.window.specs.Scan.{symbolAt}
 use Rattle.one_pass.specs.declared.see.Seen.{Seen}
+use Rattle.one_pass.specs.declared.see.Six.{Six}
 use Rattle.one_pass.specs.declared.see.Three.{Three}
 
 -- each symbol has ten bits
@@ -24,12 +25,20 @@ seen s good turns =
     record { entry = entryOf s; good = bitAnd good (bitOr (entryOf s) (turns / 4)); turns = bitXor turns (entryOf s) }
 
 -- three symbols from o on, and their words
-abbrev pub seenThree : List ℕ → ℕ → ℕ → ℕ → Three
+unfoldable pub seenThree : List ℕ → ℕ → ℕ → ℕ → Three
 seenThree w o good turns =
     let x = seen (symbolAt w o) good turns in
     let y = seen (symbolAt w (o + 1)) (x .good) (x .turns) in
     let z = seen (symbolAt w (o + 2)) (y .good) (y .turns) in
     record { good = z .good; turns = z .turns; words = plainPair w o }
+
+-- six symbols from o on, and the words of four streams
+unfoldable pub seenSix : List ℕ → ℕ → ℕ → ℕ → Six
+unfolding seenThree
+seenSix w o good turns =
+    let x = seenThree w o good turns in
+    let y = seenThree w (o + 3) (x .good) (x .turns) in
+    record { good = y .good; turns = y .turns; low = x .words; high = y .words }
 
 -- bits 9, 10 and 13 are set
 abbrev pub passesBy : ℕ → Bool

@@ -1,12 +1,15 @@
 // The picture words of a window, into rows stream by stream, while the CRC of each stream runs over them and their symbols are seen.
+use crate::see::Six;
+use packing::bytes::TwoWords;
 ghost use mathlib.Core.Path.{_≡_};
 ghost use mathlib.Core.Bool.{true};
 ghost use Prim.Native.Nat.{ℕ, _+_, _-_, _*_, _%_, _≤_, _<_};
 ghost use mathlib.Core.List.{List};
 ghost use lib.ListN.{length};
+ghost use Rattle.crcc.specs.Crcc.{crcWord};
 ghost use Rattle.decoder.specs.Decoder.{decodingTable};
 ghost use Rattle.one_pass.specs.See.{TenBits, Clean, passesBy};
-ghost use Rattle.one_pass.specs.Picture.{Got, placeTwo, rowsTwo, placeFour, rowsFour};
+ghost use Rattle.one_pass.specs.Picture.{Got, putPair};
 
 // Words of each stream in a piece. None is looked at behind one with a fault: what is no window is soon known to be none.
 const PIECE: usize = 120;
@@ -21,61 +24,28 @@ pub(crate) struct Passed {
     pub(crate) fourth: u32,
 }
 
-// Word j of two streams.
-fn place_two(t: &[u16; 1024], symbols: &[u16], j: usize, v: Passed, rows: &mut [u16]) -> Passed
-    requires { ⌜ now t ≡ decodingTable ⌝ }
-    requires { ⌜ TenBits (now symbols) ⌝ }
-    requires { ⌜ j < 1920 ⌝ }
-    requires { ⌜ 5772 ≤ length (now symbols) ⌝ }
-    requires { ⌜ length (now rows) ≡ 3840 ⌝ }
-    ensures size { λ _. ⌜ length (now (rows .exit)) ≡ 3840 ⌝ }
-    ensures passed { λ r. ⌜ r ≡ placeTwo (now (symbols .entry)) j v ⌝ }
-    ensures rows { λ _. ⌜ now (rows .exit) ≡ rowsTwo (now (symbols .entry)) j (now (rows .entry)) ⌝ }
+// Two words into the rows of two streams.
+fn put_pair(w: TwoWords, at: usize, rows: &mut [u16])
+    requires { ⌜ 1920 + at < length (now rows) ⌝ }
+    ensures size { λ _. ⌜ length (now (rows .exit)) ≡ length (now (rows .entry)) ⌝ }
+    ensures rows { λ _. ⌜ now (rows .exit) ≡ putPair w at (now (rows .entry)) ⌝ }
 {
-    let x = crate::see::see_three(t, symbols, 12 + 3 * j, v.good, v.turns);
-    let w = x.words;
-    rows[j] = w.a;
-    rows[1920 + j] = w.b;
-    Passed {
-        good: x.good,
-        turns: x.turns,
-        first: crcc::crcc::crc_word(v.first, w.a),
-        second: crcc::crcc::crc_word(v.second, w.b),
-        third: v.third,
-        fourth: v.fourth,
-    }
+    rows[at] = w.a;
+    rows[1920 + at] = w.b;
 }
 
-// Word j of four streams.
-fn place_four(t: &[u16; 1024], symbols: &[u16], j: usize, v: Passed, rows: &mut [u16]) -> Passed
-    requires { ⌜ now t ≡ decodingTable ⌝ }
-    requires { ⌜ TenBits (now symbols) ⌝ }
-    requires { ⌜ j < 1920 ⌝ }
-    requires { ⌜ 11544 ≤ length (now symbols) ⌝ }
-    requires { ⌜ length (now rows) ≡ 7680 ⌝ }
-    ensures size { λ _. ⌜ length (now (rows .exit)) ≡ 7680 ⌝ }
-    ensures passed { λ r. ⌜ r ≡ placeFour (now (symbols .entry)) j v ⌝ }
-    ensures rows { λ _. ⌜ now (rows .exit) ≡ rowsFour (now (symbols .entry)) j (now (rows .entry)) ⌝ }
+// The CRC of a stream after four words more.
+fn crc_four(c: u32, w0: u16, w1: u16, w2: u16, w3: u16) -> u32
+    ensures { λ r. ⌜ r ≡ crcWord (crcWord (crcWord (crcWord c w0) w1) w2) w3 ⌝ }
 {
-    let x = crate::see::see_three(t, symbols, 24 + 6 * j, v.good, v.turns);
-    let y = crate::see::see_three(t, symbols, 27 + 6 * j, x.good, x.turns);
-    let low = x.words;
-    let high = y.words;
-    rows[j] = low.a;
-    rows[1920 + j] = low.b;
-    rows[3840 + j] = high.a;
-    rows[5760 + j] = high.b;
-    Passed {
-        good: y.good,
-        turns: y.turns,
-        first: crcc::crcc::crc_word(v.first, low.a),
-        second: crcc::crcc::crc_word(v.second, low.b),
-        third: crcc::crcc::crc_word(v.third, high.a),
-        fourth: crcc::crcc::crc_word(v.fourth, high.b),
-    }
+    let c1 = crcc::crcc::crc_word(c, w0);
+    let c2 = crcc::crcc::crc_word(c1, w1);
+    let c3 = crcc::crcc::crc_word(c2, w2);
+    crcc::crcc::crc_word(c3, w3)
 }
 
-// Four words of each of two streams from j on: one turn takes less time than four of one word.
+// Four words of each of two streams from j on. All of their symbols are seen before anything is put: the compiler does not know that rows and
+// symbols lie apart, and would look at each symbol only behind the stores before it.
 fn turn_two(t: &[u16; 1024], symbols: &[u16], j: usize, v: Passed, rows: &mut [u16]) -> Passed
     requires { ⌜ now t ≡ decodingTable ⌝ }
     requires { ⌜ TenBits (now symbols) ⌝ }
@@ -85,10 +55,26 @@ fn turn_two(t: &[u16; 1024], symbols: &[u16], j: usize, v: Passed, rows: &mut [u
     ensures size { λ _. ⌜ length (now (rows .exit)) ≡ 3840 ⌝ }
     ensures got { λ r. ⌜ ((old : List ℕ) → Got 1 (now (symbols .entry)) old j v (now (rows .entry)) → Got 1 (now (symbols .entry)) old (j + 4) r (now (rows .exit))) ⌝ }
 {
-    let a = place_two(t, symbols, j, v, rows);
-    let b = place_two(t, symbols, j + 1, a, rows);
-    let c = place_two(t, symbols, j + 2, b, rows);
-    place_two(t, symbols, j + 3, c, rows)
+    let a = crate::see::see_three(t, symbols, 12 + 3 * j, v.good, v.turns);
+    let b = crate::see::see_three(t, symbols, 12 + 3 * (j + 1), a.good, a.turns);
+    let c = crate::see::see_three(t, symbols, 12 + 3 * (j + 2), b.good, b.turns);
+    let d = crate::see::see_three(t, symbols, 12 + 3 * (j + 3), c.good, c.turns);
+    let wa = a.words;
+    let wb = b.words;
+    let wc = c.words;
+    let wd = d.words;
+    put_pair(wa, j, rows);
+    put_pair(wb, j + 1, rows);
+    put_pair(wc, j + 2, rows);
+    put_pair(wd, j + 3, rows);
+    Passed {
+        good: d.good,
+        turns: d.turns,
+        first: crc_four(v.first, wa.a, wb.a, wc.a, wd.a),
+        second: crc_four(v.second, wa.b, wb.b, wc.b, wd.b),
+        third: v.third,
+        fourth: v.fourth,
+    }
 }
 
 // Words from one to another of two streams, four in a turn.
@@ -119,7 +105,20 @@ fn take_two(
     p
 }
 
-// Four words of each of four streams from j on: one turn takes less time than four of one word.
+// Word j of four streams: put behind those of two, in the same order.
+fn put_six(x: Six, j: usize, rows: &mut [u16])
+    requires { ⌜ j < 1920 ⌝ }
+    requires { ⌜ length (now rows) ≡ 7680 ⌝ }
+    ensures size { λ _. ⌜ length (now (rows .exit)) ≡ 7680 ⌝ }
+    ensures rows { λ _. ⌜ now (rows .exit) ≡ putPair (x .high) (3840 + j) (putPair (x .low) j (now (rows .entry))) ⌝ }
+{
+    let low = x.low;
+    let high = x.high;
+    put_pair(low, j, rows);
+    put_pair(high, 3840 + j, rows);
+}
+
+// Four words of each of four streams from j on, all of their symbols first.
 fn turn_four(t: &[u16; 1024], symbols: &[u16], j: usize, v: Passed, rows: &mut [u16]) -> Passed
     requires { ⌜ now t ≡ decodingTable ⌝ }
     requires { ⌜ TenBits (now symbols) ⌝ }
@@ -129,10 +128,22 @@ fn turn_four(t: &[u16; 1024], symbols: &[u16], j: usize, v: Passed, rows: &mut [
     ensures size { λ _. ⌜ length (now (rows .exit)) ≡ 7680 ⌝ }
     ensures got { λ r. ⌜ ((old : List ℕ) → Got 2 (now (symbols .entry)) old j v (now (rows .entry)) → Got 2 (now (symbols .entry)) old (j + 4) r (now (rows .exit))) ⌝ }
 {
-    let a = place_four(t, symbols, j, v, rows);
-    let b = place_four(t, symbols, j + 1, a, rows);
-    let c = place_four(t, symbols, j + 2, b, rows);
-    place_four(t, symbols, j + 3, c, rows)
+    let a = crate::see::see_six(t, symbols, 24 + 6 * j, v.good, v.turns);
+    let b = crate::see::see_six(t, symbols, 24 + 6 * (j + 1), a.good, a.turns);
+    let c = crate::see::see_six(t, symbols, 24 + 6 * (j + 2), b.good, b.turns);
+    let d = crate::see::see_six(t, symbols, 24 + 6 * (j + 3), c.good, c.turns);
+    put_six(a, j, rows);
+    put_six(b, j + 1, rows);
+    put_six(c, j + 2, rows);
+    put_six(d, j + 3, rows);
+    Passed {
+        good: d.good,
+        turns: d.turns,
+        first: crc_four(v.first, a.low.a, b.low.a, c.low.a, d.low.a),
+        second: crc_four(v.second, a.low.b, b.low.b, c.low.b, d.low.b),
+        third: crc_four(v.third, a.high.a, b.high.a, c.high.a, d.high.a),
+        fourth: crc_four(v.fourth, a.high.b, b.high.b, c.high.b, d.high.b),
+    }
 }
 
 // Words from one to another of four streams, four in a turn.

@@ -5,7 +5,7 @@ ghost use mathlib.Core.Path.{_≡_};
 ghost use Prim.Native.Nat.{ℕ, _+_, _≤_, _<_};
 ghost use lib.ListN.{length};
 ghost use Rattle.decoder.specs.Decoder.{decodingTable};
-ghost use Rattle.one_pass.specs.See.{TenBits, Clean, seen, seenThree, passesBy};
+ghost use Rattle.one_pass.specs.See.{TenBits, Clean, seen, seenThree, seenSix, passesBy};
 
 // The entry of a symbol, and what is gathered behind it. Bits 9, 10 and 13 of `good` stay set where each symbol was legal and a byte. Bits 11
 // and 12 of `turns` are those of the disparity that is not the running one, at which a symbol need not be legal.
@@ -26,6 +26,14 @@ pub(crate) struct Three {
     pub(crate) good: u32,
     pub(crate) turns: u32,
     pub(crate) words: TwoWords,
+}
+
+// The words of six symbols, and what is gathered behind them.
+pub(crate) struct Six {
+    pub(crate) good: u32,
+    pub(crate) turns: u32,
+    pub(crate) low: TwoWords,
+    pub(crate) high: TwoWords,
 }
 
 // One symbol. What its entry says of the other disparity's bit does not count.
@@ -61,6 +69,31 @@ pub(crate) fn see_three(t: &[u16; 1024], symbols: &[u16], o: usize, good: u32, t
         good: z.good,
         turns: z.turns,
         words,
+    }
+}
+
+// Six symbols: one word of each of four streams.
+pub(crate) fn see_six(
+    t: &[u16; 1024],
+    symbols: &[u16],
+    o: usize,
+    good: u32,
+    turns: u32,
+) -> Six
+    requires { ⌜ now t ≡ decodingTable ⌝ }
+    requires { ⌜ TenBits (now symbols) ⌝ }
+    requires { ⌜ o + 6 ≤ length (now symbols) ⌝ }
+    ensures { λ r. ⌜ r ≡ seenSix (now (symbols .entry)) o good turns ⌝ }
+{
+    let x = see_three(t, symbols, o, good, turns);
+    let y = see_three(t, symbols, o + 3, x.good, x.turns);
+    let low = x.words;
+    let high = y.words;
+    Six {
+        good: y.good,
+        turns: y.turns,
+        low,
+        high,
     }
 }
 

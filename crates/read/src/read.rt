@@ -7,9 +7,10 @@ use span::format::Format;
 use window::sums::Sums;
 ghost use mathlib.Core.Path.{_≡_};
 ghost use mathlib.Core.Bool.{true};
-ghost use Prim.Native.Nat.{ℕ};
+ghost use Prim.Native.Nat.{ℕ, _≤_};
 ghost use mathlib.Core.List.{List};
-ghost use lib.ListN.{length};
+ghost use lib.ListN.{length, replicate};
+ghost use Rattle.ground.specs.Answer.{refused};
 ghost use Rattle.judge.specs.Call.{serviceOf};
 ghost use Rattle.judge.specs.Verdict.{firstRow};
 ghost use Rattle.rows.specs.Fill.{fillRight};
@@ -21,6 +22,17 @@ ghost use Rattle.window.specs.Words.{wordAt};
 ghost use Rattle.read.specs.Call.{paperRead};
 ghost use Rattle.read.specs.Window.{IsWindow};
 
+// A refused span: its rows are all zero.
+fn refuse(number: u8, place: usize, rows: &mut [u16]) -> Read
+    requires { ⌜ 20 ≤ number ⌝ }
+    requires { ⌜ number ≤ 26 ⌝ }
+    ensures answer { λ r. ⌜ paperRead r ≡ refused number place ⌝ }
+    ensures rows { λ _. ⌜ now (rows .exit) ≡ replicate (length (now (rows .entry))) 0 ⌝ }
+{
+    ground::fill::fill(rows, 0);
+    crate::answer::refusal(number, place)
+}
+
 // Tests 21 to 26 of a window, whose picture is in rows.
 fn judge_words(f: Format, symbols: &[u16], service: Service, filled: bool, rows: &[u16]) -> Verdict
     requires { ⌜ IsWindow f (now symbols) ⌝ }
@@ -29,9 +41,9 @@ fn judge_words(f: Format, symbols: &[u16], service: Service, filled: bool, rows:
     requires { ⌜ now rows ≡ pictureOf f (now symbols) ⌝ }
     ensures { λ r. ⌜ r ≡ firstRow (wordTests f (wordAt (shapeOf f) (now (symbols .entry)))) ⌝ }
 {
-    let verdict = service.verdict;
-    if verdict.number != 0 {
-        return verdict;
+    let first = service.verdict;
+    if first.number != 0 {
+        return first;
     }
     crate::picture::judge_picture(f, symbols, service.line, filled, rows)
 }
@@ -57,8 +69,7 @@ fn read_words(
     let service = judge::call::service_of(f, symbols, c);
     let verdict = judge_words(f, symbols, service, filled, rows);
     if verdict.number != 0 {
-        ground::fill::fill(rows, 0);
-        return crate::answer::refusal(verdict.number, verdict.place);
+        return refuse(verdict.number, verdict.place, rows);
     }
     Read::Delivered(crate::delivery::delivery(scanned, service))
 }
@@ -72,8 +83,7 @@ fn read_by_steps(f: Format, symbols: &[u16], rows: &mut [u16]) -> Read
 {
     let scanned = scan::scan::scan(f, symbols);
     if scanned.place < symbols.len() {
-        ground::fill::fill(rows, 0);
-        return Read::WrongSymbol(scanned.place);
+        return refuse(20, scanned.place, rows);
     }
     let c = rows::picture::take_picture(f, symbols, rows);
     read_words(f, symbols, scanned, c, false, rows)

@@ -1,76 +1,144 @@
--- `one_pass::picture::turn_four` meets its contract.
+-- `one_pass::picture::turn_four` meets its contract: what is seen, put and summed is what four words more give.
 -- Assumes nothing.
-use mathlib.Core.Path.{refl}
-use Prim.Native.Nat.{_+_, _<_}
+use mathlib.Core.Path.{_∙_}
 use native.Mathlib.Omega.{arith}
 use borrow.Author.Needs.{needs}
-use Rattle.one_pass.proofs.Getting.{then-four}
+use Rattle.one_pass.proofs.Getting.{after-four, put-four, low-seen, high-seen, four-of-four}
 use Rattle.one_pass.proofs.picture.turn_four.Statement.{statement}
 use Rattle.one_pass.proofs.picture.turn_four.Tie as tie
 use Rattle.one_pass.proofs.picture.turn_four.Reads as reads
 use Rattle.one_pass.proofs.picture.turn_four.Lts as lts
-use Rattle.one_pass.proofs.picture.place_four.Reads as place-four-reads
+use Rattle.one_pass.proofs.picture.crc_four.Reads as crc-four-reads
+use Rattle.one_pass.proofs.picture.put_six.Reads as put-six-reads
+use Rattle.one_pass.proofs.see.see_six.Reads as see-six-reads
 
-place-four-requires : tie.Need-place-four-requires
-place-four-requires c κs =
-    let s = c .before .before .before in
-    (s .pre .0, (s .pre .1 .0, (omega (arith, s .pre .1 .1 .0), (s .pre .1 .1 .1 .0, s .pre .1 .1 .1 .1))))
+mul-see-six : tie.Need-mul-see-six
+mul-see-six c = search needs
 
-add-place-four : tie.Need-add-place-four
-add-place-four c = search needs
+add-see-six : tie.Need-add-see-six
+add-see-six c = search needs
 
-place-four-requires-2 : tie.Need-place-four-requires-2
-place-four-requires-2 c κs =
-    let s = c .before .before .before .before .before .before .before in
-    (s .pre .0, (s .pre .1 .0, (omega (arith, s .pre .1 .1 .0), (s .pre .1 .1 .1 .0, c .before .before .before .place-four .ensures .0))))
+see-six-requires : tie.Need-see-six-requires
+see-six-requires c κs = search needs
 
-add-place-four-2 : tie.Need-add-place-four-2
-add-place-four-2 c = search needs
+add-see-six-2 : tie.Need-add-see-six-2
+add-see-six-2 c = search needs
 
-place-four-requires-3 : tie.Need-place-four-requires-3
-place-four-requires-3 c κs =
-    let s = c .before .before .before .before .before .before .before .before .before .before .before in
-    (s .pre .0, (s .pre .1 .0, (omega (arith, s .pre .1 .1 .0), (s .pre .1 .1 .1 .0, c .before .before .before .place-four2 .ensures .0))))
+mul-see-six-2 : tie.Need-mul-see-six-2
+mul-see-six-2 c = search needs
 
-add-place-four-3 : tie.Need-add-place-four-3
-add-place-four-3 c = omega (arith, c .before .before .before .before .before .before .before .before .before .before .before .before .before .before .pre .1 .1 .0)
+add-see-six-3 : tie.Need-add-see-six-3
+add-see-six-3 c = search needs
 
-place-four-requires-4 : tie.Need-place-four-requires-4
-place-four-requires-4 c κs =
-    let s = c .before .before .before .before .before .before .before .before .before .before .before .before .before .before .before in
-    (s .pre .0, (s .pre .1 .0, (omega (arith, s .pre .1 .1 .0), (s .pre .1 .1 .1 .0, c .before .before .before .place-four3 .ensures .0))))
+see-six-requires-2 : tie.Need-see-six-requires-2
+see-six-requires-2 c κs = let s = c .before .before .before in (s .pre .0, (s .pre .1 .0, omega (arith, s .pre .1 .1 .0, s .pre .1 .1 .1 .0)))
+
+add-see-six-4 : tie.Need-add-see-six-4
+add-see-six-4 c = search needs
+
+mul-see-six-3 : tie.Need-mul-see-six-3
+mul-see-six-3 c = search needs
+
+add-see-six-5 : tie.Need-add-see-six-5
+add-see-six-5 c = search needs
+
+see-six-requires-3 : tie.Need-see-six-requires-3
+see-six-requires-3 c κs = let s = c .before .before .before .before in (s .pre .0, (s .pre .1 .0, omega (arith, s .pre .1 .1 .0, s .pre .1 .1 .1 .0)))
+
+add-see-six-6 : tie.Need-add-see-six-6
+add-see-six-6 c = search needs
+
+mul-see-six-4 : tie.Need-mul-see-six-4
+mul-see-six-4 c = search needs
+
+add-see-six-7 : tie.Need-add-see-six-7
+add-see-six-7 c = search needs
+
+see-six-requires-4 : tie.Need-see-six-requires-4
+see-six-requires-4 c κs = let s = c .before .before .before .before .before in (s .pre .0, (s .pre .1 .0, omega (arith, s .pre .1 .1 .0, s .pre .1 .1 .1 .0)))
+
+put-six-requires : tie.Need-put-six-requires
+put-six-requires c κs = let s = c .before .before .before .before .before .before .before in (omega (arith, s .pre .1 .1 .0), s .pre .1 .1 .1 .1)
+
+add-put-six : tie.Need-add-put-six
+add-put-six c = omega (arith, c .before .before .before .before .before .before .before .before .before .before .pre .1 .1 .0)
+
+put-six-requires-2 : tie.Need-put-six-requires-2
+put-six-requires-2 c κs = let s = c .before .before .before .before .before .before .before .before .before .before .before in (omega (arith, s .pre .1 .1 .0), c .before .before .before .put-six .ensures .0)
+
+add-put-six-2 : tie.Need-add-put-six-2
+add-put-six-2 c = omega (arith, c .before .before .before .before .before .before .before .before .before .before .before .before .before .before .pre .1 .1 .0)
+
+put-six-requires-3 : tie.Need-put-six-requires-3
+put-six-requires-3 c κs = let s = c .before .before .before .before .before .before .before .before .before .before .before .before .before .before .before in (omega (arith, s .pre .1 .1 .0), c .before .before .before .put-six2 .ensures .0)
+
+add-put-six-3 : tie.Need-add-put-six-3
+add-put-six-3 c = omega (arith, c .before .before .before .before .before .before .before .before .before .before .before .before .before .before .before .before .before .before .pre .1 .1 .0)
+
+put-six-requires-4 : tie.Need-put-six-requires-4
+put-six-requires-4 c κs = let s = c .before .before .before .before .before .before .before .before .before .before .before .before .before .before .before .before .before .before .before in (omega (arith, s .pre .1 .1 .0), c .before .before .before .put-six3 .ensures .0)
+
+crc-four-requires : tie.Need-crc-four-requires
+crc-four-requires c κs = search needs
+
+crc-four-requires-2 : tie.Need-crc-four-requires-2
+crc-four-requires-2 c κs = search needs
+
+crc-four-requires-3 : tie.Need-crc-four-requires-3
+crc-four-requires-3 c κs = search needs
+
+crc-four-requires-4 : tie.Need-crc-four-requires-4
+crc-four-requires-4 c κs = search needs
 
 same-length : tie.Need-same-length
 same-length c = search needs
 
 returns : tie.Need-returns
-returns c =
-    let s = c .before .before .before .before .before .before .before .before .before .before .before .before .before .before .before .before .before .before in
+returns c = 
+    let s = c .before .before .before .before .before .before .before .before .before .before .before .before .before .before .before .before .before .before .before .before .before .before .before .before .before .before in
     let w = s .args .symbols .now in
     let j = s .args .j in
-    let a = c .before .before .before .before .before .before .before .before .before .before .before .before .before .before .place-four .ensures .1 in
-    let b = c .before .before .before .before .before .before .before .before .before .before .place-four2 .ensures .1 in
-    let d = c .before .before .before .before .before .before .place-four3 .ensures .1 in
-    let e = c .before .before .place-four4 .ensures .1 in
-    let h0 : j < 1920 = omega (arith, s .pre .1 .1 .0) in
-    let h1 : j + 1 < 1920 = omega (arith, s .pre .1 .1 .0) in
-    let h2 : j + 2 < 1920 = omega (arith, s .pre .1 .1 .0) in
-    let h3 : j + 3 < 1920 = omega (arith, s .pre .1 .1 .0) in (
-      c .before .before .place-four4 .ensures .0,
-      λ old g.
-          then-four w h3 (then-four w h2 (then-four w h1 (then-four w h0 g (a .0) (a .1) refl) (b .0) (b .1) (omega arith)) (d .0) (d .1) (omega arith)) (e .0) (e .1) (omega arith),
-    )
+    let v = s .args .v in
+    let a = c .before .before .before .before .before .before .before .before .before .before .before .before .before .before .before .before .before .before .before .before .before .before .before .see-six .ensures in
+    let b = c .before .before .before .before .before .before .before .before .before .before .before .before .before .before .before .before .before .before .before .before .before .before .see-six2 .ensures in
+    let c3 = c .before .before .before .before .before .before .before .before .before .before .before .before .before .before .before .before .before .before .before .before .before .see-six3 .ensures in
+    let d = c .before .before .before .before .before .before .before .before .before .before .before .before .before .before .before .before .before .before .before .before .see-six4 .ensures in
+    let r = after-four w j v a b c3 d (c .before .before .before .crc-four .ensures) (c .before .before .crc-four2 .ensures) (c .before .crc-four3 .ensures) (c .crc-four4 .ensures) in
+    let q =
+    put-four w j (s .args .rows .now) (low-seen w _ _ _ a) (low-seen w _ _ _ b) (low-seen w _ _ _ c3) (low-seen w _ _ _ d) (high-seen w _ _ _ a)
+    (high-seen w _ _ _ b) (high-seen w _ _ _ c3) (high-seen w _ _ _ d) (c .before .before .before .before .before .before .before .before .before .before .before .before .before .before .before .before .before .before .put-six .ensures .1) (c .before .before .before .before .before .before .before .before .before .before .before .before .before .before .put-six2 .ensures .1) (c .before .before .before .before .before .before .before .before .before .before .put-six3 .ensures .1)
+    (c .before .before .before .before .before .before .put-six4 .ensures .1) in
+    (c .before .before .before .before .before .before .put-six4 .ensures .0, λ old g. rw (r, q) (four-of-four w (s .pre .1 .1 .0) g))
 
 pub turn-four-spec : {M : Type 1} → statement M
 turn-four-spec =
     tie.close
     (tie.spec
-    place-four-requires
-    add-place-four
-    place-four-requires-2
-    add-place-four-2
-    place-four-requires-3
-    add-place-four-3
-    place-four-requires-4
+    mul-see-six
+    add-see-six
+    see-six-requires
+    add-see-six-2
+    mul-see-six-2
+    add-see-six-3
+    see-six-requires-2
+    add-see-six-4
+    mul-see-six-3
+    add-see-six-5
+    see-six-requires-3
+    add-see-six-6
+    mul-see-six-4
+    add-see-six-7
+    see-six-requires-4
+    put-six-requires
+    add-put-six
+    put-six-requires-2
+    add-put-six-2
+    put-six-requires-3
+    add-put-six-3
+    put-six-requires-4
+    crc-four-requires
+    crc-four-requires-2
+    crc-four-requires-3
+    crc-four-requires-4
     same-length
     returns)
