@@ -16,37 +16,37 @@ use Rattle.read.proofs.read.read_by_steps.Statement.{statement}
 use Rattle.read.proofs.read.read_by_steps.Tie as tie
 use Rattle.read.proofs.read.read_by_steps.Reads as reads
 use Rattle.read.proofs.read.read_by_steps.Lts as lts
-use Rattle.ground.proofs.fill.fill.Reads as fill-reads
 use Rattle.read.proofs.read.read_words.Reads as read-words-reads
+use Rattle.read.proofs.read.refuse.Reads as refuse-reads
 use Rattle.rows.proofs.picture.take_picture.Reads as take-picture-reads
 use Rattle.scan.proofs.scan.scan.Reads as scan-reads
 
 scan-requires : tie.Need-scan-requires
 scan-requires c κs = search needs
 
-fill-requires : tie.Need-fill-requires
-fill-requires c κs = search needs
+refuse-requires : tie.Need-refuse-requires
+refuse-requires c κs = search needs
 
 same-length : tie.Need-same-length
 same-length c = search needs
 
 returns : tie.Need-returns
-returns c =
+returns c = 
     let s = c .before .before .before .before .before .before .before .before .before in
     let a = s .args in
     let w = a .symbols .now in
     let at = ap (λ (x : Scanned). x .place) (c .before .before .before .before .before .before .scan .ensures) in
     let h : place20 (shapeOf (a .f)) w < length w = omega (arith, at, c .before .before .before .before .if1 .taken) in
     let e = read-20 (a .f) w (s .pre .0) h in (
-      ap (λ (k : ℕ). refused 20 k) at ∙ sym e,
-      λ room q. rows-zero (a .f) w room (pictureOf (a .f) w) e _ (omega arith) (sym q) (c .before .before .fill .ensures),
+      c .before .before .refuse .ensures .0 ∙ ap (λ (k : ℕ). refused 20 k) at ∙ sym e,
+      λ room q. rows-zero (a .f) w room (pictureOf (a .f) w) e _ (omega arith) (sym q) (c .before .before .refuse .ensures .1),
     )
 
 take-picture-requires : tie.Need-take-picture-requires
 take-picture-requires c κs = search needs
 
 read-words-requires : tie.Need-read-words-requires
-read-words-requires c κs =
+read-words-requires c κs = 
     let s = c .before .before .before .before .before .before .before .before .before .before in
     let a = s .args in
     let w = a .symbols .now in
@@ -59,7 +59,7 @@ same-length-2 : tie.Need-same-length-2
 same-length-2 c = search needs
 
 returns-2 : tie.Need-returns-2
-returns-2 c =
+returns-2 c = 
     let s = c .before .before .before .before .before .before .before .before .before .before .before .before .before in
     let a = s .args in
     let w = a .symbols .now in
@@ -72,7 +72,7 @@ read-by-steps-spec =
     tie.close
     (tie.spec
     scan-requires
-    fill-requires
+    refuse-requires
     same-length
     returns
     take-picture-requires

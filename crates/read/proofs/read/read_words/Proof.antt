@@ -16,50 +16,46 @@ use Rattle.read.proofs.read.read_words.Statement.{statement}
 use Rattle.read.proofs.read.read_words.Tie as tie
 use Rattle.read.proofs.read.read_words.Reads as reads
 use Rattle.read.proofs.read.read_words.Lts as lts
-use Rattle.ground.proofs.fill.fill.Reads as fill-reads
 use Rattle.judge.proofs.call.service_of.Reads as service-of-reads
-use Rattle.read.proofs.answer.refusal.Reads as refusal-reads
 use Rattle.read.proofs.delivery.delivery.Reads as delivery-reads
 use Rattle.read.proofs.read.judge_words.Reads as judge-words-reads
+use Rattle.read.proofs.read.refuse.Reads as refuse-reads
 
 service-of-requires : tie.Need-service-of-requires
 service-of-requires c κs = search needs
 
 judge-words-requires : tie.Need-judge-words-requires
-judge-words-requires c κs =
+judge-words-requires c κs = 
     let s = c .before .before .before .before in
     let a = s .args in
     (s .pre .0, (service-is (a .f) (a .symbols .now) (s .pre .0) (s .pre .1 .1 .1 .0) (c .before .service-of .ensures), (s .pre .1 .1 .1 .1 .0, s .pre .1 .1 .1 .1 .1)))
 
-fill-requires : tie.Need-fill-requires
-fill-requires c κs = search needs
-
-refusal-requires : tie.Need-refusal-requires
-refusal-requires c κs =
-    let a = c .before .before .before .before .before .before .before .before .before .before .before .args in
-    let judged = c .before .before .before .before .before .before .judge-words .ensures in
+refuse-requires : tie.Need-refuse-requires
+refuse-requires c κs = 
+    let a = c .before .before .before .before .before .before .before .before .args in
+    let judged = c .before .before .before .judge-words .ensures in
     let bounds =
     in-range 21 26 (wordTests (a .f) (wordAt (shapeOf (a .f)) (a .symbols .now))) refl
-    (λ z. c .before .before .before .before .if1 .taken (ap (λ (v : Verdict). v .number) judged ∙ z)) in
+    (λ z. c .before .if1 .taken (ap (λ (v : Verdict). v .number) judged ∙ z)) in
     rw (ap (λ (v : Verdict). v .number) judged) (omega (arith, bounds .0), bounds .1)
 
 same-length : tie.Need-same-length
 same-length c = search needs
 
 returns : tie.Need-returns
-returns c =
-    let s = c .before .before .before .before .before .before .before .before .before .before .before .before in
+returns c = 
+    let s = c .before .before .before .before .before .before .before .before .before .before .before in
     let a = s .args in
     let is = s .pre .0 in
     let all = held-20 (a .f) (a .symbols .now) is _ (s .pre .1 .0) (s .pre .1 .1 .0) in
-    let judged = c .before .before .before .before .before .before .before .judge-words .ensures in
-    let met = c .before .before .before .before .before .if1 .taken in
+    let judged = c .before .before .before .before .before .before .judge-words .ensures in
+    let met = c .before .before .before .before .if1 .taken in
     let number = ap (λ (v : Verdict). v .number) judged in
     let bounds = in-range 21 26 (wordTests (a .f) (wordAt (shapeOf (a .f)) (a .symbols .now))) refl (λ z. met (number ∙ z)) in
     let refusal = read-refused (a .f) (a .symbols .now) is all judged met in
-    let late : 20 ≤ c .before .before .before .before .before .before .before .judge-words .result .number = rw number (omega (arith, bounds .0)) in (
-      c .refusal .ensures ∙ sym refusal,
-      λ room e. rows-zero (a .f) (a .symbols .now) room (pictureOf (a .f) (a .symbols .now)) refusal _ late (sym e) (c .before .before .before .fill .ensures),
+    let late : 20 ≤ c .before .before .before .before .before .before .judge-words .result .number = rw number (omega (arith, bounds .0)) in (
+      c .before .before .refuse .ensures .0 ∙ sym refusal,
+      λ room e. rows-zero (a .f) (a .symbols .now) room (pictureOf (a .f) (a .symbols .now)) refusal _ late (sym e) (c .before .before .refuse .ensures .1),
     )
 
 delivery-requires : tie.Need-delivery-requires
@@ -69,7 +65,7 @@ same-length-2 : tie.Need-same-length-2
 same-length-2 c = search needs
 
 returns-2 : tie.Need-returns-2
-returns-2 c =
+returns-2 c = 
     let s = c .before .before .before .before .before .before .before .before in
     let a = s .args in
     let is = s .pre .0 in
@@ -80,8 +76,8 @@ returns-2 c =
     let values = delivery-is (a .f) (a .symbols .now) is _ (s .pre .1 .0) (s .pre .1 .1 .0) _ _ service in (
       ap given (c .delivery .ensures ∙ values) ∙ sym read,
       λ room _.
-          s .pre .1 .1 .1 .1 .1
-          ∙ ap (λ (r : Answer Delivery). rowsLeft r room (pictureOf (a .f) (a .symbols .now))) (sym read),
+      s .pre .1 .1 .1 .1 .1
+      ∙ ap (λ (r : Answer Delivery). rowsLeft r room (pictureOf (a .f) (a .symbols .now))) (sym read),
     )
 
 pub read-words-spec : {M : Type 1} → statement M
@@ -90,8 +86,7 @@ read-words-spec =
     (tie.spec
     service-of-requires
     judge-words-requires
-    fill-requires
-    refusal-requires
+    refuse-requires
     same-length
     returns
     delivery-requires
