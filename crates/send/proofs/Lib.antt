@@ -1,5 +1,6 @@
 pub mod Checking
 pub mod GoodCalls
+pub mod Joining
 pub mod OneToOne
 pub mod Passing
 pub mod Putting

@@ -1,7 +1,7 @@
 -- What the sender's loops put into the symbol buffer, with the running disparity kept as its offset in the encoder's tables. Only private
 -- functions speak of this; that all of it together is the span's characters is the law `whole-is`.
 -- Assumes nothing.
-use Prim.Native.Nat.{ℕ, _+_, _*_, _<_}
+use Prim.Native.Nat.{ℕ, zero, suc, _+_, _*_, _<_}
 use mathlib.Core.Path.{_≡_}
 use mathlib.Core.Bool.{true, false, cond}
 use mathlib.Core.List.{List, [], _∷_, _++_}
@@ -33,7 +33,7 @@ use Rattle.send.specs.declared.coder.Coded.{Coded}
 use Rattle.send.specs.declared.coder.Three.{Three}
 use Rattle.send.specs.declared.put.Four.{Four}
 use Rattle.send.specs.declared.picture.Passed.{Passed}
-use Rattle.send.specs.declared.picture.Two.{Two}
+use Rattle.send.specs.declared.picture.Sums.{Sums}
 
 -- a character
 abbrev pub coded : Disparity → ℕ → Coded
@@ -89,6 +89,10 @@ wordsOf factor xs = table (length xs) (λ i. getD xs i 0 * factor)
 abbrev pub wordAt : List ℕ → ℕ → ℕ → ℕ
 wordAt ws t j = getD ws (1920 * t + j) 0
 
+-- the characters of a word of each of two streams, of the first the one at place i
+abbrev pub pairAt : List ℕ → ℕ → List ℕ
+pairAt ws i = pairChars (getD ws i 0) (getD ws (i + 1920) 0)
+
 -- the characters of the first n words of all streams
 unfoldable pub pictureChars : ℕ → ℕ → (ℕ → ℕ → ℕ) → List ℕ
 pictureChars half n w = upto n (λ j. groupChars half (λ t. w t j))
@@ -108,9 +112,30 @@ passedAt half d w n =
       fourth = sumOf half n w 3;
     }
 
--- behind one word more of each of two streams, a and b, from an offset and the CRCs of both
-abbrev pub stepped : ℕ → ℕ → ℕ → ℕ → ℕ → Two
-stepped a b d c e = record { offset = behind d (pairChars a b); first = crcWord c a; second = crcWord e b }
+-- the CRC of the first j words of each of four runs of n words
+abbrev pub sumsAt : ℕ → List ℕ → ℕ → Sums
+sumsAt n ws j =
+    record {
+      first = crc 0 (table j (λ i. getD ws (n * 0 + i) 0));
+      second = crc 0 (table j (λ i. getD ws (n * 1 + i) 0));
+      third = crc 0 (table j (λ i. getD ws (n * 2 + i) 0));
+      fourth = crc 0 (table j (λ i. getD ws (n * 3 + i) 0));
+    }
+
+-- the same with word j of each
+abbrev pub summed : ℕ → List ℕ → ℕ → Sums → Sums
+summed n ws j s =
+    record {
+      first = crcWord (s .first) (getD ws j 0);
+      second = crcWord (s .second) (getD ws (n + j) 0);
+      third = crcWord (s .third) (getD ws (2 * n + j) 0);
+      fourth = crcWord (s .fourth) (getD ws (3 * n + j) 0);
+    }
+
+-- a register after n words of zeros
+unfoldable pub ahead : ℕ → ℕ → ℕ
+ahead zero c = c
+ahead (suc n) c = ahead n (crcWord c 0)
 
 -- what the CRC runs over behind the picture: the EAV and the line number
 abbrev pub tailWords : ℕ → LineWords → List ℕ

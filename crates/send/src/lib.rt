@@ -1,4 +1,5 @@
 // Sending a span.
+mod ahead;
 mod check;
 mod coder;
 mod parts;

@@ -2,9 +2,9 @@
 // loop each, so that none asks in every turn how many there are.
 ghost use mathlib.Core.Path.{_≡_};
 ghost use Prim.Native.Nat.{_+_, _*_, _≤_, _<_};
-ghost use lib.ListN.{length, getD};
+ghost use lib.ListN.{length};
 ghost use Rattle.encoder.specs.Tables.{offsetOf, ofOffset, symbolTable, turnTable};
-ghost use Rattle.send.specs.Put.{put, pairChars, wordAt, pictureChars, passedAt, stepped, AreWords};
+ghost use Rattle.send.specs.Put.{behind, put, pairAt, wordAt, pictureChars, passedAt, summed, AreWords};
 
 // Behind so many words of each stream: the offset of the running disparity, and the CRC of each stream.
 pub(crate) struct Passed {
@@ -15,46 +15,55 @@ pub(crate) struct Passed {
     pub(crate) fourth: u32,
 }
 
-// The same of two streams alone.
-struct Two {
-    offset: usize,
+// The CRC of each of four runs of words. With four streams a run is a stream; with two it is half a stream, so that four CRCs run side by
+// side in either loop.
+struct Sums {
     first: u32,
     second: u32,
+    third: u32,
+    fourth: u32,
 }
 
-// A word of each of two streams, of the first the one at a place, where their CRCs are c and e.
-fn put_words(
+// A word of each of two streams, of the first the one at a place.
+fn put_at(
     symbols: &[u16; 536],
     turns: &[u16; 268],
     words: &[u16],
     place: usize,
     d: usize,
-    c: u32,
-    e: u32,
     out: &mut [u16],
     at: usize,
-) -> Two
+) -> usize
     requires { ⌜ now symbols ≡ symbolTable ⌝ }
     requires { ⌜ now turns ≡ turnTable ⌝ }
     requires { ⌜ AreWords (now words) ⌝ }
     requires { ⌜ place + 1920 < length (now words) ⌝ }
     requires { ⌜ d ≡ offsetOf (ofOffset d) ⌝ }
     requires { ⌜ at + 3 ≤ length (now out) ⌝ }
-    ensures passed { λ r. ⌜ r ≡ stepped (getD (now (words .entry)) place 0) (getD (now (words .entry)) (place + 1920) 0) d c e ⌝ }
-    ensures out { λ _. ⌜ now (out .exit) ≡ put d (pairChars (getD (now (words .entry)) place 0) (getD (now (words .entry)) (place + 1920) 0)) at (now (out .entry)) ⌝ }
+    ensures offset { λ r. ⌜ r ≡ behind d (pairAt (now (words .entry)) place) ⌝ }
+    ensures out { λ _. ⌜ now (out .exit) ≡ put d (pairAt (now (words .entry)) place) at (now (out .entry)) ⌝ }
 {
     let a = words[place];
     let b = words[place + 1920];
     let both = a as u32 + b as u32 * 4096;
-    let offset = crate::put::put_both(symbols, turns, d, both, out, at);
-    Two {
-        offset,
-        first: crcc::crcc::crc_word(c, a),
-        second: crcc::crcc::crc_word(e, b),
+    crate::put::put_both(symbols, turns, d, both, out, at)
+}
+
+// Word j of each of four runs of n words.
+fn sum_words(words: &[u16], n: usize, j: usize, s: Sums) -> Sums
+    requires { ⌜ length (now words) ≡ 4 * n ⌝ }
+    requires { ⌜ j < n ⌝ }
+    ensures { λ r. ⌜ r ≡ summed n (now (words .entry)) j s ⌝ }
+{
+    Sums {
+        first: crcc::crcc::crc_word(s.first, words[j]),
+        second: crcc::crcc::crc_word(s.second, words[n + j]),
+        third: crcc::crcc::crc_word(s.third, words[2 * n + j]),
+        fourth: crcc::crcc::crc_word(s.fourth, words[3 * n + j]),
     }
 }
 
-// All 1920 words of each of two streams, four of each in a turn.
+// All 1920 words of each of two streams, four of each in a turn: two of each half.
 fn put_two_streams(
     symbols: &[u16; 536],
     turns: &[u16; 268],
@@ -72,70 +81,30 @@ fn put_two_streams(
     ensures passed { λ r. ⌜ r ≡ passedAt 1 d (wordAt (now (words .entry))) 1920 ⌝ }
     ensures out { λ _. ⌜ now (out .exit) ≡ put d (pictureChars 1 1920 (wordAt (now (words .entry)))) at (now (out .entry)) ⌝ }
 {
-    let mut p = Passed {
-        offset: d,
+    let mut s = Sums {
         first: 0,
         second: 0,
         third: 0,
         fourth: 0,
     };
+    let mut offset = d;
     let mut j = 0;
-    while j < 1920 {
-        let o = at + 3 * j;
-        let a = put_words(
-            symbols,
-            turns,
-            words,
-            j,
-            p.offset,
-            p.first,
-            p.second,
-            out,
-            o,
-        );
-        let b = put_words(
-            symbols,
-            turns,
-            words,
-            j + 1,
-            a.offset,
-            a.first,
-            a.second,
-            out,
-            o + 3,
-        );
-        let c = put_words(
-            symbols,
-            turns,
-            words,
-            j + 2,
-            b.offset,
-            b.first,
-            b.second,
-            out,
-            o + 6,
-        );
-        let e = put_words(
-            symbols,
-            turns,
-            words,
-            j + 3,
-            c.offset,
-            c.first,
-            c.second,
-            out,
-            o + 9,
-        );
-        p = Passed {
-            offset: e.offset,
-            first: e.first,
-            second: e.second,
-            third: 0,
-            fourth: 0,
-        };
-        j += 4;
+    while j < 960 {
+        let o = at + 6 * j;
+        let a = put_at(symbols, turns, words, 2 * j, offset, out, o);
+        let b = put_at(symbols, turns, words, 2 * j + 1, a, out, o + 3);
+        let c = put_at(symbols, turns, words, 2 * j + 2, b, out, o + 6);
+        offset = put_at(symbols, turns, words, 2 * j + 3, c, out, o + 9);
+        s = sum_words(words, 960, j + 1, sum_words(words, 960, j, s));
+        j += 2;
     }
-    p
+    Passed {
+        offset,
+        first: crate::ahead::joined(s.first, s.second),
+        second: crate::ahead::joined(s.third, s.fourth),
+        third: 0,
+        fourth: 0,
+    }
 }
 
 // All 1920 words of each of four streams, two of each in a turn.
@@ -156,70 +125,30 @@ fn put_four_streams(
     ensures passed { λ r. ⌜ r ≡ passedAt 2 d (wordAt (now (words .entry))) 1920 ⌝ }
     ensures out { λ _. ⌜ now (out .exit) ≡ put d (pictureChars 2 1920 (wordAt (now (words .entry)))) at (now (out .entry)) ⌝ }
 {
-    let mut p = Passed {
-        offset: d,
+    let mut s = Sums {
         first: 0,
         second: 0,
         third: 0,
         fourth: 0,
     };
+    let mut offset = d;
     let mut i = 0;
     while i < 1920 {
         let o = at + 6 * i;
-        let a = put_words(
-            symbols,
-            turns,
-            words,
-            i,
-            p.offset,
-            p.first,
-            p.second,
-            out,
-            o,
-        );
-        let c = put_words(
-            symbols,
-            turns,
-            words,
-            3840 + i,
-            a.offset,
-            p.third,
-            p.fourth,
-            out,
-            o + 3,
-        );
-        let b = put_words(
-            symbols,
-            turns,
-            words,
-            i + 1,
-            c.offset,
-            a.first,
-            a.second,
-            out,
-            o + 6,
-        );
-        let e = put_words(
-            symbols,
-            turns,
-            words,
-            3841 + i,
-            b.offset,
-            c.first,
-            c.second,
-            out,
-            o + 9,
-        );
-        p = Passed {
-            offset: e.offset,
-            first: b.first,
-            second: b.second,
-            third: e.first,
-            fourth: e.second,
-        };
+        let a = put_at(symbols, turns, words, i, offset, out, o);
+        let b = put_at(symbols, turns, words, 3840 + i, a, out, o + 3);
+        let c = put_at(symbols, turns, words, i + 1, b, out, o + 6);
+        offset = put_at(symbols, turns, words, 3841 + i, c, out, o + 9);
+        s = sum_words(words, 1920, i + 1, sum_words(words, 1920, i, s));
         i += 2;
     }
-    p
+    Passed {
+        offset,
+        first: s.first,
+        second: s.second,
+        third: s.third,
+        fourth: s.fourth,
+    }
 }
 
 // All 1920 words of each stream.

@@ -92,7 +92,7 @@ returns c =
     let p3 = renamed (ap (λ (q : Passed). behindChars half q (lineAfter (a .l .0)) (a .content)) (sym passed)) (made (c .before .before .before .before .before .before .put-behind .ensures)) in
     let p4 = run-made (half * a .p .ancillary + a .p .fill) (is-offset p3) (blank-stays _) (c .before .before .put-run .ensures) in
     let l1 = length-timing half 261 (a .content .sav1) (a .content .sav2) (timing (vOf (a .l .0)) false) (s .pre .1 .1 .0) (s .pre .1 .1 .1 .0 .half) in
-    let l2 = length-picture half 0 w 1920 in
+    let l2 = length-picture half w 1920 in
     let l3 = length-behind half (s .pre .1 .1 .0) (s .pre .1 .1 .1 .0 .half) (passedAt half (behind (a .d) sav) w 1920) (lineAfter (a .l .0)) (a .content) in
     let r = then p1 (omega (arith, l1)) (then p2 (omega (arith, l2)) (then p3 (omega (arith, l3)) p4)) in
     (r .offset, r .out)

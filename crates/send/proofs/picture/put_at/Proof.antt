@@ -1,15 +1,14 @@
--- `send::picture::put_words` meets its contract: the pair, and a step of the CRC of each stream.
+-- `send::picture::put_at` meets its contract: the two words as one number.
 -- Assumes nothing.
 use mathlib.Core.Path.{_≡_, sym, ap₂}
 use Prim.Native.Nat.{ℕ, _+_, _*_, _/_, _%_, _<_}
 use native.Mathlib.Omega.{arith}
 use lib.ListN.{getD}
-use Rattle.send.specs.declared.picture.Two.{Two}
 use Rattle.send.specs.Put.{pairChars}
 use Rattle.send.proofs.Putting.{made, renamed}
 use borrow.Author.Needs.{needs}
-use Rattle.send.proofs.picture.put_words.Statement.{statement}
-use Rattle.send.proofs.picture.put_words.Tie as tie
+use Rattle.send.proofs.picture.put_at.Statement.{statement}
+use Rattle.send.proofs.picture.put_at.Tie as tie
 
 -- two words as one number, the second above the first
 low-word : (x y : ℕ) → x < 4096 → (x + y * 4096) % 4096 ≡ x
@@ -17,10 +16,6 @@ low-word x y h = omega arith
 
 high-word : (x y : ℕ) → x < 4096 → (x + y * 4096) / 4096 ≡ y
 high-word x y h = omega arith
-
-same-two : {o o' a a' b b' : ℕ} → o ≡ o' → a ≡ a' → b ≡ b'
-    → _≡_ {A = Two} (record { offset = o; first = a; second = b }) (record { offset = o'; first = a'; second = b' })
-same-two p q r = rw (p, q, r)
 
 mul-a : tie.Need-mul-a
 mul-a c = search needs
@@ -77,29 +72,23 @@ put-both-requires c κs =
     let y = s .pre .1 .1 .0 .below (s .args .place + 1920) l in
     (s .pre .0, (s .pre .1 .0, (s .pre .1 .1 .1 .1 .0, (omega (arith, x, y), omega (arith, s .pre .1 .1 .1 .1 .1)))))
 
-crc-word-requires : tie.Need-crc-word-requires
-crc-word-requires c κs = search needs
-
-crc-word-requires-2 : tie.Need-crc-word-requires-2
-crc-word-requires-2 c κs = search needs
-
 same-length : tie.Need-same-length
 same-length c = search needs
 
 returns : tie.Need-returns
 returns c =
-    let s = c .before .before .before .before .before .before .before .before .before .before in
+    let s = c .before .before .before .before .before .before .before .before in
     let l = s .pre .1 .1 .1 .0 in
     let x = s .pre .1 .1 .0 .below (s .args .place) (omega (arith, l)) in
     let y = s .pre .1 .1 .0 .below (s .args .place + 1920) l in
     let a = s .args in
     let low = low-word (getD (a .words .now) (a .place) 0) (getD (a .words .now) (a .place + 1920) 0) x in
     let high = high-word (getD (a .words .now) (a .place) 0) (getD (a .words .now) (a .place + 1920) 0) x in
-    let p = renamed (ap₂ (λ (v w : ℕ). pairChars v w) (sym low) (sym high)) (made (c .before .before .before .before .put-both .ensures)) in
-    (same-two (p .offset) (c .before .crc-word .ensures) (c .crc-word2 .ensures), p .out)
+    let p = renamed (ap₂ (λ (v w : ℕ). pairChars v w) (sym low) (sym high)) (made (c .before .before .put-both .ensures)) in
+    (p .offset, p .out)
 
-pub put-words-spec : {M : Type 1} → statement M
-put-words-spec =
+pub put-at-spec : {M : Type 1} → statement M
+put-at-spec =
     tie.close
     (tie.spec
     mul-a
@@ -112,7 +101,5 @@ put-words-spec =
     mul-both
     add-both
     put-both-requires
-    crc-word-requires
-    crc-word-requires-2
     same-length
     returns)
