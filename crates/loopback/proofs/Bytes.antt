@@ -1,6 +1,6 @@
 -- Words as bytes, put one after the other, and those of a piece line by line.
 -- Assumes nothing.
-use mathlib.Core.Path.{_≡_, refl, sym, ap, _∙_}
+use mathlib.Core.Path.{_≡_, refl, sym, ap, ap₂, _∙_}
 use mathlib.Core.Bool.{Bool, true, false, cond}
 use mathlib.Core.List.{List, [], _∷_, _++_, append-nil}
 use Prim.Native.Nat.{ℕ, suc, _+_, _-_, _*_, _/_, _%_, _≤_, _<_}
@@ -28,16 +28,16 @@ module _ (words out : List ℕ) (at i : ℕ) where
   abbrev left : List ℕ
   left = sets out (at + 2 * i) (bytesOf (drop i words))
 
-  pub word-put : i < length words → (w : ℕ) → w ≡ getD words i 0
-      → sets (set (set out (at + 2 * i) (w / 256)) (at + 2 * i + 1) (w % 256)) (at + 2 * (i + 1)) (bytesOf (drop (i + 1) words)) ≡ left
+  pub word-put : i < length words → (high low : ℕ) → high ≡ getD words i 0 / 256 → low ≡ getD words i 0 % 256
+      → sets (set (set out (at + 2 * i) high) (at + 2 * i + 1) low) (at + 2 * (i + 1)) (bytesOf (drop (i + 1) words)) ≡ left
   unfolding bytesOf
-  word-put h w is =
+  word-put h high low e f =
       let p = at + 2 * i in
       let q : at + 2 * (i + 1) ≡ suc (suc p) = omega arith in
       let next : p + 1 ≡ suc p = add-one p in
-      ap (λ (k : ℕ). sets (set (set out p (w / 256)) (p + 1) (w % 256)) k (bytesOf (drop (i + 1) words))) q
-      ∙ ap (λ (k : ℕ). sets (set (set out p (w / 256)) k (w % 256)) (suc (suc p)) (bytesOf (drop (i + 1) words))) next
-      ∙ ap (λ (x : ℕ). sets out p (bytesOf (x ∷ drop (i + 1) words))) is
+      ap (λ (k : ℕ). sets (set (set out p high) (p + 1) low) k (bytesOf (drop (i + 1) words))) q
+      ∙ ap (λ (k : ℕ). sets (set (set out p high) k low) (suc (suc p)) (bytesOf (drop (i + 1) words))) next
+      ∙ ap₂ (λ (x y : ℕ). sets out p (x ∷ y ∷ bytesOf (drop (i + 1) words))) e f
       ∙ ap (λ (l : List ℕ). sets out p (bytesOf l)) (sym (next-left words i 0 h))
 
   pub words-put : length words ≤ i → out ≡ left

@@ -2,13 +2,13 @@
 -- Assumes nothing.
 use mathlib.Core.Path.{_≡_, refl, sym, ap, _∙_}
 use mathlib.Core.List.{List}
-use Prim.Native.Nat.{ℕ, _+_, _-_, _*_, _≤_, _<_}
+use Prim.Native.Nat.{ℕ, _+_, _-_, _*_, _<_}
 use native.Mathlib.Omega.{arith}
 use lib.ListN.{length, take, drop, length-drop}
 use lib.Seq.{sets, length-take-le}
 use borrow.Rule.Slice.PartMut.{putMid}
 use Rattle.ground.specs.Answer.{unlessRefused}
-use Rattle.ground.specs.Written.{upto, table}
+use Rattle.ground.specs.Written.{upto}
 use Rattle.ground.proofs.Answers.{when-given}
 use Rattle.ground.proofs.Writing.{sets-whole, sets-upto, length-upto, length-table}
 use Rattle.symbol.specs.declared.disparity.Disparity.{Disparity}

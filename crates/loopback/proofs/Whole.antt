@@ -6,7 +6,7 @@ use mathlib.Core.List.{List, [], _∷_, _++_, append-nil}
 use Prim.Native.Nat.{ℕ, zero, suc, _+_, _-_, _*_, _/_, _%_, _≤_, _<_}
 use native.Mathlib.Nat.{mul-le-mul-left}
 use native.Mathlib.Omega.{arith}
-use lib.ListN.{length, getD, take, drop, replicate, length-drop, replicate-append-replicate}
+use lib.ListN.{length, take, drop, replicate, length-drop, replicate-append-replicate}
 use lib.Seq.{length-take-le, getD-take, getD-drop, ext-getD}
 use Rattle.ground.specs.Written.{upto, table}
 use Rattle.ground.proofs.Ranges.{is-within, not-within}
@@ -17,7 +17,7 @@ use Rattle.test_picture.specs.TestPicture.{testRow}
 use Rattle.rig.specs.declared.knock.Knock.{Knock}
 use Rattle.rig.specs.Frame.{lineIn}
 use Rattle.rig.specs.Knock.{lost}
-use Rattle.rig.specs.Piece.{black, sentRows, rowsAt, pictureIn, heardIn}
+use Rattle.rig.specs.Piece.{black, rowsAt, pictureIn, heardIn}
 use Rattle.rig.proofs.Outcomes.{length-rows}
 use Rattle.loopback.specs.File.{bytesOf, header, rowsOf, pieceBytes, fileOf, rowOn}
 use Rattle.loopback.specs.Frame.{heardOf}

@@ -10,6 +10,7 @@ use lib.Seq.{sets, length-take-le}
 use borrow.Rule.Slice.PartMut.{putMid}
 use Rattle.ground.specs.Range.{within}
 use Rattle.ground.proofs.Answers.{when-given}
+use Rattle.ground.proofs.Ranges.{is-within, not-within, from-low, to-high, outside}
 use Rattle.ground.proofs.Writing.{sets-append}
 use Rattle.line.specs.Stream.{isActive}
 use Rattle.dividing.specs.Row.{joined, joinRow}
@@ -17,10 +18,11 @@ use Rattle.dividing.proofs.Lengths.{joins}
 use Rattle.dividing.proofs.Rows.{length-joined}
 use Rattle.recording.specs.Recording.{Reading}
 use Rattle.demands.specs.Form.{streamIn}
-use Rattle.reception.specs.Receiving.{lineRead, rowOf, bothRows, brings, flag, putOne}
+use Rattle.reception.specs.Receiving.{lineRead, rowOf, bothRows, brings, flag, isOf, putOne}
 use Rattle.reception.proofs.Parts.{part-put}
 
 pub length-row : (t : ℕ) (words : List ℕ) → length (rowOf t words) ≡ 3840
+unfolding rowOf
 length-row t words = length-joined (streamIn words t) (streamIn words (t + 1)) 1920
 
 -- two streams of a span, joined into a part of the picture
@@ -37,6 +39,7 @@ module _ (words : List ℕ) (long : length words ≡ 7680) (t : ℕ) (few : t �
   pub row-put : {out : List ℕ}
       → out ≡ joinRow (part (1920 * t) (1920 * t + 1920) words) (part (1920 * t + 1920) (1920 * t + 1920 + 1920) words) (part at (at + 3840) picture)
       → putMid at (at + 3840 - at) picture out ≡ sets picture at (rowOf t words)
+  unfolding rowOf
   row-put {out} e =
       let (size-a, is-a) = part-is (1920 * t) (1920 * t + 1920) refl (omega arith) in
       let (size-b, is-b) = part-is (1920 * t + 1920) (1920 * t + 1920 + 1920) refl (omega arith) in
@@ -63,23 +66,31 @@ rows-put words picture at between e f =
 -- whether the span is of one of the five lines: n is the number of its line, and m that of the first
 module _ (first m n : ℕ) (x : Reading) (from : m ≡ first) (is : n ≡ lineRead x) where
   pub of-another : within m (m + 4) n ≡ false → (size : ℕ) (what : Reading → List ℕ) (buffer : List ℕ) → buffer ≡ putOne size what first buffer x
-  of-another t size what buffer = simp (rw (from, is) at t)
+  of-another t size what buffer =
+      let elsewhere : isOf first (lineRead x) ≡ false = not-within _ _ _ (λ p q. outside m (m + 4) n t (omega arith) (omega arith)) in
+      simp elsewhere
 
   module _ (t : within m (m + 4) n ≡ true) where
+    here : isOf first (lineRead x) ≡ true
+    here = is-within _ _ _ (omega (arith, from-low m (m + 4) n t)) (omega (arith, to-high m (m + 4) n t))
+
     pub heard-put : (heard : List ℕ) → set heard (n - m) 1 ≡ putOne 1 flag first heard x
     heard-put heard =
         let q : n - m ≡ 1 * (lineRead x - first) = omega arith in
-        ap (λ (k : ℕ). set heard k 1) q ∙ simp (rw (from, is) at t)
+        ap (λ (k : ℕ). set heard k 1) q ∙ simp here
 
     pub none-brought : isActive (lineRead x) ≡ false → (picture : List ℕ) → picture ≡ putOne 7680 brings first picture x
-    none-brought a picture = simp (rw (from, is) at t, a)
+    none-brought a picture = simp (here, a)
 
-    pub brought : isActive (lineRead x) ≡ true → (picture : List ℕ) {out : List ℕ} (between : List ℕ)
-        → between ≡ sets picture (7680 * (n - m)) (rowOf 0 (x .words))
-        → out ≡ sets between (7680 * (n - m) + 3840) (rowOf 2 (x .words))
+    -- the streams of the odd line are those from 0 on, and of the even one those from 2 on
+    pub brought : isActive (lineRead x) ≡ true → (picture : List ℕ) {out : List ℕ} (between : List ℕ) (odd even : ℕ)
+        → between ≡ sets picture (7680 * (n - m)) (rowOf odd (x .words))
+        → out ≡ sets between (7680 * (n - m) + 3840) (rowOf even (x .words))
+        → odd ≡ 0
+        → even ≡ 2
         → out ≡ putOne 7680 brings first picture x
-    brought a picture between e f =
-        let q : n - m ≡ lineRead x - first = omega arith in
-        rows-put (x .words) picture (7680 * (n - m)) between e f
-        ∙ ap (λ (k : ℕ). sets picture (7680 * k) (bothRows (x .words))) q
-        ∙ simp (rw (from, is) at t, a)
+    brought a picture between odd even e f p q =
+        let place : n - m ≡ lineRead x - first = omega arith in
+        rows-put (x .words) picture (7680 * (n - m)) between (rw p at e) (rw q at f)
+        ∙ ap (λ (k : ℕ). sets picture (7680 * k) (bothRows (x .words))) place
+        ∙ simp (here, a)

@@ -1,7 +1,7 @@
 -- What is delivered, put step by step: what is left, put into what is there, gives the whole.
 -- Assumes nothing.
 use mathlib.Core.Path.{_≡_, sym, ap, ap₂, _∙_}
-use mathlib.Core.List.{List, [], _∷_}
+use mathlib.Core.List.{List, []}
 use Prim.Native.Nat.{ℕ}
 use Rattle.span.specs.declared.format.Format.{Format}
 use Rattle.window.specs.declared.delivery.Delivery.{Delivery}

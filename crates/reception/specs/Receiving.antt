@@ -19,7 +19,7 @@ abbrev pub lineRead : Reading → ℕ
 lineRead x = x .values .line .0
 
 -- two streams joined: the row of the picture whose even samples the one has, and its odd ones the other (004, 5.3)
-abbrev pub rowOf : ℕ → List ℕ → List ℕ
+unfoldable pub rowOf : ℕ → List ℕ → List ℕ
 rowOf t words = joined 1920 (streamIn words t) (streamIn words (t + 1))
 
 -- the two lines of the picture that a span brings: images 1 and 2 make line 2l - 1, images 3 and 4 line 2l. A blanking line brings none.
@@ -33,11 +33,14 @@ brings x = cond (isActive (lineRead x)) (bothRows (x .words)) []
 abbrev pub flag : Reading → List ℕ
 flag x = 1 ∷ []
 
--- what a span brings is put at the place of its line among the five from line `first` on, each with room for so many words. A span of another
--- line brings nothing.
+-- one of the five lines from line `first` on
+abbrev pub isOf : ℕ → ℕ → Bool
+isOf first n = within first (first + 4) n
+
+-- what a span brings is put at the place of its line among the five, each with room for so many words. A span of another line brings nothing.
 abbrev pub putOne : ℕ → (Reading → List ℕ) → ℕ → List ℕ → Reading → List ℕ
 putOne size what first buffer x =
-    cond (within first (first + 4) (lineRead x)) (sets buffer (size * (lineRead x - first)) (what x)) buffer
+    cond (isOf first (lineRead x)) (sets buffer (size * (lineRead x - first)) (what x)) buffer
 
 -- and so with each span that is delivered
 unfoldable pub putAll : ℕ → (Reading → List ℕ) → ℕ → List ℕ → List (Found Reading) → List ℕ

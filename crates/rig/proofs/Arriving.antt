@@ -2,7 +2,7 @@
 -- at its first two symbols at most.
 -- Assumes nothing.
 use mathlib.Core.Path.{_≡_, refl, sym, ap, _∙_}
-use mathlib.Core.Bool.{Bool, true, false, cond, true≢false}
+use mathlib.Core.Bool.{Bool, true, false, cond}
 use mathlib.Core.List.{List}
 use mathlib.Core.Option.{Option, none, some}
 use Prim.Native.Nat.{ℕ, _+_, _-_, _*_, _≤_, _<_}
@@ -18,7 +18,7 @@ use Rattle.symbol.specs.Code.{symbolOf, charOf}
 use Rattle.span.specs.declared.format.Format.{Format}
 use Rattle.span.specs.Format.{shapeOf, symbolsIn}
 use Rattle.span.specs.Span.{spanSymbols, spanAfter}
-use Rattle.window.specs.Scan.{meant, runningAt}
+use Rattle.window.specs.Scan.{runningAt}
 use Rattle.window.proofs.Accepting.{accepted-told}
 use Rattle.window.proofs.Symbols.{legal-told}
 use Rattle.delivery.proofs.Finding.{told, untold}
@@ -97,7 +97,7 @@ module _ (k : Knock) (d : Disparity) (n : ℕ) (low : 1 ≤ n) (high : n ≤ 112
   pub arrives : lost k n ≡ false → reading link (arrived k d n) ≡ some (readingOf link (sending d n))
   unfolding lost
   arrives t =
-      let never = miss-from (struck k) 19008 (placeOf n) (untold _ t) .never in
+      let never = miss-from (struck k) _ _ (untold _ t) .never in
       let same : arrived k d n ≡ span =
       ext-getD 0 (arrived k d n) span (length-knocked k (placeOf n) span)
       (λ i h. struck-at i false (never (placeOf n + i) (omega arith) (omega (arith, length-knocked k (placeOf n) span, length-span d n)))) in
@@ -108,7 +108,7 @@ module _ (k : Knock) (d : Disparity) (n : ℕ) (low : 1 ≤ n) (high : n ≤ 112
   unfolding lost
   is-lost t =
       let (j, e) = told _ t in
-      let at = hit-from (struck k) 19008 (placeOf n) j e in
+      let at = hit-from (struck k) _ _ j e in
       let i = j - placeOf n in
       let here : placeOf n + i ≡ j = omega (arith, at .from) in
       let dark = struck-at i true (ap (struck k) here ∙ at .holds) in

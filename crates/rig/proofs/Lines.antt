@@ -2,13 +2,13 @@
 -- Assumes nothing.
 use mathlib.Core.Path.{_≡_, refl, sym, ap, ap₂, _∙_}
 use mathlib.Core.Bool.{true}
-use mathlib.Core.List.{List, [], _∷_, _++_}
+use mathlib.Core.List.{List, [], _++_}
 use Prim.Native.Nat.{ℕ, zero, suc, _+_, _-_, _*_, _≤_, _<_}
 use native.Mathlib.Omega.{arith}
 use lib.ListN.{length, length-append}
 use lib.Seq.{sets}
 use borrow.Author.Tests.{lt-ltb}
-use Rattle.ground.specs.Answer.{Answer, refused, given, unlessRefused}
+use Rattle.ground.specs.Answer.{refused, given}
 use Rattle.ground.proofs.Answers.{when-given}
 use Rattle.ground.proofs.Ranges.{is-within}
 use Rattle.ground.proofs.Writing.{sets-append, sets-whole}
@@ -16,7 +16,6 @@ use Rattle.symbol.specs.declared.disparity.Disparity.{Disparity}
 use Rattle.line.specs.Stream.{isLine, lineAfter}
 use Rattle.span.specs.declared.content.Content.the-variants.{NoneNamed}
 use Rattle.span.specs.declared.format.Format.{Format}
-use Rattle.span.specs.Format.{shapeOf, samplesIn, symbolsIn}
 use Rattle.span.specs.Span.{spanSymbols, spanAfter, signalFrom}
 use Rattle.span.specs.Stream.{Asked}
 use Rattle.span.proofs.Lengths.{known-has-streams, length-of-symbols}

@@ -32,7 +32,7 @@ use Rattle.reception.specs.Link.{link}
 use Rattle.rig.specs.Frame.{lineIn}
 use Rattle.rig.specs.Knock.{knocked, lost}
 use Rattle.rig.specs.Piece.{black, sentRows, rowsAt, pictureIn, heardIn}
-use Rattle.reception.specs.Receiving.{bothRows, brings, flag, putAll, ready, heardBy, shownBy}
+use Rattle.reception.specs.Receiving.{rowOf, bothRows, brings, flag, putAll, ready, heardBy, shownBy}
 use Rattle.rig.specs.Sending.{askedOn, sentFrom, afterFrom}
 use Rattle.rig.proofs.Arriving.{sending, placeOf}
 use Rattle.reception.proofs.Bringing.{length-row}
@@ -78,6 +78,7 @@ module _ (n : ℕ) (active : isActive n ≡ true) where
   words = upto (streams (shapeOf link)) (picture link (askedOn n))
 
   rows-back : bothRows words ≡ testRow (2 * basicLineOf n - 1) ++ testRow (2 * basicLineOf n)
+  unfolding rowOf
   rows-back =
       let l = n - 41 in
       let p : 1 ≤ l = omega (arith, from-low 42 1121 n active) in

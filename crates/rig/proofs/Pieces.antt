@@ -2,14 +2,13 @@
 -- Assumes nothing.
 use mathlib.Core.Path.{_≡_, refl, sym, ap, ap₂, _∙_}
 use mathlib.Core.Bool.{true, false}
-use mathlib.Core.List.{List, [], _∷_, _++_, append-nil}
-use mathlib.Core.Option.{Option, none, some}
+use mathlib.Core.List.{List, [], _++_, append-nil}
+use mathlib.Core.Option.{Option}
 use Prim.Native.Nat.{ℕ, zero, suc, _+_, _-_, _*_, _≤_, _<_}
 use native.Mathlib.Nat.{add-zero}
 use native.Mathlib.Omega.{arith}
 use lib.ListN.{length, replicate}
 use lib.Seq.{sets}
-use Rattle.ground.specs.Range.{within}
 use Rattle.ground.specs.Written.{upto}
 use Rattle.ground.proofs.Cases.{on-test}
 use Rattle.ground.proofs.Ranges.{is-within}
@@ -32,7 +31,7 @@ use Rattle.rig.specs.Sending.{askedOn, sentFrom}
 use Rattle.rig.proofs.Arriving.{sending, placeOf, arrived, arrives, is-lost, none-inside}
 use Rattle.rig.proofs.Knocking.{knocked-append}
 use Rattle.rig.proofs.Lines.{length-span, no-line-more, sent-more}
-use Rattle.reception.proofs.Links.{link-known, link-symbols}
+use Rattle.reception.proofs.Links.{link-known}
 use Rattle.rig.proofs.Slots.{padded, slot-put}
 
 abbrev N : ℕ

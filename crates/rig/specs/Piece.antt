@@ -1,11 +1,11 @@
 -- A piece of the frame, sent, knocked, delivered and joined: what comes of it, in terms of the knock alone.
 -- Assumes nothing.
 use Prim.Native.Nat.{ℕ, _-_, _*_}
-use mathlib.Core.Bool.{Bool, cond, _&&_}
+use mathlib.Core.Bool.{cond, _&&_}
 use mathlib.Core.List.{List, [], _∷_, _++_}
 use lib.Dec.{eqb, ltb}
 use lib.ListN.{replicate}
-use Rattle.ground.specs.Answer.{Answer, refused, given, unless, checked, unlessRefused}
+use Rattle.ground.specs.Answer.{Answer, refused, given, unless, checked}
 use Rattle.ground.specs.Written.{upto, table}
 use Rattle.line.specs.Picture.{basicLineOf}
 use Rattle.line.specs.Stream.{isActive}

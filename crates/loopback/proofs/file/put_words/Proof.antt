@@ -1,7 +1,7 @@
 -- `loopback::file::put_words` meets its contract: the bytes that are left, put behind what is there, give the whole.
 -- Assumes nothing.
-use mathlib.Core.Path.{_≡_, refl, sym, _∙_}
-use Prim.Native.Nat.{ℕ, _+_, _-_, _*_, _≤_, _<_}
+use mathlib.Core.Path.{_≡_, refl, _∙_}
+use Prim.Native.Nat.{_+_, _-_, _*_, _≤_, _<_}
 use native.Mathlib.Omega.{arith}
 use lib.ListN.{length, drop, length-set}
 use lib.Seq.{sets}
@@ -73,7 +73,7 @@ loop-again c =
     let v = c .before .before .before .loop in
     let a = c .before .before .before .before .args in
     let inside : v .i < length (a .words .now) = omega arith in
-    (omega arith, simp length-set (v .inv .1), word-put (a .words .now) (v .out) (a .at) (v .i) inside _ refl ∙ v .inv .2)
+    (omega arith, simp length-set (v .inv .1), word-put (a .words .now) (v .out) (a .at) (v .i) inside _ _ (omega arith) (omega arith) ∙ v .inv .2)
 
 mul-result : tie.Need-mul-result Inv-loop μ-loop
 mul-result c = search needs

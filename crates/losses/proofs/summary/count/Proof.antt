@@ -41,8 +41,8 @@ loop-again c =
     let heard = c .before .before .before .before .args .heard .now in
     let inside : v .i < length heard = omega arith in
     ⊎-elim
-    (λ w. (omega arith, omega arith, omega (arith, v .inv .2, heard-counted heard (v .i) inside (w .0 .taken))))
-    (λ w. (omega arith, omega arith, omega (arith, v .inv .2, lost-counted heard (v .i) inside (w .0 .left))))
+    (λ w. (omega arith, omega arith, omega (arith, v .inv .2, heard-counted heard (v .i) inside (λ z. omega (arith, w .0 .taken)))))
+    (λ w. (omega arith, omega arith, omega (arith, v .inv .2, lost-counted heard (v .i) inside (omega (arith, w .0 .left)))))
     (c .if1 .came)
 
 returns : tie.Need-returns Inv-loop μ-loop

@@ -33,7 +33,7 @@ returns : tie.Need-returns Inv-loop μ-loop
 returns c =
     let v = c .before .before .before .loop in
     let heard = c .before .before .before .before .args .heard .now in
-    (first-is heard (v .i) (omega arith) (v .inv .1) (c .if1 .taken), omega arith)
+    (omega (arith, first-is heard (v .i) (omega arith) (v .inv .1) (c .if1 .taken)), omega arith)
 
 add-i : tie.Need-add-i Inv-loop μ-loop
 add-i c = search needs

@@ -1,6 +1,5 @@
 -- `losses::summary::put_summary` meets its contract: the tests say whether there is room.
 -- Assumes nothing.
-use mathlib.Core.Path.{_≡_}
 use Prim.Native.Nat.{_≤_, _<_}
 use native.Mathlib.Omega.{arith}
 use lib.ListN.{length}

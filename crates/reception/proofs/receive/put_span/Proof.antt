@@ -1,8 +1,7 @@
 -- `reception::receive::put_span` meets its contract.
 -- Assumes nothing.
-use mathlib.Core.Path.{_≡_, refl, sym, ap, _∙_}
-use mathlib.Core.Bool.{true}
-use Prim.Native.Nat.{ℕ, _-_, _≤_}
+use mathlib.Core.Path.{sym, _∙_}
+use Prim.Native.Nat.{_-_}
 use native.Mathlib.Omega.{arith}
 use borrow.Author.Needs.{needs}
 use Rattle.ground.proofs.Ranges.{from-low, to-high}
@@ -90,7 +89,7 @@ returns c =
     let from = m .number-of2 .ensures in
     let is = n .number-of .ensures in (
       heard-put (a .first .0) (m .number-of2 .result) (n .number-of .result) x from is inside (a .heard .now),
-      brought (a .first .0) (m .number-of2 .result) (n .number-of .result) x from is inside is-active (a .picture .now) _ (first .put-row .ensures) (second .put-row2 .ensures),
+      brought (a .first .0) (m .number-of2 .result) (n .number-of .result) x from is inside is-active (a .picture .now) _ _ _ (first .put-row .ensures) (second .put-row2 .ensures) (omega arith) (omega arith),
     )
 
 same-length-3 : tie.Need-same-length-3

@@ -1,7 +1,6 @@
 -- `reception::receive::receive` meets its contract: what is received into cleared memory, where there is room for it.
 -- Assumes nothing.
 use mathlib.Core.Path.{refl, sym, ap, _∙_}
-use Prim.Native.Nat.{ℕ}
 use lib.ListN.{length, length-replicate}
 use borrow.Author.Needs.{needs}
 use Rattle.reception.proofs.Readiness.{ready-told, nothing-made, made}

@@ -1,6 +1,5 @@
 -- `rig::transmit::send_line` meets its contract: the call is a good one, so it is answered.
 -- Assumes nothing.
-use mathlib.Core.Path.{_≡_, refl, sym, ap, _∙_}
 use borrow.Author.Needs.{needs}
 use Rattle.stepping.proofs.OneStep.{no-key}
 use Rattle.rig.proofs.Lines.{asked-is, after-is, is-after, symbols-are}
