@@ -41,35 +41,6 @@ fn are_ten_bits(symbols: &[u16]) -> bool
     all < 1024
 }
 
-// Whether K28.5 stands once more close behind the start. No span has it there, and only so can starts stand close to each other: they are
-// told before anything that costs by the length of a span.
-fn starts_again(symbols: &[u16]) -> bool {
-    let mut i = 2;
-    while i < symbols.len() {
-        if i == 26 {
-            return false;
-        }
-        if symbols[i] == 0x17C {
-            return true;
-        }
-        if symbols[i] == 0x283 {
-            return true;
-        }
-        i += 1;
-    }
-    false
-}
-
-// Whether it is worth going over the symbols; they then have ten bits.
-fn is_worth(symbols: &[u16]) -> bool
-    ensures { λ r. ⌜ (r ≡ true → TenBits (now (symbols .entry))) ⌝ }
-{
-    if starts_again(symbols) {
-        return false;
-    }
-    are_ten_bits(symbols)
-}
-
 // The disparity at which `turns` has been gathered.
 fn disparity_by(turns: u32) -> Disparity
     ensures { λ r. ⌜ r ≡ ofMask (maskBy turns) ⌝ }
@@ -240,7 +211,7 @@ pub fn take(f: Format, symbols: &[u16], rows: &mut [u16]) -> Taken
     ensures filled { λ r. ⌜ (r .filled ≡ true → fillRight (shapeOf f) (now (symbols .entry)) ≡ true) ⌝ }
 {
     if rows::fit::is_ready(f, symbols.len(), rows.len()) {
-        if is_worth(symbols) {
+        if are_ten_bits(symbols) {
             let t = decoder::table::decoding_table();
             return take_window(&t, span::format::shape_of(f), symbols, rows);
         }

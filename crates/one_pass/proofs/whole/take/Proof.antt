@@ -12,7 +12,7 @@ use Rattle.one_pass.proofs.whole.take.Tie as tie
 use Rattle.one_pass.proofs.whole.take.Reads as reads
 use Rattle.one_pass.proofs.whole.take.Lts as lts
 use Rattle.decoder.proofs.table.decoding_table.Reads as decoding-table-reads
-use Rattle.one_pass.proofs.whole.is_worth.Reads as is-worth-reads
+use Rattle.one_pass.proofs.whole.are_ten_bits.Reads as are-ten-bits-reads
 use Rattle.one_pass.proofs.whole.nothing.Reads as nothing-reads
 use Rattle.one_pass.proofs.whole.take_window.Reads as take-window-reads
 use Rattle.rows.proofs.fit.is_ready.Reads as is-ready-reads
@@ -21,8 +21,8 @@ use Rattle.span.proofs.format.shape_of.Reads as shape-of-reads
 is-ready-requires : tie.Need-is-ready-requires
 is-ready-requires c κs = search needs
 
-is-worth-requires : tie.Need-is-worth-requires
-is-worth-requires c κs = search needs
+are-ten-bits-requires : tie.Need-are-ten-bits-requires
+are-ten-bits-requires c κs = search needs
 
 decoding-table-requires : tie.Need-decoding-table-requires
 decoding-table-requires c κs = search needs
@@ -36,7 +36,7 @@ take-window-requires c κs =
     let t = sym (c .before .before .before .before .before .before .before .is-ready .ensures) ∙ c .before .before .before .before .before .before .if1 .taken in
     let p = c .before .shape-of .ensures in
     let long : length (a .rows .now) ≡ samplesIn (shapeOf (a .f)) = omega (arith, rows-then (a .f) _ _ t) in
-    (given-then (a .f) (a .symbols .now) _ t (c .before .before .before .decoding-table .ensures) p, (c .before .before .before .before .before .is-worth .ensures (c .before .before .before .before .if2 .taken), rw p long))
+    (given-then (a .f) (a .symbols .now) _ t (c .before .before .before .decoding-table .ensures) p, (c .before .before .before .before .before .are-ten-bits .ensures (c .before .before .before .before .if2 .taken), rw p long))
 
 same-length : tie.Need-same-length
 same-length c = search needs
@@ -61,7 +61,7 @@ take-spec =
     tie.close
     (tie.spec
     is-ready-requires
-    is-worth-requires
+    are-ten-bits-requires
     decoding-table-requires
     shape-of-requires
     take-window-requires
