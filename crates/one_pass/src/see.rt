@@ -73,13 +73,7 @@ pub(crate) fn see_three(t: &[u16; 1024], symbols: &[u16], o: usize, good: u32, t
 }
 
 // Six symbols: one word of each of four streams.
-pub(crate) fn see_six(
-    t: &[u16; 1024],
-    symbols: &[u16],
-    o: usize,
-    good: u32,
-    turns: u32,
-) -> Six
+pub(crate) fn see_six(t: &[u16; 1024], symbols: &[u16], o: usize, good: u32, turns: u32) -> Six
     requires { ⌜ now t ≡ decodingTable ⌝ }
     requires { ⌜ TenBits (now symbols) ⌝ }
     requires { ⌜ o + 6 ≤ length (now symbols) ⌝ }

@@ -5,7 +5,12 @@ use std::process::{Command, Stdio};
 
 /// What the program writes when the input arrives in pieces. It may stop reading where it has enough.
 pub fn written(program: &str, input: &[u8], piece: usize) -> Vec<u8> {
-    let mut child = Command::new(program).stdin(Stdio::piped()).stdout(Stdio::piped()).spawn().expect("the program starts");
+    written_by(Command::new(program), input, piece)
+}
+
+/// The same of a program with arguments, or in a folder of its own.
+pub fn written_by(mut command: Command, input: &[u8], piece: usize) -> Vec<u8> {
+    let mut child = command.stdin(Stdio::piped()).stdout(Stdio::piped()).spawn().expect("the program starts");
     let mut stdin = child.stdin.take().unwrap();
     let pieces = input.to_vec();
     let feeder = std::thread::spawn(move || pieces.chunks(piece).try_for_each(|c| stdin.write_all(c)).is_ok());

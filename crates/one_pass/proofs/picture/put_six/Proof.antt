@@ -23,7 +23,7 @@ same-length : tie.Need-same-length
 same-length c = search needs
 
 returns : tie.Need-returns
-returns c = 
+returns c =
     let low = c .before .before .before .before .before .before .put-pair .ensures in
     let high = c .before .before .put-pair2 .ensures in
     let x = c .before .before .before .before .before .before .before .before .before .before .before .args .x in

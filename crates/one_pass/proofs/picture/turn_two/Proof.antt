@@ -64,7 +64,7 @@ add-put-pair : tie.Need-add-put-pair
 add-put-pair c = omega (arith, c .before .before .before .before .before .before .before .before .before .before .before .before .before .before .pre .1 .1 .0)
 
 put-pair-requires-2 : tie.Need-put-pair-requires-2
-put-pair-requires-2 c κs = 
+put-pair-requires-2 c κs =
     let s = c .before .before .before .before .before .before .before .before .before .before .before .before .before .before .before in
     let size = c .before .before .before .put-pair .ensures .0 ∙ (s .pre .1 .1 .1 .1) in
     omega (arith, s .pre .1 .1 .0, size)
@@ -73,7 +73,7 @@ add-put-pair-2 : tie.Need-add-put-pair-2
 add-put-pair-2 c = omega (arith, c .before .before .before .before .before .before .before .before .before .before .before .before .before .before .before .before .before .before .pre .1 .1 .0)
 
 put-pair-requires-3 : tie.Need-put-pair-requires-3
-put-pair-requires-3 c κs = 
+put-pair-requires-3 c κs =
     let s = c .before .before .before .before .before .before .before .before .before .before .before .before .before .before .before .before .before .before .before in
     let size = c .before .before .before .put-pair2 .ensures .0 ∙ (c .before .before .before .before .before .before .before .put-pair .ensures .0 ∙ (s .pre .1 .1 .1 .1)) in
     omega (arith, s .pre .1 .1 .0, size)
@@ -82,7 +82,7 @@ add-put-pair-3 : tie.Need-add-put-pair-3
 add-put-pair-3 c = omega (arith, c .before .before .before .before .before .before .before .before .before .before .before .before .before .before .before .before .before .before .before .before .before .before .pre .1 .1 .0)
 
 put-pair-requires-4 : tie.Need-put-pair-requires-4
-put-pair-requires-4 c κs = 
+put-pair-requires-4 c κs =
     let s = c .before .before .before .before .before .before .before .before .before .before .before .before .before .before .before .before .before .before .before .before .before .before .before in
     let size = c .before .before .before .put-pair3 .ensures .0 ∙ (c .before .before .before .before .before .before .before .put-pair2 .ensures .0 ∙ (c .before .before .before .before .before .before .before .before .before .before .before .put-pair .ensures .0 ∙ (s .pre .1 .1 .1 .1))) in
     omega (arith, s .pre .1 .1 .0, size)
@@ -97,7 +97,7 @@ same-length : tie.Need-same-length
 same-length c = search needs
 
 returns : tie.Need-returns
-returns c = 
+returns c =
     let s = c .before .before .before .before .before .before .before .before .before .before .before .before .before .before .before .before .before .before .before .before .before .before .before .before .before .before .before .before in
     let w = s .args .symbols .now in
     let j = s .args .j in

@@ -31,7 +31,7 @@ same-length : tie.Need-same-length
 same-length c = search needs
 
 returns : tie.Need-returns
-returns c = 
+returns c =
     let s = c .before .before .before .before .before .before .before .before .before in
     let a = s .args in
     let w = a .symbols .now in
@@ -46,7 +46,7 @@ take-picture-requires : tie.Need-take-picture-requires
 take-picture-requires c κs = search needs
 
 read-words-requires : tie.Need-read-words-requires
-read-words-requires c κs = 
+read-words-requires c κs =
     let s = c .before .before .before .before .before .before .before .before .before .before in
     let a = s .args in
     let w = a .symbols .now in
@@ -59,7 +59,7 @@ same-length-2 : tie.Need-same-length-2
 same-length-2 c = search needs
 
 returns-2 : tie.Need-returns-2
-returns-2 c = 
+returns-2 c =
     let s = c .before .before .before .before .before .before .before .before .before .before .before .before .before in
     let a = s .args in
     let w = a .symbols .now in

@@ -25,13 +25,13 @@ service-of-requires : tie.Need-service-of-requires
 service-of-requires c κs = search needs
 
 judge-words-requires : tie.Need-judge-words-requires
-judge-words-requires c κs = 
+judge-words-requires c κs =
     let s = c .before .before .before .before in
     let a = s .args in
     (s .pre .0, (service-is (a .f) (a .symbols .now) (s .pre .0) (s .pre .1 .1 .1 .0) (c .before .service-of .ensures), (s .pre .1 .1 .1 .1 .0, s .pre .1 .1 .1 .1 .1)))
 
 refuse-requires : tie.Need-refuse-requires
-refuse-requires c κs = 
+refuse-requires c κs =
     let a = c .before .before .before .before .before .before .before .before .args in
     let judged = c .before .before .before .judge-words .ensures in
     let bounds =
@@ -43,7 +43,7 @@ same-length : tie.Need-same-length
 same-length c = search needs
 
 returns : tie.Need-returns
-returns c = 
+returns c =
     let s = c .before .before .before .before .before .before .before .before .before .before .before in
     let a = s .args in
     let is = s .pre .0 in
@@ -65,7 +65,7 @@ same-length-2 : tie.Need-same-length-2
 same-length-2 c = search needs
 
 returns-2 : tie.Need-returns-2
-returns-2 c = 
+returns-2 c =
     let s = c .before .before .before .before .before .before .before .before in
     let a = s .args in
     let is = s .pre .0 in
@@ -76,8 +76,8 @@ returns-2 c =
     let values = delivery-is (a .f) (a .symbols .now) is _ (s .pre .1 .0) (s .pre .1 .1 .0) _ _ service in (
       ap given (c .delivery .ensures ∙ values) ∙ sym read,
       λ room _.
-      s .pre .1 .1 .1 .1 .1
-      ∙ ap (λ (r : Answer Delivery). rowsLeft r room (pictureOf (a .f) (a .symbols .now))) (sym read),
+          s .pre .1 .1 .1 .1 .1
+          ∙ ap (λ (r : Answer Delivery). rowsLeft r room (pictureOf (a .f) (a .symbols .now))) (sym read),
     )
 
 pub read-words-spec : {M : Type 1} → statement M
