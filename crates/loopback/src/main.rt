@@ -1,17 +1,12 @@
 // The loopback rig: a test picture over one link, line by line through a whole frame, with one plug knocked. Eight bytes from standard input
 // say where and how long; the picture that arrives goes to a file, and what was lost to standard output.
 mod file;
+mod frame;
 mod input;
 
+use frame::Written;
 use libc::STDIN_FILENO;
 use libc::STDOUT_FILENO;
-use rig::carry::Carried;
-use rig::knock::Knock;
-ghost use mathlib.Core.Path.{_≡_};
-ghost use mathlib.Core.Bool.{true};
-ghost use Prim.Native.Nat.{_≤_};
-ghost use lib.ListN.{length};
-ghost use Rattle.loopback.specs.Frame.{heardOf};
 
 // The file that the first argument names, or loopback.pgm, opened anew; below 0 where it cannot be, which is said.
 fn open_picture() -> i32 {
@@ -35,35 +30,6 @@ fn open_picture() -> i32 {
     fd
 }
 
-// The frame, piece by piece: its picture is written as it comes, and where all of it was, the flags tell which lines were heard.
-fn write_frame(fd: i32, k: Knock, heard: &mut [u16], picture: &mut [u16], bytes: &mut [u8]) -> bool
-    requires { ⌜ length (now heard) ≡ 1125 ⌝ }
-    requires { ⌜ length (now picture) ≡ 38400 ⌝ }
-    requires { ⌜ 76800 ≤ length (now bytes) ⌝ }
-    ensures { λ r. ⌜ (r ≡ true → now (heard .exit) ≡ heardOf k) ⌝ }
-{
-    let mut d = symbol::disparity::before_fresh_signal();
-    let mut piece = 0;
-    while piece < 225 {
-        let from = 5 * piece;
-        let to = from + 5;
-        match rig::carry::carry(piece, d, k, &mut heard[from..to], picture) {
-            Carried::After(after) => {
-                d = after;
-            }
-            _ => {
-                return false;
-            }
-        }
-        let n = file::put_piece(piece, picture, bytes);
-        if !io::write_all(fd, &bytes[..n]) {
-            return false;
-        }
-        piece += 1;
-    }
-    true
-}
-
 fn main() {
     let mut input = [0u8; 8];
     let n = io::read_full(STDIN_FILENO, &mut input);
@@ -76,12 +42,15 @@ fn main() {
     let mut picture = [0u16; 38400];
     let mut bytes = [0u8; 76800];
     io::write_all(fd, b"P5\n3840 2160\n4095\n");
-    if !write_frame(fd, k, &mut heard, &mut picture, &mut bytes) {
-        os::fail(b"the picture");
-        return;
+    match frame::write_frame(fd, k, &mut heard, &mut picture, &mut bytes) {
+        Written::All(_) => {
+            libc::close(fd);
+            let mut text = [0u8; 128];
+            let end = losses::summary::put_summary(&heard, &mut text);
+            io::write_all(STDOUT_FILENO, &text[..end]);
+        }
+        Written::Stopped => {
+            os::fail(b"the picture");
+        }
     }
-    libc::close(fd);
-    let mut text = [0u8; 128];
-    let end = losses::summary::put_summary(&heard, &mut text);
-    io::write_all(STDOUT_FILENO, &text[..end]);
 }

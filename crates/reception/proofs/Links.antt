@@ -1,6 +1,6 @@
 -- The rig's link: a known format, and the lengths of its spans.
 -- Assumes nothing.
-use mathlib.Core.Path.{_≡_, refl, ap, _∙_}
+use mathlib.Core.Path.{_≡_, refl, ap, ap₂, _∙_}
 use mathlib.Core.Bool.{true}
 use Prim.Native.Nat.{ℕ, _≤_}
 use native.Mathlib.Omega.{arith}
@@ -21,6 +21,10 @@ link-samples = refl
 pub link-symbols : symbolsIn (shapeOf link) ≡ 19008
 unfolding shapeOf
 link-symbols = refl
+
+-- it is told by its two numbers
+pub is-link : {f : Format} → f .number ≡ 3 → f .depth ≡ 12 → f ≡ link
+is-link p q = ap₂ (λ (n d : ℕ). record { number = n; depth = d }) p q
 
 -- a piece is short enough for the calls
 pub within-limit : (k : ℕ) → k ≤ 95040 → k ≤ limit

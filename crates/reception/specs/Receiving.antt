@@ -4,7 +4,7 @@ use Prim.Native.Nat.{ℕ, _+_, _-_, _*_}
 use mathlib.Core.Bool.{Bool, cond, _&&_}
 use mathlib.Core.List.{List, [], _∷_, _++_}
 use lib.Dec.{eqb, leb}
-use lib.ListN.{replicate}
+use lib.ListN.{length, replicate}
 use lib.Seq.{sets}
 use Rattle.ground.specs.Range.{within}
 use Rattle.line.specs.Stream.{isActive}
@@ -61,8 +61,16 @@ shownFrom = putAll 7680 brings
 abbrev pub ready : ℕ → ℕ → ℕ → ℕ → Bool
 ready first symbols heard picture = leb first 1121 && (leb symbols 95040 && (eqb heard 5 && eqb picture 38400))
 
+-- the flags and the rows
 abbrev pub heardBy : ℕ → List ℕ → List ℕ
 heardBy first symbols = heardFrom first (replicate 5 0) (deliveryFrom link symbols 0)
 
 abbrev pub shownBy : ℕ → List ℕ → List ℕ
 shownBy first symbols = shownFrom first (replicate 38400 0) (deliveryFrom link symbols 0)
+
+-- lent memory afterwards: of anything else nothing is made
+abbrev pub flagsAfter : ℕ → List ℕ → List ℕ → ℕ → List ℕ
+flagsAfter first symbols heard picture = cond (ready first (length symbols) (length heard) picture) (heardBy first symbols) heard
+
+abbrev pub rowsAfter : ℕ → List ℕ → ℕ → List ℕ → List ℕ
+rowsAfter first symbols heard picture = cond (ready first (length symbols) heard (length picture)) (shownBy first symbols) picture

@@ -3,13 +3,12 @@ use line::stream::StreamLine;
 use recording::next::NextSpan;
 use window::delivery::Delivery;
 ghost use mathlib.Core.Path.{_≡_};
-ghost use mathlib.Core.Bool.{cond};
 ghost use Prim.Native.Nat.{_+_, _≤_};
 ghost use lib.ListN.{length};
 ghost use lib.Seq.{sets};
 ghost use Rattle.recording.specs.Recording.{deliveryFrom};
 ghost use Rattle.reception.specs.Link.{link};
-ghost use Rattle.reception.specs.Receiving.{rowOf, brings, flag, putOne, heardFrom, shownFrom, ready, heardBy, shownBy};
+ghost use Rattle.reception.specs.Receiving.{rowOf, brings, flag, putOne, heardFrom, shownFrom, ready, flagsAfter, rowsAfter};
 
 // Two streams of a span joined into a row of the picture, which stands at a place.
 fn put_row(rows: &[u16], t: usize, picture: &mut [u16], at: usize)
@@ -109,8 +108,8 @@ fn is_ready(first: StreamLine, symbols: usize, heard: usize, picture: usize) -> 
 // The symbols of five lines, the first of which is given, as they were received: 1 for each line that is delivered, else 0; and ten rows of
 // the picture, black where a line is not delivered and on blanking lines. Of anything else nothing is made.
 pub fn receive(first: StreamLine, symbols: &[u16], heard: &mut [u16], picture: &mut [u16])
-    ensures heard { λ _. ⌜ now (heard .exit) ≡ cond (ready (first .0) (length (now (symbols .entry))) (length (now (heard .entry))) (length (now (picture .entry)))) (heardBy (first .0) (now (symbols .entry))) (now (heard .entry)) ⌝ }
-    ensures picture { λ _. ⌜ now (picture .exit) ≡ cond (ready (first .0) (length (now (symbols .entry))) (length (now (heard .entry))) (length (now (picture .entry)))) (shownBy (first .0) (now (symbols .entry))) (now (picture .entry)) ⌝ }
+    ensures heard { λ _. ⌜ now (heard .exit) ≡ flagsAfter (first .0) (now (symbols .entry)) (now (heard .entry)) (length (now (picture .entry))) ⌝ }
+    ensures picture { λ _. ⌜ now (picture .exit) ≡ rowsAfter (first .0) (now (symbols .entry)) (length (now (heard .entry))) (now (picture .entry)) ⌝ }
 {
     if is_ready(first, symbols.len(), heard.len(), picture.len()) {
         let mut rows = [0u16; 7680];

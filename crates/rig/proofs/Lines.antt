@@ -2,7 +2,7 @@
 -- Assumes nothing.
 use mathlib.Core.Path.{_≡_, refl, sym, ap, ap₂, _∙_}
 use mathlib.Core.Bool.{true}
-use mathlib.Core.List.{List, [], _++_}
+use mathlib.Core.List.{List, [], _++_, append-assoc}
 use Prim.Native.Nat.{ℕ, zero, suc, _+_, _-_, _*_, _≤_, _<_}
 use native.Mathlib.Omega.{arith}
 use lib.ListN.{length, length-append}
@@ -111,6 +111,41 @@ length-sent d n (suc m) =
 
 pub all-sent : (d : Disparity) (n : ℕ) (symbols : List ℕ) → length symbols ≡ 95040 → sets symbols 0 (sentFrom d n 5) ≡ sentFrom d n 5
 all-sent d n symbols room = sets-whole symbols (sentFrom d n 5) (length-sent d n 5 ∙ sym room)
+
+-- lines in two runs are one signal, the disparity handed from the one to the other
+pub sent-on : (d : Disparity) (n a b : ℕ) → sentFrom d n (a + b) ≡ sentFrom d n a ++ sentFrom (afterFrom d n a) (n + a) b
+sent-on d n zero b =
+    let p : 0 + b ≡ b = omega arith in
+    let q : n ≡ n + 0 = omega arith in
+    let none = no-line-more d n in
+    ap (sentFrom d n) p
+    ∙ ap₂ (λ (e : Disparity) (i : ℕ). sentFrom e i b) (sym (none .1)) q
+    ∙ ap (λ (l : List ℕ). l ++ sentFrom (afterFrom d n 0) (n + 0) b) (sym (none .0))
+sent-on d n (suc a) b =
+    let p : suc a + b ≡ suc (a + b) = omega arith in
+    let q : suc n + a ≡ n + suc a = omega arith in
+    let span = spanSymbols d link (askedOn n) in
+    let e = spanAfter d link (askedOn n) in
+    ap (sentFrom d n) p
+    ∙ sent-more d n (a + b)
+    ∙ ap (λ (l : List ℕ). span ++ l) (sent-on e (suc n) a b)
+    ∙ sym (append-assoc span (sentFrom e (suc n) a) (sentFrom (afterFrom e (suc n) a) (suc n + a) b))
+    ∙ ap₂ (λ (l m : List ℕ). l ++ m) (sym (sent-more d n a))
+    (ap₂ (λ (x : Disparity) (i : ℕ). sentFrom x i b) (sym (after-more d n a)) q)
+
+pub after-on : (d : Disparity) (n a b : ℕ) → afterFrom d n (a + b) ≡ afterFrom (afterFrom d n a) (n + a) b
+after-on d n zero b =
+    let p : 0 + b ≡ b = omega arith in
+    let q : n ≡ n + 0 = omega arith in
+    ap (afterFrom d n) p ∙ ap₂ (λ (e : Disparity) (i : ℕ). afterFrom e i b) (sym (no-line-more d n .1)) q
+after-on d n (suc a) b =
+    let p : suc a + b ≡ suc (a + b) = omega arith in
+    let q : suc n + a ≡ n + suc a = omega arith in
+    let e = spanAfter d link (askedOn n) in
+    ap (afterFrom d n) p
+    ∙ after-more d n (a + b)
+    ∙ after-on e (suc n) a b
+    ∙ ap₂ (λ (x : Disparity) (i : ℕ). afterFrom x i b) (sym (after-more d n a)) q
 
 -- a loop over five lines: what is left, put behind what is there, is the whole
 module _ (first k : ℕ) (h : k < 5) (d : Disparity) {after : Disparity} (n : ℕ) (here : n ≡ first + k) (was : after ≡ spanAfter d link (askedOn n)) where

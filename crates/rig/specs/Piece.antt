@@ -4,8 +4,8 @@ use Prim.Native.Nat.{ℕ, _-_, _*_}
 use mathlib.Core.Bool.{cond, _&&_}
 use mathlib.Core.List.{List, [], _∷_, _++_}
 use lib.Dec.{eqb, ltb}
-use lib.ListN.{replicate}
-use Rattle.ground.specs.Answer.{Answer, refused, given, unless, checked}
+use lib.ListN.{length, replicate}
+use Rattle.ground.specs.Answer.{Answer, refused, given, unless, checked, unlessRefused}
 use Rattle.ground.specs.Written.{upto, table}
 use Rattle.line.specs.Picture.{basicLineOf}
 use Rattle.line.specs.Stream.{isActive}
@@ -51,3 +51,10 @@ paperCarried WrongOutput = refused 4 0
 abbrev pub carryOf : ℕ → Disparity → ℕ → ℕ → Answer Disparity
 carryOf piece d heard picture =
     checked (unless 2 (ltb piece 225) ∷ unless 4 (eqb heard 5 && eqb picture 38400) ∷ []) (afterFrom d (lineIn piece 0) 5)
+
+-- lent memory afterwards: as it was where the call is refused
+abbrev pub flagsAfter : Knock → ℕ → Disparity → List ℕ → ℕ → List ℕ
+flagsAfter k piece d heard picture = unlessRefused (carryOf piece d (length heard) picture) heard (heardIn k piece)
+
+abbrev pub rowsAfter : Knock → ℕ → Disparity → ℕ → List ℕ → List ℕ
+rowsAfter k piece d heard picture = unlessRefused (carryOf piece d heard (length picture)) picture (pictureIn k piece)

@@ -4,9 +4,8 @@ use symbol::disparity::Disparity;
 ghost use mathlib.Core.Path.{_≡_};
 ghost use Prim.Native.Nat.{_<_};
 ghost use lib.ListN.{length};
-ghost use Rattle.ground.specs.Answer.{unlessRefused};
 ghost use Rattle.rig.specs.Frame.{lineIn};
-ghost use Rattle.rig.specs.Piece.{pictureIn, heardIn, paperCarried, carryOf};
+ghost use Rattle.rig.specs.Piece.{pictureIn, heardIn, paperCarried, carryOf, flagsAfter, rowsAfter};
 ghost use Rattle.rig.specs.Sending.{afterFrom};
 
 pub enum Carried {
@@ -54,8 +53,8 @@ pub fn carry(
     picture: &mut [u16],
 ) -> Carried
     ensures answer { λ r. ⌜ paperCarried r ≡ carryOf piece d (length (now (heard .entry))) (length (now (picture .entry))) ⌝ }
-    ensures heard { λ _. ⌜ now (heard .exit) ≡ unlessRefused (carryOf piece d (length (now (heard .entry))) (length (now (picture .entry)))) (now (heard .entry)) (heardIn k piece) ⌝ }
-    ensures picture { λ _. ⌜ now (picture .exit) ≡ unlessRefused (carryOf piece d (length (now (heard .entry))) (length (now (picture .entry)))) (now (picture .entry)) (pictureIn k piece) ⌝ }
+    ensures heard { λ _. ⌜ now (heard .exit) ≡ flagsAfter k piece d (now (heard .entry)) (length (now (picture .entry))) ⌝ }
+    ensures picture { λ _. ⌜ now (picture .exit) ≡ rowsAfter k piece d (length (now (heard .entry))) (now (picture .entry)) ⌝ }
 {
     if 225 <= piece {
         return Carried::NoPiece;

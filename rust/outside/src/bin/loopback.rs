@@ -165,8 +165,8 @@ fn compare(program: &Path, folder: &Path) {
         assert_eq!(String::from_utf8_lossy(&printed), text, "{length} bytes");
         assert!(std::fs::read(folder.join("loopback.pgm")).expect("a picture") == file, "{length} bytes: another picture");
     }
-    // A name that cannot be opened.
-    for name in ["no_such_folder/picture.pgm", "", &"long".repeat(2000)] {
+    // A name that cannot be opened, and a file that takes nothing.
+    for name in ["no_such_folder/picture.pgm", "", &"long".repeat(2000), "/dev/full"] {
         let told = run(program, folder, Some(name)).stdin(Stdio::null()).output().expect("the program starts");
         assert!(told.status.success() && told.stdout.is_empty() && !told.stderr.is_empty(), "{name}");
     }

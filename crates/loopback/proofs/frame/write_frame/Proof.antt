@@ -1,17 +1,18 @@
--- `loopback::write_frame` meets its contract: the flags of the pieces so far stand where they belong.
+-- `loopback::frame::write_frame` meets its contract: the flags of the pieces so far stand where they belong, and the disparity is handed on.
 -- Assumes nothing.
-use mathlib.Core.Path.{_≡_, refl, sym, ap, _∙_}
-use mathlib.Core.Bool.{true≢false}
-use Prim.Native.Nat.{_+_, _-_, _≤_}
+use mathlib.Core.Path.{_≡_, refl, ap, _∙_}
+use Prim.Native.Nat.{_+_, _-_, _*_, _≤_}
 use native.Mathlib.Omega.{arith}
 use lib.ListN.{length}
 use lib.Seq.{sets, length-sets}
 use borrow.Author.Needs.{needs}
 use Rattle.ground.specs.Written.{upto}
+use Rattle.symbol.specs.declared.disparity.Disparity.{Disparity}
 use Rattle.rig.specs.Piece.{heardIn}
-use Rattle.loopback.proofs.Frames.{no-flags, flags-put, all-flags}
-use Rattle.loopback.proofs.write_frame.Statement.{statement}
-use Rattle.loopback.proofs.write_frame.Tie as tie
+use Rattle.rig.specs.Sending.{afterFrom}
+use Rattle.loopback.proofs.Frames.{no-flags, flags-put, all-flags, no-lines, handed-on}
+use Rattle.loopback.proofs.frame.write_frame.Statement.{statement}
+use Rattle.loopback.proofs.frame.write_frame.Tie as tie
 
 abbrev Inv-loop : tie.InvT-loop
 Inv-loop fd k heard₀ picture₀ bytes₀ d₀ piece₀ heard picture bytes d piece =
@@ -20,6 +21,7 @@ Inv-loop fd k heard₀ picture₀ bytes₀ d₀ piece₀ heard picture bytes d p
     × (length picture ≡ 38400)
     × (length bytes ≡ length bytes₀)
     × (heard ≡ sets heard₀ 0 (upto piece (heardIn k)))
+    × (d ≡ afterFrom d₀ 1 (5 * piece))
 
 abbrev μ-loop : tie.MeasureT-loop
 μ-loop fd k heard₀ picture₀ bytes₀ d₀ piece₀ heard picture bytes d piece = 225 - piece
@@ -30,7 +32,7 @@ before-fresh-signal-requires c κs = search needs
 loop-holds : tie.Need-loop-holds Inv-loop μ-loop
 loop-holds c =
     let start = c .before .before .before .before in
-    (omega arith, start .pre .0, start .pre .1 .0, refl, no-flags (start .args .k) (start .args .heard .now))
+    (omega arith, start .pre .0, start .pre .1 .0, refl, no-flags (start .args .k) (start .args .heard .now), no-lines _)
 
 mul-from : tie.Need-mul-from Inv-loop μ-loop
 mul-from c = search needs
@@ -66,7 +68,7 @@ same-length-3 : tie.Need-same-length-3 Inv-loop μ-loop
 same-length-3 c = search needs
 
 returns : tie.Need-returns Inv-loop μ-loop
-returns c e = absurd (true≢false (sym e))
+returns c = tt
 
 put-piece-requires : tie.Need-put-piece-requires Inv-loop μ-loop
 put-piece-requires c κs = search needs
@@ -90,7 +92,7 @@ same-length-6 : tie.Need-same-length-6 Inv-loop μ-loop
 same-length-6 c = search needs
 
 returns-2 : tie.Need-returns-2 Inv-loop μ-loop
-returns-2 c e = absurd (true≢false (sym e))
+returns-2 c = tt
 
 add-piece : tie.Need-add-piece Inv-loop μ-loop
 add-piece c = search needs
@@ -100,7 +102,8 @@ loop-less c = search needs
 
 loop-again : tie.Need-loop-again Inv-loop μ-loop
 loop-again c =
-    let carried = c .before .before .before .before .before .before .before .before .before .before .before .before .before .before .before in
+    let told = c .before .before .before .before .before .before .before .before .before in
+    let carried = told .before .before .before .before .before .before in
     let v = carried .before .before .before .before .loop in
     let start = carried .before .before .before .before .before .before .before .before .before in
     let a = start .args in
@@ -110,6 +113,7 @@ loop-again c =
       search needs,
       search needs,
       flags,
+      handed-on (v .piece) _ (v .d) (v .heard) (length (v .picture)) (omega arith) (v .inv .1) (v .inv .2) (v .inv .5) (told .after .given .1) (carried .carry .ensures .0),
     )
 
 same-length-7 : tie.Need-same-length-7 Inv-loop μ-loop
@@ -122,11 +126,14 @@ same-length-9 : tie.Need-same-length-9 Inv-loop μ-loop
 same-length-9 c = search needs
 
 returns-3 : tie.Need-returns-3 Inv-loop μ-loop
-returns-3 c e =
+returns-3 c =
     let v = c .before .loop in
     let start = c .before .before .before .before .before .before in
     let all : v .piece ≡ 225 = omega arith in
-    rw all at (v .inv .4) ∙ all-flags (start .args .k) (start .args .heard .now) (start .pre .0)
+    let fresh = c .before .before .before-fresh-signal .ensures in (
+      rw all at (v .inv .4) ∙ all-flags (start .args .k) (start .args .heard .now) (start .pre .0),
+      rw all at (v .inv .5) ∙ ap (λ (d : Disparity). afterFrom d 1 1125) fresh,
+    )
 
 pub write-frame-spec : {M : Type 1} → statement M
 write-frame-spec =
