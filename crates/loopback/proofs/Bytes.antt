@@ -15,8 +15,9 @@ use Rattle.ground.proofs.Reading.{next-left}
 use Rattle.ground.proofs.Writing.{upto-more}
 use Rattle.line.specs.Stream.{isActive}
 use Rattle.rig.specs.Frame.{lineIn}
-use Rattle.text.proofs.Putting.{Put, then, put-length, put-as}
-use Rattle.loopback.specs.File.{bytesOf, rowsOf, pieceBytes}
+use Rattle.text.specs.Put.{endOf, putOf}
+use Rattle.text.proofs.Putting.{Put, then, put-length, put-as, put-told}
+use Rattle.loopback.specs.File.{bytesOf, header, rowsOf, pieceBytes}
 
 pub length-bytes : (l : List ℕ) → length (bytesOf l) ≡ 2 * length l
 unfolding bytesOf
@@ -84,10 +85,20 @@ module _ (piece : ℕ) (picture : List ℕ) where
     blank-put t done ends same =
         put-as (sym (append-nil (upto i lineBytes)) ∙ with-line false t) (record { written = same ∙ done .written; ends = ends ∙ done .ends })
 
--- what was put of all lines is what the piece's contract says, and its end counts it
+-- ---- what a contract says of bytes that are put from the start on, with the end that counts them
+pub counted : (text before : List ℕ) {after : List ℕ} {end : ℕ} → end ≤ length before → Put before after 0 end text
+    → Counts end after × ((end ≡ length text) × (after ≡ sets before 0 text))
+counted text before {after} {end} room put =
+    let most : end ≤ length after = omega (arith, put-length put) in
+    ((most, sym (length-take-le end after most)), (put .ends ∙ zero-add (length text), put .written))
+
 pub piece-put : (piece : ℕ) (picture before : List ℕ) {after : List ℕ} {end : ℕ} → end ≤ length before → Put before after 0 end (upto 5 (lineBytes piece picture))
     → Counts end after × ((end ≡ length (pieceBytes piece picture)) × (after ≡ sets before 0 (pieceBytes piece picture)))
 unfolding pieceBytes
-piece-put piece picture before {after} {end} room put =
-    let most : end ≤ length after = omega (arith, put-length put) in
-    ((most, sym (length-take-le end after most)), (put .ends ∙ zero-add _, put .written))
+piece-put piece picture before room put = counted (pieceBytes piece picture) before room put
+
+pub header-put : (before : List ℕ) {after : List ℕ} {end : ℕ} → 18 ≤ length before → end ≡ endOf (length before) 0 header → after ≡ putOf before 0 header
+    → Counts end after × ((end ≡ length header) × (after ≡ sets before 0 header))
+header-put before {after} {end} room e w =
+    let put : Put before after 0 end header = put-told header room e w in
+    counted header before (omega (arith, put .ends)) put

@@ -19,7 +19,7 @@ use Rattle.rig.specs.Frame.{lineIn}
 use Rattle.rig.specs.Knock.{lost}
 use Rattle.rig.specs.Piece.{black, rowsAt, pictureIn, heardIn}
 use Rattle.rig.proofs.Outcomes.{length-rows}
-use Rattle.loopback.specs.File.{bytesOf, header, rowsOf, pieceBytes, fileOf, rowOn}
+use Rattle.loopback.specs.File.{bytesOf, header, rowsOf, pieceBytes, fileOf, rowShown}
 use Rattle.loopback.specs.Frame.{heardOf}
 
 -- ---- pieces one after the other
@@ -85,7 +85,7 @@ module _ (k : Knock) where
   lineBytes n = cond (isActive n) (bytesOf (rowsAt k n)) []
 
   abbrev rowBytes : ℕ → List ℕ
-  rowBytes i = bytesOf (rowOn k (i + 1))
+  rowBytes i = bytesOf (rowShown k (i + 1))
 
   of-blanking : (n : ℕ) → (42 ≤ n → n ≤ 1121 → ⊥) → lineBytes n ≡ []
   of-blanking n x = let t : isActive n ≡ false = not-within 42 1121 n x in ap (λ (b : Bool). cond b (bytesOf (rowsAt k n)) []) t
@@ -129,7 +129,7 @@ module _ (k : Knock) where
       ∙ append-nil (upto 1080 (λ j. lineBytes (41 + j + 1))))
 
   -- the file is the header and 2,160 rows, each two bytes a word
-  pub file-is : fileOf k ≡ header ++ upto 2160 (λ i. bytesOf (rowOn k (i + 1)))
+  pub file-is : fileOf k ≡ header ++ upto 2160 (λ i. bytesOf (rowShown k (i + 1)))
   file-is =
       ap (λ (l : List ℕ). header ++ l)
       (upto-same 225 (λ piece. pieceBytes piece (pictureIn k piece)) (λ p. upto 5 (λ i. lineBytes (5 * p + i + 1))) (λ p h. of-piece p)

@@ -34,5 +34,5 @@ abbrev pub fileOf : Knock → List ℕ
 fileOf k = header ++ upto 225 (λ piece. pieceBytes piece (pictureIn k piece))
 
 -- the row of picture line y, which stream line 41 + (y + 1) / 2 carries: that of the test picture, or a black one (law `file-is`)
-abbrev pub rowOn : Knock → ℕ → List ℕ
-rowOn k y = cond (lost k (41 + (y + 1) / 2)) (replicate 3840 0) (testRow y)
+abbrev pub rowShown : Knock → ℕ → List ℕ
+rowShown k y = cond (lost k (41 + (y + 1) / 2)) (replicate 3840 0) (testRow y)

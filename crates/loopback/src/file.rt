@@ -4,7 +4,17 @@ ghost use Prim.Native.Nat.{_+_, _*_, _≤_, _<_};
 ghost use lib.ListN.{length};
 ghost use lib.Seq.{sets};
 ghost use Rattle.io.specs.Counts.{Counts};
-ghost use Rattle.loopback.specs.File.{bytesOf, pieceBytes};
+ghost use Rattle.loopback.specs.File.{bytesOf, header, pieceBytes};
+
+// The header: the kind of file, the picture's width and height, the largest value.
+pub(crate) fn put_header(out: &mut [u8]) -> usize
+    requires { ⌜ 18 ≤ length (now out) ⌝ }
+    ensures counts { λ r. ⌜ Counts r (now (out .exit)) ⌝ }
+    ensures end { λ r. ⌜ r ≡ length header ⌝ }
+    ensures written { λ _. ⌜ now (out .exit) ≡ sets (now (out .entry)) 0 header ⌝ }
+{
+    text::put::put_text(b"P5\n3840 2160\n4095\n", out, 0)
+}
 
 // The bytes of words, from a place on: two for each, the high byte first.
 fn put_words(words: &[u16], out: &mut [u8], at: usize) -> usize

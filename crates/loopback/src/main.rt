@@ -7,6 +7,7 @@ mod input;
 use frame::Written;
 use libc::STDIN_FILENO;
 use libc::STDOUT_FILENO;
+use rig::knock::Knock;
 
 // The file that the first argument names, or loopback.pgm, opened anew; below 0 where it cannot be, which is said.
 fn open_picture() -> i32 {
@@ -30,6 +31,31 @@ fn open_picture() -> i32 {
     fd
 }
 
+// What was lost, as text.
+fn print_summary(heard: &[u16]) {
+    let mut text = [0u8; 128];
+    let end = losses::summary::put_summary(heard, &mut text);
+    io::write_all(STDOUT_FILENO, &text[..end]);
+}
+
+fn write_header(fd: i32) {
+    let mut head = [0u8; 32];
+    let n = file::put_header(&mut head);
+    io::write_all(fd, &head[..n]);
+}
+
+// The picture behind its header, and then the summary.
+fn run(fd: i32, k: Knock) {
+    let mut heard = [0u16; 1125];
+    let mut picture = [0u16; 38400];
+    let mut bytes = [0u8; 76800];
+    write_header(fd);
+    match frame::write_frame(fd, k, &mut heard, &mut picture, &mut bytes) {
+        Written::All(_) => print_summary(&heard),
+        Written::Stopped => os::fail(b"the picture"),
+    }
+}
+
 fn main() {
     let mut input = [0u8; 8];
     let n = io::read_full(STDIN_FILENO, &mut input);
@@ -38,19 +64,6 @@ fn main() {
     if fd < 0 {
         return;
     }
-    let mut heard = [0u16; 1125];
-    let mut picture = [0u16; 38400];
-    let mut bytes = [0u8; 76800];
-    io::write_all(fd, b"P5\n3840 2160\n4095\n");
-    match frame::write_frame(fd, k, &mut heard, &mut picture, &mut bytes) {
-        Written::All(_) => {
-            libc::close(fd);
-            let mut text = [0u8; 128];
-            let end = losses::summary::put_summary(&heard, &mut text);
-            io::write_all(STDOUT_FILENO, &text[..end]);
-        }
-        Written::Stopped => {
-            os::fail(b"the picture");
-        }
-    }
+    run(fd, k);
+    libc::close(fd);
 }
