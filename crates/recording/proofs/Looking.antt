@@ -1,16 +1,18 @@
 -- The quick look: what it passes over is no place where a span may begin.
 -- Assumes nothing.
-use mathlib.Core.Path.{_≡_, sym, _∙_}
+use mathlib.Core.Path.{_≡_, refl, sym, ap, _∙_}
 use mathlib.Core.Bool.{true, false}
 use mathlib.Core.List.{List}
-use Prim.Native.Nat.{ℕ, _+_, _≤_, _<_}
+use Prim.Native.Nat.{ℕ, zero, suc, _+_, _-_, _≤_, _<_}
+use native.Mathlib.Numerals.{add-one}
 use native.Mathlib.Omega.{arith}
 use lib.Bits.{bitAnd, bitOr, or-add-and, and-le-l, and-le-r}
 use lib.Dec.{eqb, ltb}
+use lib.ListN.{getD}
 use borrow.Author.Tests.{ne-eqb, ltb-true, ltb-false}
 use Rattle.ground.proofs.Cases.{on-test}
 use Rattle.symbol.specs.Code.{symbolOf}
-use Rattle.recording.specs.Look.{isComma, commaIn, begins, mayBegin, Passed}
+use Rattle.recording.specs.Look.{isComma, commaIn, gathered, commaAt, pairAt, near, mayBegin, Passed}
 
 -- ---- one symbol
 
@@ -37,78 +39,101 @@ is-comma s e = on-test (isComma s) (λ t. t) (λ t. let z : _≡_ {A = ℕ} 0 1 
 not-comma : (s : ℕ) → (commaIn s ≡ 1 → ⊥) → isComma s ≡ false
 not-comma s n = on-test (isComma s) (λ t. absurd (n (rw t))) (λ t. t)
 
--- three symbols
-module _ (a b c : ℕ) where
-  pub first-fails : (commaIn a ≡ 1 → ⊥) → begins a b c ≡ false
-  first-fails n = rw (not-comma a n)
+-- ---- many symbols at once
 
-  -- none, or not two of them, where the number is 0
-  pub no-comma : {x : ℕ} → x ≡ commaIn a → x ≡ 0 → begins a b c ≡ false
-  no-comma e z = rw (is-none a (sym e ∙ z))
+module _ (mark : ℕ → ℕ) where
+  pub one-more : (n : ℕ) {x : ℕ} → x ≡ mark n → bitOr (gathered n mark) x ≡ gathered (n + 1) mark
+  unfolding gathered
+  one-more n e = rw e (sym (ap (λ (m : ℕ). gathered m mark) (add-one n)))
 
-  pub no-two : {x y : ℕ} → x ≡ commaIn a → y ≡ commaIn b → bitAnd x y ≡ 0 → begins a b c ≡ false
-  no-two {x} {y} e g z =
-      on-test (isComma a)
+  -- together 0: each is
+  pub each-none : (n : ℕ) → gathered n mark ≡ 0 → (k : ℕ) → k < n → mark k ≡ 0
+  unfolding gathered
+  each-none zero z k h = absurd (omega arith)
+  each-none (suc n) z k h =
+      let rest : gathered n mark ≡ 0 = omega (arith, or-add-and (gathered n mark) (mark n), and-le-r (gathered n mark) (mark n)) in
+      let last : mark n ≡ 0 = omega (arith, or-add-and (gathered n mark) (mark n), and-le-l (gathered n mark) (mark n)) in
+      on-test (ltb k n) (λ t. each-none n rest k (ltb-true k n t))
+      (λ t. let here : k ≡ n = omega (arith, ltb-false k n t) in ap mark here ∙ last)
+
+  -- and the other way round
+  pub all-none : (n : ℕ) → ((k : ℕ) → k < n → mark k ≡ 0) → gathered n mark ≡ 0
+  unfolding gathered
+  all-none zero each = refl
+  all-none (suc n) each = rw (all-none n (λ k h. each k (omega arith)), each n (omega arith)) refl
+
+-- ---- one place
+
+module _ (r : List ℕ) (q : ℕ) where
+  pub first-fails : (commaIn (getD r q 0) ≡ 1 → ⊥) → mayBegin r q ≡ false
+  first-fails n = rw (not-comma (getD r q 0) n)
+
+  pub no-comma : commaIn (getD r q 0) ≡ 0 → mayBegin r q ≡ false
+  no-comma z = rw (is-none (getD r q 0) z)
+
+  pub no-two : bitAnd (commaIn (getD r q 0)) (commaIn (getD r (q + 1) 0)) ≡ 0 → mayBegin r q ≡ false
+  no-two z =
+      on-test (isComma (getD r q 0))
       (λ t.
-      on-test (isComma b)
-      (λ u.
-      let p : x ≡ 1 = e ∙ rw t in
-      let q : y ≡ 1 = g ∙ rw u in
-      let one : bitAnd 1 1 ≡ 0 = rw (p, q) at z in
-      absurd (omega arith))
+      on-test (isComma (getD r (q + 1) 0))
+      (λ u. let one : bitAnd 1 1 ≡ 0 = rw (t, u) at z in absurd (omega arith))
       (λ u. rw (t, u)))
       (λ t. rw t)
 
-  module _ (first : commaIn a ≡ 1) where
-    pub second-fails : (commaIn b ≡ 1 → ⊥) → begins a b c ≡ false
-    second-fails n = rw (is-comma a first, not-comma b n)
+  module _ (first : commaIn (getD r q 0) ≡ 1) where
+    pub second-fails : (commaIn (getD r (q + 1) 0) ≡ 1 → ⊥) → mayBegin r q ≡ false
+    second-fails n = rw (is-comma (getD r q 0) first, not-comma (getD r (q + 1) 0) n)
 
-    pub third-tells : commaIn b ≡ 1 → eqb (commaIn c) 0 ≡ begins a b c
-    third-tells second =
-        rw (is-comma a first, is-comma b second)
-        (on-test (isComma c) (λ t. rw t) (λ t. rw t))
+    module _ (second : commaIn (getD r (q + 1) 0) ≡ 1) where
+      pub rest-tells : eqb (gathered near (commaAt r (q + 2))) 0 ≡ mayBegin r q
+      rest-tells = rw (is-comma (getD r q 0) first, is-comma (getD r (q + 1) 0) second) refl
+
+      pub third-fails : (commaIn (getD r (q + 2) 0) ≡ 0 → ⊥) → mayBegin r q ≡ false
+      third-fails n =
+          sym rest-tells
+          ∙ ne-eqb (gathered near (commaAt r (q + 2))) 0
+          (λ z.
+          let here : q + 2 + 0 ≡ q + 2 = omega arith in
+          n (rw here at (each-none (commaAt r (q + 2)) near z 0 (omega arith))))
 
 module _ (r : List ℕ) where
   -- ---- places passed over
 
-  pub nothing-yet : {from to : ℕ} → from ≤ to → Passed r from to from
-  nothing-yet h = record { at = omega arith; below = h; none = λ j p q. absurd (omega arith) }
+  pub nothing-yet : (from : ℕ) → Passed r from from
+  nothing-yet from = record { at = omega arith; none = λ j p q. absurd (omega arith) }
 
   -- those up to mid, and those from there on
-  pub further : {from mid to end q : ℕ} → Passed r from to mid → Passed r mid end q → end ≤ to → Passed r from to q
-  further {from} {mid} {to} {end} {q} a b h =
+  pub further : {from mid q : ℕ} → Passed r from mid → Passed r mid q → Passed r from q
+  further {from} {mid} {q} a b =
       record {
         at = omega (arith, a .at, b .at);
-        below = omega (arith, b .below);
         none = λ j p l. on-test (ltb j mid) (λ t. a .none j p (ltb-true j mid t)) (λ t. b .none j (ltb-false j mid t) l);
       }
 
+  -- no more of them than are asked for
+  pub up-to : {from mid q : ℕ} → Passed r from q → from ≤ mid → mid ≤ q → Passed r from mid
+  up-to p a b = record { at = a; none = λ j h l. p .none j h (omega arith) }
+
   -- one place
-  one-passed : {q : ℕ} → mayBegin r q ≡ false → Passed r q (q + 1) (q + 1)
-  one-passed {q} e =
+  one-passed : {q : ℕ} → mayBegin r q ≡ false → Passed r q (q + 1)
+  one-passed {q} e = record { at = omega arith; none = λ j p l. let is : j ≡ q = omega arith in rw is e }
+
+  pub without : {from q : ℕ} → Passed r from q → mayBegin r q ≡ false → Passed r from (q + 1)
+  without p e = further p (one-passed e)
+
+  -- n places by marks: where a mark is 0 no span begins
+  marked : (from n : ℕ) (mark : ℕ → ℕ) → ((k : ℕ) → mark k ≡ 0 → mayBegin r (from + k) ≡ false) → gathered n mark ≡ 0
+      → Passed r from (from + n)
+  marked from n mark tells z =
       record {
         at = omega arith;
-        below = omega arith;
-        none = λ j p l. let is : j ≡ q = omega arith in rw is e;
+        none = λ j p l.
+            let here : from + (j - from) ≡ j = omega arith in
+            rw here at (tells (j - from) (each-none mark n z (j - from) (omega arith)));
       }
 
-  pub without : {from to q : ℕ} → Passed r from to q → q < to → mayBegin r q ≡ false → Passed r from to (q + 1)
-  without p h e = further p (one-passed e) (omega arith)
+  pub no-commas : (from n : ℕ) {x : ℕ} → x ≡ gathered n (commaAt r from) → x ≡ 0 → Passed r from (from + n)
+  no-commas from n e z = marked from n (commaAt r from) (λ k. no-comma r (from + k)) (sym e ∙ z)
 
-  -- ---- a run of symbols, of which none is asked about by itself: where nothing was found, no span begins up to i
-
-  pub record Gathers (from to i found : ℕ) : Type 0 where
-    pub clean : found ≡ 0 → Passed r from to i
-
-  pub gather-begin : {from to : ℕ} → from ≤ to → Gathers from to from 0
-  gather-begin h = record { clean = λ _. nothing-yet h }
-
-  pub gather-turn : {from to i found x : ℕ} → Gathers from to i found → i < to → (x ≡ 0 → mayBegin r i ≡ false)
-      → Gathers from to (i + 1) (bitOr found x)
-  gather-turn {from} {to} {i} {found} {x} g h none =
-      record {
-        clean = λ z.
-            let left : found ≡ 0 = omega (arith, or-add-and found x, and-le-r found x) in
-            let right : x ≡ 0 = omega (arith, or-add-and found x, and-le-l found x) in
-            without (g .clean left) h (none right);
-      }
+  pub no-pairs : (from n : ℕ) {x : ℕ} → x ≡ gathered n (pairAt r from) → x ≡ 0 → Passed r from (from + n)
+  no-pairs from n e z = marked from n (pairAt r from) (λ k. no-two r (from + k)) (sym e ∙ z)

@@ -28,7 +28,8 @@ use Rattle.window.specs.Scan.{startOf, runningAt}
 use Rattle.window.proofs.Accepting.{Accepted, accepted-told}
 use Rattle.window.proofs.Specials.{k28-5-at, only-k28-5}
 use Rattle.delivery.specs.Marked.{Whole, Marked}
-use Rattle.recording.specs.Look.{isComma, mayBegin}
+use Rattle.recording.specs.Look.{isComma, commaAt, gathered, near, mayBegin}
+use Rattle.recording.proofs.Looking.{all-none}
 use Rattle.recording.specs.Recording.{Reading, withWords, reading, accepts}
 
 module _ (f : Format) (w : List ℕ) where
@@ -84,8 +85,9 @@ module _ (f : Format) (known : isKnown f ≡ true) where
   abbrev n : ℕ
   n = symbolsIn (shapeOf f)
 
-  pub three : 3 ≤ n
-  three = omega (arith, known-has-streams f known)
+  -- longer than what the quick look needs behind its last place
+  pub long : 66 + near + 3 ≤ n
+  long = omega (arith, known-has-streams f known)
 
   module _ (w : List ℕ) (x : Reading) (e : reading f w ≡ some x) where
     acc : Accepted f w
@@ -102,27 +104,40 @@ module _ (f : Format) (known : isKnown f ≡ true) where
     only i h t = let (d, is) = of-form (getD w i 0) t in only-k28-5 f w known acc i h d is
 
   pub span-whole : Whole n (reading f)
-  span-whole = record { least = omega (arith, three); long = λ w x e. reading-told f w x e .long }
+  span-whole = record { least = omega (arith, long); long = λ w x e. reading-told f w x e .long }
 
   pub span-marked : Marked n (reading f) isComma
-  span-marked = record { three = three; whole = span-whole; first = first; second = second; only = only }
+  span-marked = record { three = omega (arith, long); whole = span-whole; first = first; second = second; only = only }
 
-  -- so the quick look passes no place where a span is read
-  pub accepted-begins : (r : List ℕ) (q : ℕ) → accepts f (take n (drop q r)) ≡ true → mayBegin r q ≡ true
-  accepted-begins r q t = go (reading f (take n (drop q r))) refl
-    where
-      at : (i : ℕ) → i < n → getD (take n (drop q r)) i 0 ≡ getD r (q + i) 0
-      at i h = getD-take n (drop q r) i 0 h ∙ getD-drop q r i 0
+  -- the window at a place of a recording
+  module _ (r : List ℕ) (q : ℕ) where
+    abbrev window : List ℕ
+    window = take n (drop q r)
 
-      go : (o : Option Reading) → reading f (take n (drop q r)) ≡ o → mayBegin r q ≡ true
-      go none e = absurd (true≢false (sym t ∙ ap isSome e))
-      go (some x) e =
-          let window = take n (drop q r) in
-          let here : q + 0 ≡ q = omega arith in
-          let one = sym (ap isComma (at 0 (omega (arith, three)))) ∙ first window x e in
-          let two = sym (ap isComma (at 1 (omega (arith, three)))) ∙ second window x e in
-          let other : isComma (getD r (q + 2) 0) ≡ false =
-          on-test (isComma (getD r (q + 2) 0))
-          (λ t. let early = only window x e 2 (omega (arith, three)) (ap isComma (at 2 (omega (arith, three))) ∙ t) in absurd (omega arith))
-          (λ t. t) in
-          rw (rw here at one, two, other)
+    at : (i : ℕ) → i < n → getD window i 0 ≡ getD r (q + i) 0
+    at i h = getD-take n (drop q r) i 0 h ∙ getD-drop q r i 0
+
+    read-there : accepts f window ≡ true → (x : Reading) × (reading f window ≡ some x)
+    read-there t = go (reading f window) refl
+      where
+        go : (o : Option Reading) → reading f window ≡ o → (x : Reading) × (reading f window ≡ some x)
+        go none e = absurd (true≢false (sym t ∙ ap isSome e))
+        go (some x) e = (x, e)
+
+    -- so the quick look passes no place where a span is read
+    pub accepted-begins : accepts f window ≡ true → mayBegin r q ≡ true
+    accepted-begins t =
+        let (x, e) = read-there t in
+        let here : q + 0 ≡ q = omega arith in
+        let one = sym (ap isComma (at 0 (omega (arith, long)))) ∙ first window x e in
+        let two = sym (ap isComma (at 1 (omega (arith, long)))) ∙ second window x e in
+        let rest : gathered near (commaAt r (q + 2)) ≡ 0 =
+        all-none (commaAt r (q + 2)) near
+        (λ k h.
+        on-test (isComma (getD r (q + 2 + k) 0))
+        (λ u.
+        let place : q + (2 + k) ≡ q + 2 + k = omega arith in
+        let early = only window x e (2 + k) (omega (arith, long)) (ap isComma (at (2 + k) (omega (arith, long))) ∙ rw place u) in
+        absurd (omega arith))
+        (λ u. rw u)) in
+        rw (rw here at one, two, rest)

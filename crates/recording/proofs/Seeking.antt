@@ -57,8 +57,8 @@ module _ (f : Format) (r : List ℕ) where
 
   module _ (known : isKnown f ≡ true) where
     -- what the quick look passes over
-    pub pass : {start i to q : ℕ} → Sofar start i → Passed r i to q → Sofar start q
-    pass {start} {i} {to} {q} s p =
+    pub pass : {start i q : ℕ} → Sofar start i → Passed r i q → Sofar start q
+    pass {start} {i} {q} s p =
         record {
           at = omega (arith, s .at, p .at);
           none = λ j h l. on-test (ltb j i) (λ t. s .none j h (ltb-true j i t)) (λ t. passed j (p .none j (ltb-false j i t) l));

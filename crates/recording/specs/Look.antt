@@ -1,9 +1,10 @@
 -- The quick look: a place is passed over where no span can begin.
 -- Assumes nothing.
-use Prim.Native.Nat.{ℕ, _+_, _≤_, _<_}
+use Prim.Native.Nat.{ℕ, zero, suc, _+_, _≤_, _<_}
 use mathlib.Core.Path.{_≡_}
 use mathlib.Core.Bool.{Bool, false, not, cond, _&&_, _||_}
 use mathlib.Core.List.{List}
+use lib.Bits.{bitAnd, bitOr}
 use lib.Dec.{eqb}
 use lib.ListN.{getD}
 use Rattle.symbol.specs.declared.disparity.Disparity.the-variants.{Negative, Positive}
@@ -19,16 +20,32 @@ isComma s = eqb s (symbolOf Negative (numberOf «K28_5»)) || eqb s (symbolOf Po
 abbrev pub commaIn : ℕ → ℕ
 commaIn s = cond (isComma s) 1 0
 
--- a span may begin with these: K28.5 twice, and then something else
-abbrev pub begins : ℕ → ℕ → ℕ → Bool
-begins a b c = isComma a && (isComma b && not (isComma c))
+-- ---- many symbols at once
 
--- it may begin at q
+-- n marks together: 0 only where each is 0
+unfoldable pub gathered : ℕ → (ℕ → ℕ) → ℕ
+gathered zero mark = 0
+gathered (suc n) mark = bitOr (gathered n mark) (mark n)
+
+-- the mark of the symbol k behind a place: 1 where it is K28.5
+abbrev pub commaAt : List ℕ → ℕ → ℕ → ℕ
+commaAt r from k = commaIn (getD r (from + k) 0)
+
+-- 1 where it is and the next one too
+abbrev pub pairAt : List ℕ → ℕ → ℕ → ℕ
+pairAt r from k = bitAnd (commaAt r from k) (commaIn (getD r (from + k + 1) 0))
+
+-- ---- where a span may begin
+
+-- the symbols behind its first two that are looked at
+abbrev pub near : ℕ
+near = 128
+
+-- it may begin at q: K28.5 stands there twice, and not again near behind
 abbrev pub mayBegin : List ℕ → ℕ → Bool
-mayBegin r q = begins (getD r q 0) (getD r (q + 1) 0) (getD r (q + 2) 0)
+mayBegin r q = isComma (getD r q 0) && (isComma (getD r (q + 1) 0) && eqb (gathered near (commaAt r (q + 2))) 0)
 
 -- q is at or after a place, and no span begins from that place on before q
-pub record Passed (r : List ℕ) (from to q : ℕ) : Type 0 where
+pub record Passed (r : List ℕ) (from q : ℕ) : Type 0 where
   pub at : from ≤ q
-  pub below : q ≤ to
   pub none : (j : ℕ) → from ≤ j → j < q → mayBegin r j ≡ false

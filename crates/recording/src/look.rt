@@ -2,10 +2,13 @@
 ghost use mathlib.Core.Path.{_≡_};
 ghost use Prim.Native.Nat.{_+_, _≤_};
 ghost use lib.ListN.{length};
-ghost use Rattle.recording.specs.Look.{commaIn, begins, Passed};
+ghost use Rattle.recording.specs.Look.{commaIn, gathered, commaAt, pairAt, near, mayBegin, Passed};
 
-// Symbols that are looked at together.
+// Symbols that are looked at together. The compiler knows the number, and makes the loop over them flat.
 const PIECE: usize = 64;
+
+// Symbols behind a start that are looked at before a span is read: starts close to each other do not cost a span each.
+const NEAR: usize = 128;
 
 // 1 for K28.5 in either form, else 0.
 fn comma(s: u16) -> u16
@@ -20,43 +23,45 @@ fn comma(s: u16) -> u16
     0
 }
 
-// 0 only where no symbol from one place to another is K28.5. None is asked about by itself, so that the loop has one way out.
-fn commas(symbols: &[u16], from: usize, to: usize) -> u16
-    requires { ⌜ from ≤ to ⌝ }
-    requires { ⌜ to ≤ length (now symbols) ⌝ }
-    ensures { λ r. ⌜ (r ≡ 0 → Passed (now (symbols .entry)) from to to) ⌝ }
+// 0 only where none of so many symbols is K28.5. None is asked about by itself, so that the loop has one way out.
+pub(crate) fn commas(symbols: &[u16], from: usize, count: usize) -> u16
+    requires { ⌜ from + count ≤ length (now symbols) ⌝ }
+    ensures { λ r. ⌜ r ≡ gathered count (commaAt (now (symbols .entry)) from) ⌝ }
 {
     let mut found = 0;
-    let mut i = from;
-    while i < to {
-        found = found | comma(symbols[i]);
-        i += 1;
+    let mut k = 0;
+    while k < count {
+        found = found | comma(symbols[from + k]);
+        k += 1;
     }
     found
 }
 
 // 0 only where it stands nowhere twice: so it is nearly everywhere in noise, even where K28.5 is in it.
-fn twice(symbols: &[u16], from: usize, to: usize) -> u16
-    requires { ⌜ from ≤ to ⌝ }
-    requires { ⌜ to + 1 ≤ length (now symbols) ⌝ }
-    ensures { λ r. ⌜ (r ≡ 0 → Passed (now (symbols .entry)) from to to) ⌝ }
+fn twice(symbols: &[u16], from: usize, count: usize) -> u16
+    requires { ⌜ from + count + 1 ≤ length (now symbols) ⌝ }
+    ensures { λ r. ⌜ r ≡ gathered count (pairAt (now (symbols .entry)) from) ⌝ }
 {
     let mut found = 0;
-    let mut i = from;
-    while i < to {
-        found = found | comma(symbols[i]) & comma(symbols[i + 1]);
-        i += 1;
+    let mut k = 0;
+    while k < count {
+        found = found | comma(symbols[from + k]) & comma(symbols[from + k + 1]);
+        k += 1;
     }
     found
 }
 
-// Whether a span may begin with three symbols: K28.5 twice, and then something else.
-fn may_begin(a: u16, b: u16, c: u16) -> bool
-    ensures { λ r. ⌜ r ≡ begins a b c ⌝ }
+// Whether a span may begin at a place: K28.5 stands twice, and not again near behind. The third symbol is asked first, since the first of many
+// that are K28.5 is then soon passed over.
+fn may_begin(symbols: &[u16], i: usize) -> bool
+    requires { ⌜ i + 2 + near ≤ length (now symbols) ⌝ }
+    ensures { λ r. ⌜ r ≡ mayBegin (now (symbols .entry)) i ⌝ }
 {
-    if comma(a) == 1 {
-        if comma(b) == 1 {
-            return comma(c) == 0;
+    if comma(symbols[i]) == 1 {
+        if comma(symbols[i + 1]) == 1 {
+            if comma(symbols[i + 2]) == 0 {
+                return commas(symbols, i + 2, NEAR) == 0;
+            }
         }
     }
     false
@@ -64,31 +69,29 @@ fn may_begin(a: u16, b: u16, c: u16) -> bool
 
 // The first place, of those from one to another, at which a span may begin; the end where there is none.
 fn look_in(symbols: &[u16], from: usize, to: usize) -> usize
-    requires { ⌜ from ≤ to ⌝ }
-    requires { ⌜ to + 2 ≤ length (now symbols) ⌝ }
-    ensures { λ q. ⌜ Passed (now (symbols .entry)) from to q ⌝ }
+    requires { ⌜ to + 2 + near ≤ length (now symbols) ⌝ }
+    ensures { λ q. ⌜ Passed (now (symbols .entry)) from q ⌝ }
 {
     let mut i = from;
     while i < to {
-        if may_begin(symbols[i], symbols[i + 1], symbols[i + 2]) {
+        if may_begin(symbols, i) {
             return i;
         }
         i += 1;
     }
-    to
+    i
 }
 
-// The same, piece by piece: most have no K28.5.
+// The same, piece by piece: most have no K28.5. The last piece may go beyond the end.
 pub(crate) fn look(symbols: &[u16], from: usize, to: usize) -> usize
-    requires { ⌜ from ≤ to ⌝ }
-    requires { ⌜ to + 2 ≤ length (now symbols) ⌝ }
-    ensures { λ q. ⌜ Passed (now (symbols .entry)) from to q ⌝ }
+    requires { ⌜ to + 66 + near ≤ length (now symbols) ⌝ }
+    ensures { λ q. ⌜ Passed (now (symbols .entry)) from q ⌝ }
 {
     let mut i = from;
     while i < to {
-        let end = i + ground::least::least(PIECE, to - i);
-        if commas(symbols, i, end) != 0 {
-            if twice(symbols, i, end) != 0 {
+        let end = i + PIECE;
+        if commas(symbols, i, PIECE) != 0 {
+            if twice(symbols, i, PIECE) != 0 {
                 let q = look_in(symbols, i, end);
                 if q < end {
                     return q;
@@ -97,5 +100,5 @@ pub(crate) fn look(symbols: &[u16], from: usize, to: usize) -> usize
         }
         i = end;
     }
-    to
+    i
 }

@@ -6,10 +6,10 @@ use crate::operations::Speeds;
 use crate::tables::grouped;
 
 const WIDTH: f64 = 960.0;
-const HEIGHT: f64 = 920.0;
+const HEIGHT: f64 = 942.0;
 
 const VERSIONS: [(&str, &str); 3] = [("library", "#0b5fa5"), ("hand-optimised", "#e08214"), ("independent", "#8a8a8a")];
-const COLOURS: [&str; 8] = ["#1b9e77", "#66c2a5", "#7570b3", "#d95f02", "#e7298a", "#a6761d", "#666666", "#0b5fa5"];
+const COLOURS: [&str; 9] = ["#1b9e77", "#66c2a5", "#7570b3", "#d95f02", "#e7298a", "#e6ab02", "#a6761d", "#666666", "#0b5fa5"];
 
 fn rectangle(x: f64, y: f64, width: f64, height: f64, colour: &str) -> String {
     format!("<rect x=\"{x:.1}\" y=\"{y:.1}\" width=\"{width:.1}\" height=\"{height:.1}\" fill=\"{colour}\"/>\n")

@@ -39,12 +39,12 @@ pub fn false_starts() -> Vec<u16> {
     symbols(false, &characters).0
 }
 
-/// The SAV of an active line, again and again: every twelfth place looks like the start of a span for as long as a SAV has symbols.
-pub fn timing_codes() -> Vec<u16> {
+/// The first so many symbols of an active line's span, again and again: places so far apart look like the start of a span for as long.
+pub fn beginnings(count: usize) -> Vec<u16> {
     let (mut random, shape) = (Random(8), span_shape());
     let words = made_words(&mut random, shape, DEPTH, 100);
-    let sav = &made_characters(&mut random, shape, &words)[..12];
-    let characters: Vec<u16> = (0..LIMIT).map(|i| sav[i % 12]).collect();
+    let beginning = &made_characters(&mut random, shape, &words)[..count];
+    let characters: Vec<u16> = (0..LIMIT).map(|i| beginning[i % count]).collect();
     symbols(false, &characters).0
 }
 

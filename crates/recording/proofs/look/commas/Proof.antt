@@ -1,22 +1,27 @@
 -- `recording::look::commas` meets its contract.
 -- Assumes nothing.
-use mathlib.Core.Path.{_≡_}
+use mathlib.Core.Path.{_≡_, refl, ap, _∙_}
+use Prim.Native.Nat.{ℕ, _-_, _≤_}
 use native.Mathlib.Omega.{arith}
-use lib.ListN.{getD}
+use lib.Bits.{bitOr}
 use borrow.Author.Needs.{needs}
-use Prim.Native.Nat.{_-_, _≤_}
-use Rattle.recording.proofs.Looking.{no-comma, Gathers, gather-begin, gather-turn}
+use Rattle.recording.specs.Look.{gathered, commaAt}
+use Rattle.recording.proofs.Looking.{one-more}
 use Rattle.recording.proofs.look.commas.Statement.{statement}
 use Rattle.recording.proofs.look.commas.Tie as tie
 
 abbrev Inv-loop : tie.InvT-loop
-Inv-loop symbols from to found₀ i₀ found i = (i ≤ to) × Gathers symbols from to i found
+Inv-loop symbols from count found₀ k₀ found k = (k ≤ count) × (found ≡ gathered k (commaAt symbols from))
 
 abbrev μ-loop : tie.MeasureT-loop
-μ-loop symbols from to found₀ i₀ found i = to - i
+μ-loop symbols from count found₀ k₀ found k = count - k
 
 loop-holds : tie.Need-loop-holds Inv-loop μ-loop
-loop-holds c = (c .before .pre .0, gather-begin (c .before .args .symbols .now) (c .before .pre .0))
+unfolding gathered
+loop-holds c = (omega arith, refl)
+
+add-comma : tie.Need-add-comma Inv-loop μ-loop
+add-comma c = search needs
 
 mul-comma : tie.Need-mul-comma Inv-loop μ-loop
 mul-comma c = search needs
@@ -27,24 +32,22 @@ shared-slice-read-comma c = search needs
 comma-requires : tie.Need-comma-requires Inv-loop μ-loop
 comma-requires c κs = search needs
 
-add-i : tie.Need-add-i Inv-loop μ-loop
-add-i c = search needs
+add-k : tie.Need-add-k Inv-loop μ-loop
+add-k c = search needs
 
 loop-less : tie.Need-loop-less Inv-loop μ-loop
 loop-less c = search needs
 
 loop-again : tie.Need-loop-again Inv-loop μ-loop
 loop-again c =
-    let r = c .before .before .before .before .before .args .symbols .now in
     let v = c .before .before .before .loop in
-    (search needs, gather-turn r (v .inv .1) (c .before .before .loop-test .taken) (no-comma (getD r (v .i) 0) _ _ (c .comma .ensures)))
+    (search needs, ap (λ (x : ℕ). bitOr x (c .comma .result)) (v .inv .1) ∙ one-more (commaAt (c .before .before .before .before .before .args .symbols .now) (c .before .before .before .before .before .args .from)) (v .k) (c .comma .ensures))
 
 returns : tie.Need-returns Inv-loop μ-loop
 returns c =
-    let s = c .before .before .before in
     let v = c .before .loop in
-    let end : v .i ≡ s .args .to = omega (arith, v .inv .0) in
-    λ z. rw end at (v .inv .1 .clean z)
+    let end : v .k ≡ c .before .before .before .args .count = omega (arith, v .inv .0) in
+    rw end at (v .inv .1)
 
 pub commas-spec : {M : Type 1} → statement M
 commas-spec =
@@ -53,10 +56,11 @@ commas-spec =
     Inv-loop
     μ-loop
     loop-holds
+    add-comma
     mul-comma
     shared-slice-read-comma
     comma-requires
-    add-i
+    add-k
     loop-less
     loop-again
     returns)

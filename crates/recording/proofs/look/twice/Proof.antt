@@ -1,22 +1,27 @@
 -- `recording::look::twice` meets its contract.
 -- Assumes nothing.
-use mathlib.Core.Path.{_≡_}
+use mathlib.Core.Path.{_≡_, refl, ap, ap₂, _∙_}
+use Prim.Native.Nat.{ℕ, _-_, _≤_}
 use native.Mathlib.Omega.{arith}
+use lib.Bits.{bitAnd, bitOr}
 use borrow.Author.Needs.{needs}
-use Prim.Native.Nat.{_-_, _≤_}
-use lib.ListN.{getD}
-use Rattle.recording.proofs.Looking.{no-two, Gathers, gather-begin, gather-turn}
+use Rattle.recording.specs.Look.{gathered, pairAt}
+use Rattle.recording.proofs.Looking.{one-more}
 use Rattle.recording.proofs.look.twice.Statement.{statement}
 use Rattle.recording.proofs.look.twice.Tie as tie
 
 abbrev Inv-loop : tie.InvT-loop
-Inv-loop symbols from to found₀ i₀ found i = (i ≤ to) × Gathers symbols from to i found
+Inv-loop symbols from count found₀ k₀ found k = (k ≤ count) × (found ≡ gathered k (pairAt symbols from))
 
 abbrev μ-loop : tie.MeasureT-loop
-μ-loop symbols from to found₀ i₀ found i = to - i
+μ-loop symbols from count found₀ k₀ found k = count - k
 
 loop-holds : tie.Need-loop-holds Inv-loop μ-loop
-loop-holds c = (c .before .pre .0, gather-begin (c .before .args .symbols .now) (c .before .pre .0))
+unfolding gathered
+loop-holds c = (omega arith, refl)
+
+add-comma : tie.Need-add-comma Inv-loop μ-loop
+add-comma c = search needs
 
 mul-comma : tie.Need-mul-comma Inv-loop μ-loop
 mul-comma c = search needs
@@ -27,8 +32,11 @@ shared-slice-read-comma c = search needs
 comma-requires : tie.Need-comma-requires Inv-loop μ-loop
 comma-requires c κs = search needs
 
-add-comma : tie.Need-add-comma Inv-loop μ-loop
-add-comma c = search needs
+add-comma-2 : tie.Need-add-comma-2 Inv-loop μ-loop
+add-comma-2 c = search needs
+
+add-comma-3 : tie.Need-add-comma-3 Inv-loop μ-loop
+add-comma-3 c = search needs
 
 mul-comma-2 : tie.Need-mul-comma-2 Inv-loop μ-loop
 mul-comma-2 c = search needs
@@ -39,24 +47,24 @@ shared-slice-read-comma-2 c = search needs
 comma-requires-2 : tie.Need-comma-requires-2 Inv-loop μ-loop
 comma-requires-2 c κs = search needs
 
-add-i : tie.Need-add-i Inv-loop μ-loop
-add-i c = search needs
+add-k : tie.Need-add-k Inv-loop μ-loop
+add-k c = search needs
 
 loop-less : tie.Need-loop-less Inv-loop μ-loop
 loop-less c = search needs
 
 loop-again : tie.Need-loop-again Inv-loop μ-loop
 loop-again c =
-    let r = c .before .before .before .before .before .before .before .args .symbols .now in
+    let s = c .before .before .before .before .before .before .before in
     let v = c .before .before .before .before .before .loop in
-    (search needs, gather-turn r (v .inv .1) (c .before .before .before .before .loop-test .taken) (no-two (getD r (v .i) 0) _ _ (c .before .before .comma .ensures) (c .comma2 .ensures)))
+    let pair = bitAnd (c .before .before .comma .result) (c .comma2 .result) in
+    (search needs, ap (λ (x : ℕ). bitOr x pair) (v .inv .1) ∙ one-more (pairAt (s .args .symbols .now) (s .args .from)) (v .k) (ap₂ bitAnd (c .before .before .comma .ensures) (c .comma2 .ensures)))
 
 returns : tie.Need-returns Inv-loop μ-loop
 returns c =
-    let s = c .before .before .before in
     let v = c .before .loop in
-    let end : v .i ≡ s .args .to = omega (arith, v .inv .0) in
-    λ z. rw end at (v .inv .1 .clean z)
+    let end : v .k ≡ c .before .before .before .args .count = omega (arith, v .inv .0) in
+    rw end at (v .inv .1)
 
 pub twice-spec : {M : Type 1} → statement M
 twice-spec =
@@ -65,14 +73,16 @@ twice-spec =
     Inv-loop
     μ-loop
     loop-holds
+    add-comma
     mul-comma
     shared-slice-read-comma
     comma-requires
-    add-comma
+    add-comma-2
+    add-comma-3
     mul-comma-2
     shared-slice-read-comma-2
     comma-requires-2
-    add-i
+    add-k
     loop-less
     loop-again
     returns)

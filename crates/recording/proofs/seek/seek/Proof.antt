@@ -11,7 +11,7 @@ use Rattle.window.specs.Read.{pictureOf, readOf, rowsLeft}
 use Rattle.span.specs.declared.length.SpanLengths.{SpanLengths}
 use Rattle.span.specs.Format.{shapeOf, samplesIn}
 use Rattle.read.specs.Call.{paperRead}
-use Rattle.recording.proofs.Readings.{three}
+use Rattle.recording.proofs.Readings.{long}
 use Rattle.recording.proofs.Seeking.{Sofar, begin, pass, refuse-by, deliver, nothing, none-answered, some-answered, no-key}
 use Rattle.recording.proofs.seek.seek.Statement.{statement}
 use Rattle.recording.proofs.seek.seek.Tie as tie
@@ -38,7 +38,7 @@ sub-to c = omega (arith, c .if1 .left)
 add-to : tie.Need-add-to Inv-loop μ-loop
 add-to c =
     let n = ap (λ (l : SpanLengths). l .symbols) (c .before .span-lengths .ensures) in
-    let few = three (c .before .before .before .before .args .f) (c .before .before .before .before .pre .0) in
+    let few = long (c .before .before .before .before .args .f) (c .before .before .before .before .pre .0) in
     let b : length (c .before .before .before .before .args .symbols .now) - c .before .span-lengths .result .symbols + 1 ≤ length (c .before .before .before .before .args .symbols .now) = omega (arith, few, n, c .if1 .left) in
     search needs
 
@@ -48,8 +48,8 @@ loop-holds c = (begin (c .before .before .before .before .args .f) (c .before .b
 look-requires : tie.Need-look-requires Inv-loop μ-loop
 look-requires c κs =
     let n = ap (λ (l : SpanLengths). l .symbols) (c .before .before .before .span-lengths .ensures) in
-    let few = three (c .before .before .before .before .before .before .args .f) (c .before .before .before .before .before .before .pre .0) in
-    (omega (arith, c .loop-test .taken), omega (arith, few, n, c .before .before .if1 .left))
+    let few = long (c .before .before .before .before .before .before .args .f) (c .before .before .before .before .before .before .pre .0) in
+    omega (arith, few, n, c .before .before .if1 .left)
 
 add-read : tie.Need-add-read Inv-loop μ-loop
 add-read c = search needs
@@ -99,7 +99,7 @@ add-i c = search needs
 loop-less : tie.Need-loop-less Inv-loop μ-loop
 loop-less c =
     let n = ap (λ (l : SpanLengths). l .symbols) (c .before .before .before .before .before .before .before .before .before .before .before .span-lengths .ensures) in
-    let few = three (c .before .before .before .before .before .before .before .before .before .before .before .before .before .before .args .f) (c .before .before .before .before .before .before .before .before .before .before .before .before .before .before .pre .0) in
+    let few = long (c .before .before .before .before .before .before .before .before .before .before .before .before .before .before .args .f) (c .before .before .before .before .before .before .before .before .before .before .before .before .before .before .pre .0) in
     omega (arith, n, few, c .before .before .before .before .before .before .before .look .ensures .at, c .before .before .before .before .before .before .if2 .taken)
 
 loop-again : tie.Need-loop-again Inv-loop μ-loop
