@@ -14,12 +14,14 @@ use lib.ListN.{length, getD}
 use borrow.Author.Tests.{lt-ltb, le-ltb}
 use Rattle.ground.specs.Written.{upto, table}
 use Rattle.ground.specs.Xor.{_⊕_}
-use Rattle.ground.proofs.Writing.{upto-more, upto-split, length-table, getD-table, table-same}
-use Rattle.ground.proofs.Xors.{⊕-is, ⊕-zero, ⊕-comm, ⊕-self, ⊕-assoc, ⊕-middle, ⊕-div, ⊕-mod, ⊕-times, ⊕-shifted}
+use Rattle.ground.proofs.Writing.{upto-split, length-table, getD-table, table-same}
+use Rattle.ground.proofs.Xors.{⊕-is, ⊕-zero, zero-⊕, ⊕-comm, ⊕-self, ⊕-assoc, ⊕-div, ⊕-times, ⊕-shifted}
 use Rattle.crcc.specs.Crcc.{taps, bitStep, bitSteps, crc, crcWord}
-use Rattle.crcc.proofs.Crc.{word-step, crc-append, crc-below}
+use Rattle.crcc.specs.Ahead.{ahead}
+use Rattle.crcc.proofs.Crc.{crc-append, crc-below}
+use Rattle.crcc.proofs.Linear.{aheadBy, ahead-by, step-⊕, ahead-⊕, ahead-zero, ahead-turned, ahead-below, crc-next}
 use Rattle.send.specs.declared.picture.Sums.{Sums}
-use Rattle.send.specs.Put.{wordAt, sumsAt, summed, ahead}
+use Rattle.send.specs.Put.{wordAt, sumsAt, summed}
 
 -- four numbers that are the same are the same sums
 pub same-sums : {a a' b b' c c' e e' : ℕ} → a ≡ a' → b ≡ b' → c ≡ c' → e ≡ e'
@@ -30,11 +32,6 @@ pub no-sums : (n : ℕ) (ws : List ℕ) → _≡_ {A = Sums} (record { first = 0
 unfolding crc table upto
 no-sums n ws = refl
 
--- a word more of a run
-one-sum : (f : ℕ → ℕ) (j : ℕ) → crcWord (crc 0 (table j f)) (f j) ≡ crc 0 (table (j + 1) f)
-unfolding table crc
-one-sum f j = crc-append 0 (table j f) (f j ∷ []) ∙ ap (crc 0) (sym (upto-more j (λ k. f k ∷ [])))
-
 pub more-sums : (n : ℕ) (ws : List ℕ) (j : ℕ) {s r : Sums} → s ≡ sumsAt n ws j → r ≡ summed n ws j s → r ≡ sumsAt n ws (j + 1)
 more-sums n ws j e q =
     q
@@ -44,39 +41,12 @@ more-sums n ws j e q =
   where
     run : (k i : ℕ) → i ≡ n * k + j → crcWord (crc 0 (table j (λ i. getD ws (n * k + i) 0))) (getD ws i 0) ≡ crc 0 (table (j + 1) (λ i. getD ws (n * k + i) 0))
     run k i p =
-        ap (λ (x : ℕ). crcWord (crc 0 (table j (λ i. getD ws (n * k + i) 0))) (getD ws x 0)) p ∙ one-sum (λ i. getD ws (n * k + i) 0) j
-
--- a word step, of a sum
-abbrev formed : ℕ → ℕ → ℕ
-formed h x = h ⊕ x * 64 ⊕ x * 4 ⊕ x * 2
-
-formed-⊕ : (h k x y : ℕ) → formed (h ⊕ k) (x ⊕ y) ≡ formed h x ⊕ formed k y
-formed-⊕ h k x y =
-    ap₂ (λ (a b : ℕ). h ⊕ k ⊕ a ⊕ b ⊕ (x ⊕ y) * 2) (⊕-times x y 6) (⊕-times x y 2)
-    ∙ ap (λ (a : ℕ). h ⊕ k ⊕ (x * 64 ⊕ y * 64) ⊕ (x * 4 ⊕ y * 4) ⊕ a) (⊕-times x y 1)
-    ∙ ap (λ (a : ℕ). a ⊕ (x * 4 ⊕ y * 4) ⊕ (x * 2 ⊕ y * 2)) (⊕-middle h k (x * 64) (y * 64))
-    ∙ ap (λ (a : ℕ). a ⊕ (x * 2 ⊕ y * 2)) (⊕-middle (h ⊕ x * 64) (k ⊕ y * 64) (x * 4) (y * 4))
-    ∙ ⊕-middle (h ⊕ x * 64 ⊕ x * 4) (k ⊕ y * 64 ⊕ y * 4) (x * 2) (y * 2)
-
-zero-step : (c : ℕ) → formed (c / 4096) (c % 4096) ≡ crcWord c 0
-zero-step c = ap (λ (y : ℕ). formed (c / 4096) (y % 4096)) (sym (⊕-zero c)) ∙ word-step c 0
-
-step-⊕ : (a b w : ℕ) → crcWord (a ⊕ b) w ≡ crcWord a 0 ⊕ crcWord b w
-step-⊕ a b w =
-    sym (word-step (a ⊕ b) w)
-    ∙ ap₂ (λ (h x : ℕ). formed h x) (⊕-div a b 12) (ap (λ (x : ℕ). x % 4096) (⊕-assoc a b w) ∙ ⊕-mod a (b ⊕ w) 12)
-    ∙ formed-⊕ (a / 4096) (b / 4096) (a % 4096) ((b ⊕ w) % 4096)
-    ∙ ap₂ (λ (x y : ℕ). x ⊕ y) (zero-step a) (word-step b w)
-
-pub ahead-⊕ : (n a b : ℕ) → ahead n (a ⊕ b) ≡ ahead n a ⊕ ahead n b
-unfolding ahead
-ahead-⊕ zero a b = refl
-ahead-⊕ (suc n) a b = ap (ahead n) (step-⊕ a b 0) ∙ ahead-⊕ n (crcWord a 0) (crcWord b 0)
+        ap (λ (x : ℕ). crcWord (crc 0 (table j (λ i. getD ws (n * k + i) 0))) (getD ws x 0)) p ∙ crc-next j (λ i. getD ws (n * k + i) 0)
 
 crc-⊕ : (a b : ℕ) (ws : List ℕ) → crc (a ⊕ b) ws ≡ ahead (length ws) a ⊕ crc b ws
 unfolding ahead crc
 crc-⊕ a b [] = refl
-crc-⊕ a b (w ∷ ws) = ap (λ (c : ℕ). crc c ws) (step-⊕ a b w) ∙ crc-⊕ (crcWord a 0) (crcWord b w) ws
+crc-⊕ a b (w ∷ ws) = ap (λ (c : ℕ). crc c ws) (ap (crcWord (a ⊕ b)) (sym (zero-⊕ w)) ∙ step-⊕ a b 0 w) ∙ crc-⊕ (crcWord a 0) (crcWord b w) ws
 
 -- a run and one as long behind it
 halves : (n : ℕ) (f : ℕ → ℕ) → crc 0 (table n (λ k. f (n + k))) ⊕ ahead n (crc 0 (table n f)) ≡ crc 0 (table (n + n) f)
@@ -108,19 +78,6 @@ module _ (ws : List ℕ) (t : ℕ) {c : ℕ} (first : c ≡ crc 0 (table 960 (λ
       place i j p = ap (λ (k : ℕ). getD ws k 0) p
 
 -- ---- the bits of a register, one by one
-
--- words of zeros by the formula, to be computed
-unfoldable aheadBy : ℕ → ℕ → ℕ
-aheadBy zero c = c
-aheadBy (suc n) c = aheadBy n (formed (c / 4096) (c % 4096))
-
-ahead-by : (n c : ℕ) → aheadBy n c ≡ ahead n c
-unfolding aheadBy ahead
-ahead-by zero c = refl
-ahead-by (suc n) c = ap (aheadBy n) (zero-step c) ∙ ahead-by n (crcWord c 0)
-
-ahead-zero : (n : ℕ) → ahead n 0 ≡ 0
-ahead-zero n = ap (ahead n) (sym (⊕-zero 0)) ∙ ahead-⊕ n 0 0 ∙ ⊕-self (ahead n 0)
 
 ahead-bit : (n b x : ℕ) → b < 2 → b * ahead n x ≡ ahead n (b * x)
 ahead-bit n zero x h = let a : 0 * ahead n x ≡ 0 = omega arith in let z : 0 * x ≡ 0 = omega arith in a ∙ sym (ap (ahead n) z ∙ ahead-zero n)
@@ -182,22 +139,6 @@ module _ (x : ℕ) (h : x < 262144) where
       by zero e l = from-even e
       by (suc zero) e l = from-odd e
       by (suc (suc b)) e l = absurd (omega arith)
-
--- a bit of zero before words of zeros, or behind them
-bits-turned : (n c : ℕ) → bitSteps n (bitStep c 0) 0 ≡ bitStep (bitSteps n c 0) 0
-unfolding bitSteps
-bits-turned zero c = refl
-bits-turned (suc n) c = bits-turned n (bitStep c 0)
-
-ahead-turned : (n c : ℕ) → ahead n (bitStep c 0) ≡ bitStep (ahead n c) 0
-unfolding ahead
-ahead-turned zero c = refl
-ahead-turned (suc n) c = ap (ahead n) (bits-turned 12 c) ∙ ahead-turned n (crcWord c 0)
-
-ahead-below : (n c : ℕ) → c < 262144 → ahead n c < 262144
-unfolding ahead crc
-ahead-below zero c h = h
-ahead-below (suc n) c h = ahead-below n (crcWord c 0) (crc-below c (0 ∷ []) h)
 
 half-power : (i : ℕ) → bitStep (2 ^ suc i) 0 ≡ 2 ^ i
 unfolding bitStep

@@ -132,11 +132,6 @@ summed n ws j s =
       fourth = crcWord (s .fourth) (getD ws (3 * n + j) 0);
     }
 
--- a register after n words of zeros
-unfoldable pub ahead : ℕ → ℕ → ℕ
-ahead zero c = c
-ahead (suc n) c = ahead n (crcWord c 0)
-
 -- what the CRC runs over behind the picture: the EAV and the line number
 abbrev pub tailWords : ℕ → LineWords → List ℕ
 tailWords xyz n = 0xFFF ∷ 0x000 ∷ 0x000 ∷ xyz ∷ n .ln0 ∷ n .ln1 ∷ []

@@ -3,7 +3,7 @@ ghost use mathlib.Core.Path.{_≡_};
 ghost use Prim.Native.Nat.{_<_, _^_};
 ghost use Rattle.ground.specs.Written.{table};
 ghost use Rattle.ground.specs.Xor.{_⊕_};
-ghost use Rattle.send.specs.Put.{ahead};
+ghost use Rattle.crcc.specs.Ahead.{ahead};
 
 // What each bit of the register has become after 960 words of zeros.
 const AHEAD: [u32; 18] = [

@@ -5,7 +5,7 @@ use Prim.Native.Nat.{_^_}
 use lib.Pow.{pow-lt}
 use Rattle.ground.specs.Xor.{_⊕_}
 use Rattle.ground.proofs.Writing.{tested-table, table-same}
-use Rattle.send.specs.Put.{ahead}
+use Rattle.crcc.specs.Ahead.{ahead}
 use Rattle.send.proofs.Joining.{bitAhead, bit-ahead}
 use Rattle.send.proofs.ahead.ahead_table.Statement.{statement}
 use Rattle.send.proofs.ahead.ahead_table.Tie as tie

@@ -1,0 +1,3 @@
+pub mod Folding
+pub mod Moving
+pub mod Rows

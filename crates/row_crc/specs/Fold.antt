@@ -1,0 +1,30 @@
+-- A row whose first words have been moved further on.
+-- Assumes nothing.
+use Prim.Native.Nat.{ℕ, _+_, _≤_}
+use mathlib.Core.Bool.{cond}
+use mathlib.Core.List.{List}
+use mathlib.Core.Path.{_≡_}
+use lib.Dec.{ltb}
+use lib.ListN.{getD}
+use Rattle.ground.specs.Written.{table}
+use Rattle.ground.specs.Xor.{_⊕_}
+use Rattle.crcc.specs.Crcc.{crc}
+use Rattle.row_crc.specs.Sums.{wordsIn}
+
+-- word i of a row with what has been moved to it: the words 139, 86 and 93 before it, where these have been moved. Word j that has been
+-- moved stands at 139 + j; 0 stands there until then, and before.
+abbrev pub withMoved : List ℕ → List ℕ → ℕ → ℕ
+withMoved row moved i = getD row i 0 ⊕ getD moved i 0 ⊕ getD moved (i + 53) 0 ⊕ getD moved (i + 46) 0
+
+-- the row when the first j of its words have been moved
+abbrev pub left : List ℕ → List ℕ → ℕ → ℕ → ℕ
+left row moved j i = cond (ltb i j) 0 (withMoved row moved i)
+
+-- nothing has been moved
+pub record Empty (moved : List ℕ) : Type 0 where
+  pub none : (k : ℕ) → getD moved k 0 ≡ 0
+
+-- the first j have been, and the CRC is what it was
+pub record Folds (row moved : List ℕ) (j : ℕ) : Type 0 where
+  pub same : crc 0 (table 1920 (left row moved j)) ≡ crc 0 (wordsIn row 0)
+  pub none : (k : ℕ) → 139 + j ≤ k → getD moved k 0 ≡ 0

@@ -1,0 +1,27 @@
+-- The CRC of each row of a picture.
+-- Assumes nothing.
+use Prim.Native.Nat.{ℕ, _+_, _*_}
+use mathlib.Core.Bool.{cond}
+use mathlib.Core.List.{List}
+use lib.Dec.{eqb}
+use lib.ListN.{length, getD}
+use Rattle.ground.specs.Written.{table}
+use Rattle.crcc.specs.Crcc.{crc}
+use Rattle.window.specs.declared.sums.Sums.{Sums}
+
+-- the 1920 words from a place on
+abbrev pub wordsIn : List ℕ → ℕ → List ℕ
+wordsIn rows from = table 1920 (λ i. getD rows (from + i) 0)
+
+-- row t of a picture's rows, stream by stream
+abbrev pub rowOf : List ℕ → ℕ → List ℕ
+rowOf rows t = wordsIn rows (1920 * t)
+
+-- the CRC of each row: of two rows, or of four; of rows of any other length none
+abbrev pub sumsIn : List ℕ → Sums
+sumsIn rows =
+    cond (eqb (length rows) 3840)
+    (record { first = crc 0 (rowOf rows 0); second = crc 0 (rowOf rows 1); third = 0; fourth = 0 })
+    (cond (eqb (length rows) 7680)
+    (record { first = crc 0 (rowOf rows 0); second = crc 0 (rowOf rows 1); third = crc 0 (rowOf rows 2); fourth = crc 0 (rowOf rows 3) })
+    (record { first = 0; second = 0; third = 0; fourth = 0 }))

@@ -1,0 +1,3 @@
+// The CRC of each row of a picture, many words at a time.
+pub(crate) mod fold;
+pub mod sums;

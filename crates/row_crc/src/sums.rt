@@ -1,0 +1,35 @@
+// The CRC of each stream over its picture words (004, 6.4), from the rows.
+use window::sums::Sums;
+ghost use mathlib.Core.Path.{_≡_};
+ghost use Rattle.row_crc.specs.Sums.{sumsIn};
+
+// Of two rows of 1,920 words, or of four; of rows of any other length none.
+pub fn sums_of_rows(rows: &[u16]) -> Sums
+    ensures { λ r. ⌜ r ≡ sumsIn (now (rows .entry)) ⌝ }
+{
+    if rows.len() == 3840 {
+        let low = crate::fold::crc_of_two(&rows[0..1920], &rows[1920..3840]);
+        return Sums {
+            first: low.a,
+            second: low.b,
+            third: 0,
+            fourth: 0,
+        };
+    }
+    if rows.len() == 7680 {
+        let low = crate::fold::crc_of_two(&rows[0..1920], &rows[1920..3840]);
+        let high = crate::fold::crc_of_two(&rows[3840..5760], &rows[5760..7680]);
+        return Sums {
+            first: low.a,
+            second: low.b,
+            third: high.a,
+            fourth: high.b,
+        };
+    }
+    Sums {
+        first: 0,
+        second: 0,
+        third: 0,
+        fourth: 0,
+    }
+}
