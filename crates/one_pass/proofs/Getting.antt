@@ -5,21 +5,22 @@ use mathlib.Core.List.{List}
 use Prim.Native.Nat.{ℕ, _+_, _*_, _≤_, _<_}
 use native.Mathlib.Omega.{arith}
 use lib.Dec.{eqb}
-use lib.ListN.{length, set}
+use lib.ListN.{length, getD, set}
 use borrow.Author.Tests.{eqb-true, eqb-false}
 use Rattle.ground.specs.Written.{table}
 use Rattle.ground.proofs.Cases.{on-test}
-use Rattle.ground.proofs.Writing.{table-same}
-use Rattle.crcc.specs.Crcc.{crc, crcWord}
+use Rattle.ground.proofs.Writing.{length-upto, getD-upto, length-table, getD-table, table-same}
+use Rattle.crcc.specs.Crcc.{crc}
 use Rattle.packing.specs.declared.bytes.TwoWords.{TwoWords}
 use Rattle.rows.specs.Given.{plainPair}
 use Rattle.rows.specs.Picture.{columnOf, putTwo, sumsOf}
 use Rattle.rows.proofs.Plain.{Behind, in-pair, stream-a, stream-b}
 use Rattle.rows.proofs.Streams.{rows-of-two, rows-of-four}
 use Rattle.rows.proofs.Taking.{Taken, begin, turn, under}
+use Rattle.row_crc.specs.Sums.{rowOf, sumsIn}
 use Rattle.span.specs.declared.format.Shape.{Shape}
 use Rattle.span.specs.Format.{streams, samplesIn}
-use Rattle.window.specs.Tests.{rows as rowsOf}
+use Rattle.window.specs.Tests.{rows as rowsOf, wordOf}
 use Rattle.window.specs.Words.{wordAt}
 use Rattle.one_pass.specs.declared.picture.Passed.{Passed}
 use Rattle.one_pass.specs.declared.see.Six.{Six}
@@ -32,20 +33,26 @@ use Rattle.one_pass.proofs.Seeing.{three-turn}
 pair-at : (w : List ℕ) (j half u o : ℕ) → o ≡ 3 * (half * (4 + j) + u) → plainPair w o ≡ pairIn half w u j
 pair-at w j half u o e = ap (plainPair w) e
 
+-- what has been put, its CRCs named as those of the words
+summed : {A B : ℕ → ℕ} {count low high : ℕ} {old : List ℕ} {j a b : ℕ} {rows : List ℕ} → Taken A B count low high old j a b rows
+    → Taken A B count low high old j (crc 0 (table j A)) (crc 0 (table j B)) rows
+summed t = record { some = t .some; apart = t .apart; sum-a = refl; sum-b = refl; put = t .put }
+
 module _ (w : List ℕ) {old : List ℕ} {j : ℕ} {v : Passed} {rows : List ℕ} (h : j < 1920) where
   pub got-two : Got 1 w old j v rows → Got 1 w old (j + 1) (placeTwo w j v) (rowsTwo w j rows)
   unfolding seenThree
   got-two g =
       let at : 12 + 3 * j ≡ 3 * (1 * (4 + j) + 0) = omega arith in
       let pair = pair-at w j 1 0 (12 + 3 * j) at in
-      let low = rw (sym (g .two refl .0)) at (g .low) in
+      let low = rw (sym (g .two refl)) at (g .low) in
       let end : 12 + 3 * j + 3 ≡ 12 * 1 + 3 * 1 * (j + 1) = omega arith in
       record {
         clean = rw end at (three-turn w (g .clean));
         low-rows = rowsTwo w j rows;
         low =
-            turn low h (omega arith) (omega arith) (ap (λ (x : TwoWords). x .a) pair) (ap (λ (x : TwoWords). x .b) pair) refl refl;
-        two = λ _. (refl, g .two refl .1, g .two refl .2);
+            summed
+            (turn low h (omega arith) (omega arith) (ap (λ (x : TwoWords). x .a) pair) (ap (λ (x : TwoWords). x .b) pair) refl refl);
+        two = λ _. refl;
         four = λ e. absurd (omega arith);
       }
 
@@ -61,12 +68,15 @@ module _ (w : List ℕ) {old : List ℕ} {j : ℕ} {v : Passed} {rows : List ℕ
       record {
         clean = rw end at (three-turn w (three-turn w (g .clean)));
         low-rows = set (set (g .low-rows) j (x .a)) (1920 + j) (x .b);
-        low = turn (g .low) h (omega arith) (omega arith) (ap (λ (y : TwoWords). y .a) low) (ap (λ (y : TwoWords). y .b) low) refl refl;
+        low =
+            summed
+            (turn (g .low) h (omega arith) (omega arith) (ap (λ (y : TwoWords). y .a) low) (ap (λ (y : TwoWords). y .b) low) refl refl);
         two = λ e. absurd (omega arith);
         four =
             λ _.
-            turn (under (under (g .four refl) j (x .a) (omega arith)) (1920 + j) (x .b) (omega arith)) h (omega arith) (omega arith) (ap (λ (y : TwoWords). y .a) high)
-            (ap (λ (y : TwoWords). y .b) high) refl refl;
+            summed
+            (turn (under (under (g .four refl) j (x .a) (omega arith)) (1920 + j) (x .b) (omega arith)) h (omega arith) (omega arith) (ap (λ (y : TwoWords). y .a) high)
+            (ap (λ (y : TwoWords). y .b) high) refl refl);
       }
 
 -- ---- four words more
@@ -96,25 +106,18 @@ module _ (w : List ℕ) {old : List ℕ} {j : ℕ} {v : Passed} {rows : List ℕ
 
 -- what is answered behind four words, and the rows with them, by what was seen of each
 module _ (w : List ℕ) (j : ℕ) (v : Passed) where
-  pub after-two : {a b c d : Three} {m n : ℕ} → a ≡ seenThree w (12 + 3 * j) (v .good) (v .turns)
+  pub after-two : {a b c d : Three} → a ≡ seenThree w (12 + 3 * j) (v .good) (v .turns)
       → b ≡ seenThree w (12 + 3 * (j + 1)) (a .good) (a .turns) → c ≡ seenThree w (12 + 3 * (j + 2)) (b .good) (b .turns)
       → d ≡ seenThree w (12 + 3 * (j + 3)) (c .good) (c .turns)
-      → m ≡ crcWord (crcWord (crcWord (crcWord (v .first) (a .words .a)) (b .words .a)) (c .words .a)) (d .words .a)
-      → n ≡ crcWord (crcWord (crcWord (crcWord (v .second) (a .words .b)) (b .words .b)) (c .words .b)) (d .words .b)
-      → record { good = d .good; turns = d .turns; first = m; second = n; third = v .third; fourth = v .fourth }
-      ≡ placeTwo w (j + 3) (placeTwo w (j + 2) (placeTwo w (j + 1) (placeTwo w j v)))
-  after-two ea eb ec ed em en = rw (em, en, ed, ec, eb, ea)
+      → record { good = d .good; turns = d .turns } ≡ placeTwo w (j + 3) (placeTwo w (j + 2) (placeTwo w (j + 1) (placeTwo w j v)))
+  after-two ea eb ec ed = rw (ed, ec, eb, ea)
 
-  pub after-four : {a b c d : Six} {m n k l : ℕ} → a ≡ seenSix w (24 + 6 * j) (v .good) (v .turns)
+  pub after-four : {a b c d : Six} → a ≡ seenSix w (24 + 6 * j) (v .good) (v .turns)
       → b ≡ seenSix w (24 + 6 * (j + 1)) (a .good) (a .turns) → c ≡ seenSix w (24 + 6 * (j + 2)) (b .good) (b .turns)
       → d ≡ seenSix w (24 + 6 * (j + 3)) (c .good) (c .turns)
-      → m ≡ crcWord (crcWord (crcWord (crcWord (v .first) (a .low .a)) (b .low .a)) (c .low .a)) (d .low .a)
-      → n ≡ crcWord (crcWord (crcWord (crcWord (v .second) (a .low .b)) (b .low .b)) (c .low .b)) (d .low .b)
-      → k ≡ crcWord (crcWord (crcWord (crcWord (v .third) (a .high .a)) (b .high .a)) (c .high .a)) (d .high .a)
-      → l ≡ crcWord (crcWord (crcWord (crcWord (v .fourth) (a .high .b)) (b .high .b)) (c .high .b)) (d .high .b)
-      → record { good = d .good; turns = d .turns; first = m; second = n; third = k; fourth = l }
+      → record { good = d .good; turns = d .turns }
       ≡ placeFour w (j + 3) (placeFour w (j + 2) (placeFour w (j + 1) (placeFour w j v)))
-  after-four ea eb ec ed em en ek el = rw (em, en, ek, el, ed, ec, eb, ea)
+  after-four ea eb ec ed = rw (ed, ec, eb, ea)
 
 -- the words of what was seen
 pub words-seen : {x : Three} (w : List ℕ) (o good turns : ℕ) → x ≡ seenThree w o good turns → x .words ≡ plainPair w o
@@ -145,15 +148,15 @@ module _ (w : List ℕ) (j : ℕ) (r0 : List ℕ) {r1 r2 r3 r4 : List ℕ} where
 
 -- at the beginning nothing is
 pub got-begin : (half turns : ℕ) (w old : List ℕ) → Clean w (12 * half) (12 * half) 65535 turns
-    → Got half w old 0 (record { good = 65535; turns = turns; first = 0; second = 0; third = 0; fourth = 0 }) old
+    → Got half w old 0 (record { good = 65535; turns = turns }) old
 got-begin half turns w old g =
     let at : 12 * half ≡ 12 * half + 3 * half * 0 = omega arith in
     record {
       clean = rw (← at) g;
       low-rows = old;
-      low = begin (omega arith) refl refl refl;
-      two = λ _. (refl, refl, refl);
-      four = λ _. begin (omega arith) refl refl refl;
+      low = summed (begin (omega arith) refl refl refl);
+      two = λ _. refl;
+      four = λ _. summed (begin (omega arith) refl refl refl);
     }
 
 -- ---- all of them
@@ -185,26 +188,36 @@ module _ (p : Shape) (w : List ℕ) where
         on-test (eqb (p .half) 1)
         (λ t.
         let one = eqb-true (p .half) 1 t in
-        g .two one .0 ∙ rows-of-two p w old long low-rows-are one)
+        g .two one ∙ rows-of-two p w old long low-rows-are one)
         (λ t.
         let two : p .half ≡ 2 = omega (arith, eqb-false (p .half) 1 t) in
         rows-of-four p w old long low-rows-are two (put-columns 1 (omega arith) (g .four two) refl refl))
 
-    first-is : v .first ≡ crc 0 (columnOf p w 4 1920 0)
-    first-is = g .low .sum-a ∙ ap (crc 0) (first-column 0 (omega arith))
+  -- a row of the picture is its stream's column, and so its CRC is that stream's
+  module _ {rows : List ℕ} (is : rows ≡ rowsOf (streams p) (wordAt p w)) where
+    sized : (t : ℕ) → length (columnOf p w 4 1920 t) ≡ 1920
+    sized t = length-table 1920 (λ i. wordOf (streams p) (wordAt p w) (4 + i) t)
 
-    second-is : v .second ≡ crc 0 (columnOf p w 4 1920 1)
-    second-is = g .low .sum-b ∙ ap (crc 0) (second-column 0 (omega arith))
+    row-is : (t : ℕ) → t < streams p → rowOf rows t ≡ columnOf p w 4 1920 t
+    unfolding rowsOf
+    row-is t h =
+        table-same 1920 _ _
+        (λ i l.
+        ap (λ (x : List ℕ). getD x (1920 * t + i) 0) is
+        ∙ getD-upto 1920 (columnOf p w 4 1920) sized (streams p) t i 0 h l
+        ∙ getD-table 1920 (λ k. wordOf (streams p) (wordAt p w) (4 + k) t) i 0 l)
 
-    pub sums-are : record { first = v .first; second = v .second; third = v .third; fourth = v .fourth } ≡ sumsOf p w
-    sums-are =
+    rows-long : length rows ≡ samplesIn p
+    unfolding rowsOf
+    rows-long = ap (λ (x : List ℕ). length x) is ∙ length-upto 1920 (columnOf p w 4 1920) sized (streams p)
+
+    pub sums-are : p .half ≤ 2 → 1 ≤ p .half → sumsIn rows ≡ sumsOf p w
+    sums-are small some =
         on-test (eqb (p .half) 1)
         (λ t.
-        let none = g .two (eqb-true (p .half) 1 t) in
-        rw (t, first-is, second-is, none .1, none .2))
+        let two : length rows ≡ 3840 = omega (arith, rows-long, eqb-true (p .half) 1 t) in
+        rw (two, t, row-is 0 (omega arith), row-is 1 (omega arith)))
         (λ t.
-        let two : p .half ≡ 2 = omega (arith, eqb-false (p .half) 1 t) in
-        let high = g .four two in
-        let third : v .third ≡ crc 0 (columnOf p w 4 1920 2) = high .sum-a ∙ ap (crc 0) (first-column 1 (omega arith)) in
-        let fourth : v .fourth ≡ crc 0 (columnOf p w 4 1920 3) = high .sum-b ∙ ap (crc 0) (second-column 1 (omega arith)) in
-        rw (t, first-is, second-is, third, fourth))
+        let half : p .half ≡ 2 = omega (arith, eqb-false (p .half) 1 t) in
+        let four : length rows ≡ 7680 = omega (arith, rows-long) in
+        rw (four, t, row-is 0 (omega arith), row-is 1 (omega arith), row-is 2 (omega arith), row-is 3 (omega arith)))

@@ -1,10 +1,11 @@
--- What the loop over the picture keeps: rows and CRCs of the words so far, and what is gathered of their symbols.
+-- What the loop over the picture keeps: rows of the words so far, and what is gathered of their symbols.
 -- Assumes nothing.
 use mathlib.Core.Path.{_≡_}
-use Prim.Native.Nat.{ℕ, _+_, _*_, _≤_}
+use Prim.Native.Nat.{ℕ, _+_, _*_}
 use mathlib.Core.List.{List}
 use lib.ListN.{set}
-use Rattle.crcc.specs.Crcc.{crcWord}
+use Rattle.ground.specs.Written.{table}
+use Rattle.crcc.specs.Crcc.{crc}
 use Rattle.packing.specs.declared.bytes.TwoWords.{TwoWords}
 use Rattle.rows.specs.Given.{plainPair}
 use Rattle.rows.proofs.Taking.{Taken}
@@ -23,14 +24,7 @@ putPair x at rows = set (set rows at (x .a)) (1920 + at) (x .b)
 abbrev pub placeTwo : List ℕ → ℕ → Passed → Passed
 placeTwo w j v =
     let x = seenThree w (12 + 3 * j) (v .good) (v .turns) in
-    record {
-      good = x .good;
-      turns = x .turns;
-      first = crcWord (v .first) (x .words .a);
-      second = crcWord (v .second) (x .words .b);
-      third = v .third;
-      fourth = v .fourth;
-    }
+    record { good = x .good; turns = x .turns }
 
 abbrev pub rowsTwo : List ℕ → ℕ → List ℕ → List ℕ
 rowsTwo w j rows = putPair (plainPair w (12 + 3 * j)) j rows
@@ -39,25 +33,24 @@ rowsTwo w j rows = putPair (plainPair w (12 + 3 * j)) j rows
 abbrev pub placeFour : List ℕ → ℕ → Passed → Passed
 placeFour w j v =
     let x = seenSix w (24 + 6 * j) (v .good) (v .turns) in
-    record {
-      good = x .good;
-      turns = x .turns;
-      first = crcWord (v .first) (x .low .a);
-      second = crcWord (v .second) (x .low .b);
-      third = crcWord (v .third) (x .high .a);
-      fourth = crcWord (v .fourth) (x .high .b);
-    }
+    record { good = x .good; turns = x .turns }
 
 abbrev pub rowsFour : List ℕ → ℕ → List ℕ → List ℕ
 rowsFour w j rows = putPair (plainPair w (24 + 6 * j + 3)) (3840 + j) (putPair (plainPair w (24 + 6 * j)) j rows)
+
+-- the first j words of streams 2u and 2u + 1 have been put into a buffer, from place `low` on. `Taken` names their CRCs too: they stand here as
+-- what they are, since nothing here works them out
+abbrev pub PutPairs : ℕ → List ℕ → ℕ → ℕ → List ℕ → ℕ → List ℕ → Type 0
+PutPairs half w u low old j rows =
+    let a : ℕ → ℕ = λ i. pairIn half w u i .a in
+    let b : ℕ → ℕ = λ i. pairIn half w u i .b in
+    Taken a b 1920 low (low + 1920) old j (crc 0 (table j a)) (crc 0 (table j b)) rows
 
 -- the first j words of all streams have been taken: those of two into a buffer, and those of the other two, where there are four, into the
 -- buffer with these
 pub record Got (half : ℕ) (w old : List ℕ) (j : ℕ) (v : Passed) (rows : List ℕ) : Type 0 where
   pub clean : Clean w (12 * half) (12 * half + 3 * half * j) (v .good) (v .turns)
   pub low-rows : List ℕ
-  pub low : Taken (λ i. pairIn half w 0 i .a) (λ i. pairIn half w 0 i .b) 1920 0 1920 old j (v .first) (v .second) low-rows
-  pub two : half ≡ 1 → (rows ≡ low-rows) × (v .third ≡ 0) × (v .fourth ≡ 0)
-  pub four :
-      half ≡ 2
-      → Taken (λ i. pairIn half w 1 i .a) (λ i. pairIn half w 1 i .b) 1920 3840 5760 low-rows j (v .third) (v .fourth) rows
+  pub low : PutPairs half w 0 0 old j low-rows
+  pub two : half ≡ 1 → rows ≡ low-rows
+  pub four : half ≡ 2 → PutPairs half w 1 3840 low-rows j rows

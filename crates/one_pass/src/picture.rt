@@ -1,4 +1,5 @@
-// The picture words of a window, into rows stream by stream, while the CRC of each stream runs over them and their symbols are seen.
+// The picture words of a window, into rows stream by stream, while their symbols are seen. No CRC runs over them here: each of its steps waits
+// for the one before, which would hold up the loop.
 use crate::see::Six;
 use packing::bytes::TwoWords;
 ghost use mathlib.Core.Path.{_≡_};
@@ -6,7 +7,6 @@ ghost use mathlib.Core.Bool.{true};
 ghost use Prim.Native.Nat.{ℕ, _+_, _-_, _*_, _%_, _≤_, _<_};
 ghost use mathlib.Core.List.{List};
 ghost use lib.ListN.{length};
-ghost use Rattle.crcc.specs.Crcc.{crcWord};
 ghost use Rattle.decoder.specs.Decoder.{decodingTable};
 ghost use Rattle.one_pass.specs.See.{TenBits, Clean, passesBy};
 ghost use Rattle.one_pass.specs.Picture.{Got, putPair};
@@ -14,14 +14,10 @@ ghost use Rattle.one_pass.specs.Picture.{Got, putPair};
 // Words of each stream in a piece. None is looked at behind one with a fault: what is no window is soon known to be none.
 const PIECE: usize = 120;
 
-// Behind so many words of each stream: what is gathered of their symbols, and the CRC of each stream.
+// What is gathered behind so many words of each stream.
 pub(crate) struct Passed {
     pub(crate) good: u32,
     pub(crate) turns: u32,
-    pub(crate) first: u32,
-    pub(crate) second: u32,
-    pub(crate) third: u32,
-    pub(crate) fourth: u32,
 }
 
 // Two words into the rows of two streams.
@@ -32,16 +28,6 @@ fn put_pair(w: TwoWords, at: usize, rows: &mut [u16])
 {
     rows[at] = w.a;
     rows[1920 + at] = w.b;
-}
-
-// The CRC of a stream after four words more.
-fn crc_four(c: u32, w0: u16, w1: u16, w2: u16, w3: u16) -> u32
-    ensures { λ r. ⌜ r ≡ crcWord (crcWord (crcWord (crcWord c w0) w1) w2) w3 ⌝ }
-{
-    let c1 = crcc::crcc::crc_word(c, w0);
-    let c2 = crcc::crcc::crc_word(c1, w1);
-    let c3 = crcc::crcc::crc_word(c2, w2);
-    crcc::crcc::crc_word(c3, w3)
 }
 
 // Four words of each of two streams from j on. All of their symbols are seen before anything is put: the compiler does not know that rows and
@@ -70,10 +56,6 @@ fn turn_two(t: &[u16; 1024], symbols: &[u16], j: usize, v: Passed, rows: &mut [u
     Passed {
         good: d.good,
         turns: d.turns,
-        first: crc_four(v.first, wa.a, wb.a, wc.a, wd.a),
-        second: crc_four(v.second, wa.b, wb.b, wc.b, wd.b),
-        third: v.third,
-        fourth: v.fourth,
     }
 }
 
@@ -139,10 +121,6 @@ fn turn_four(t: &[u16; 1024], symbols: &[u16], j: usize, v: Passed, rows: &mut [
     Passed {
         good: d.good,
         turns: d.turns,
-        first: crc_four(v.first, a.low.a, b.low.a, c.low.a, d.low.a),
-        second: crc_four(v.second, a.low.b, b.low.b, c.low.b, d.low.b),
-        third: crc_four(v.third, a.high.a, b.high.a, c.high.a, d.high.a),
-        fourth: crc_four(v.fourth, a.high.b, b.high.b, c.high.b, d.high.b),
     }
 }
 
@@ -220,14 +198,7 @@ pub(crate) fn take_picture(
     ensures size { λ _. ⌜ length (now (rows .exit)) ≡ 3840 * half ⌝ }
     ensures got { λ r. ⌜ (passesBy (r .good) ≡ true → Got half (now (symbols .entry)) (now (rows .entry)) 1920 r (now (rows .exit))) ⌝ }
 {
-    let mut p = Passed {
-        good: 65535,
-        turns,
-        first: 0,
-        second: 0,
-        third: 0,
-        fourth: 0,
-    };
+    let mut p = Passed { good: 65535, turns };
     let mut j = 0;
     while j < 1920 {
         p = take_piece(t, half, symbols, j, j + PIECE, p, rows);

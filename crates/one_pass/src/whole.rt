@@ -189,12 +189,11 @@ fn take_window(t: &[u16; 1024], p: Shape, symbols: &[u16], rows: &mut [u16]) -> 
         return nothing();
     }
     let e = end_of(t, p, symbols, v.turns);
-    let sums = Sums {
-        first: v.first,
-        second: v.second,
-        third: v.third,
-        fourth: v.fourth,
-    };
+    if !e.whole {
+        return nothing();
+    }
+    // Only of a window that is as it should be: nothing else pays for its CRCs.
+    let sums = row_crc::sums::sums_of_rows(rows);
     Taken {
         whole: e.whole,
         filled: e.filled,

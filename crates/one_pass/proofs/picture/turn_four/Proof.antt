@@ -1,6 +1,5 @@
--- `one_pass::picture::turn_four` meets its contract: what is seen, put and summed is what four words more give.
+-- `one_pass::picture::turn_four` meets its contract: what is seen and put is what four words more give.
 -- Assumes nothing.
-use mathlib.Core.Path.{_∙_}
 use native.Mathlib.Omega.{arith}
 use borrow.Author.Needs.{needs}
 use Rattle.one_pass.proofs.Getting.{after-four, put-four, low-seen, high-seen, four-of-four}
@@ -8,7 +7,6 @@ use Rattle.one_pass.proofs.picture.turn_four.Statement.{statement}
 use Rattle.one_pass.proofs.picture.turn_four.Tie as tie
 use Rattle.one_pass.proofs.picture.turn_four.Reads as reads
 use Rattle.one_pass.proofs.picture.turn_four.Lts as lts
-use Rattle.one_pass.proofs.picture.crc_four.Reads as crc-four-reads
 use Rattle.one_pass.proofs.picture.put_six.Reads as put-six-reads
 use Rattle.one_pass.proofs.see.see_six.Reads as see-six-reads
 
@@ -78,37 +76,25 @@ add-put-six-3 c = omega (arith, c .before .before .before .before .before .befor
 put-six-requires-4 : tie.Need-put-six-requires-4
 put-six-requires-4 c κs = let s = c .before .before .before .before .before .before .before .before .before .before .before .before .before .before .before .before .before .before .before in (omega (arith, s .pre .1 .1 .0), c .before .before .before .put-six3 .ensures .0)
 
-crc-four-requires : tie.Need-crc-four-requires
-crc-four-requires c κs = search needs
-
-crc-four-requires-2 : tie.Need-crc-four-requires-2
-crc-four-requires-2 c κs = search needs
-
-crc-four-requires-3 : tie.Need-crc-four-requires-3
-crc-four-requires-3 c κs = search needs
-
-crc-four-requires-4 : tie.Need-crc-four-requires-4
-crc-four-requires-4 c κs = search needs
-
 same-length : tie.Need-same-length
 same-length c = search needs
 
 returns : tie.Need-returns
 returns c =
-    let s = c .before .before .before .before .before .before .before .before .before .before .before .before .before .before .before .before .before .before .before .before .before .before .before .before .before .before in
+    let s = c .before .before .before .before .before .before .before .before .before .before .before .before .before .before .before .before .before .before .before .before .before .before in
     let w = s .args .symbols .now in
     let j = s .args .j in
     let v = s .args .v in
-    let a = c .before .before .before .before .before .before .before .before .before .before .before .before .before .before .before .before .before .before .before .before .before .before .before .see-six .ensures in
-    let b = c .before .before .before .before .before .before .before .before .before .before .before .before .before .before .before .before .before .before .before .before .before .before .see-six2 .ensures in
-    let c3 = c .before .before .before .before .before .before .before .before .before .before .before .before .before .before .before .before .before .before .before .before .before .see-six3 .ensures in
-    let d = c .before .before .before .before .before .before .before .before .before .before .before .before .before .before .before .before .before .before .before .before .see-six4 .ensures in
-    let r = after-four w j v a b c3 d (c .before .before .before .crc-four .ensures) (c .before .before .crc-four2 .ensures) (c .before .crc-four3 .ensures) (c .crc-four4 .ensures) in
+    let a = c .before .before .before .before .before .before .before .before .before .before .before .before .before .before .before .before .before .before .before .see-six .ensures in
+    let b = c .before .before .before .before .before .before .before .before .before .before .before .before .before .before .before .before .before .before .see-six2 .ensures in
+    let c3 = c .before .before .before .before .before .before .before .before .before .before .before .before .before .before .before .before .before .see-six3 .ensures in
+    let d = c .before .before .before .before .before .before .before .before .before .before .before .before .before .before .before .before .see-six4 .ensures in
+    let r = after-four w j v a b c3 d in
     let q =
     put-four w j (s .args .rows .now) (low-seen w _ _ _ a) (low-seen w _ _ _ b) (low-seen w _ _ _ c3) (low-seen w _ _ _ d) (high-seen w _ _ _ a)
-    (high-seen w _ _ _ b) (high-seen w _ _ _ c3) (high-seen w _ _ _ d) (c .before .before .before .before .before .before .before .before .before .before .before .before .before .before .before .before .before .before .put-six .ensures .1) (c .before .before .before .before .before .before .before .before .before .before .before .before .before .before .put-six2 .ensures .1) (c .before .before .before .before .before .before .before .before .before .before .put-six3 .ensures .1)
-    (c .before .before .before .before .before .before .put-six4 .ensures .1) in
-    (c .before .before .before .before .before .before .put-six4 .ensures .0, λ old g. rw (r, q) (four-of-four w (s .pre .1 .1 .0) g))
+    (high-seen w _ _ _ b) (high-seen w _ _ _ c3) (high-seen w _ _ _ d) (c .before .before .before .before .before .before .before .before .before .before .before .before .before .before .put-six .ensures .1) (c .before .before .before .before .before .before .before .before .before .before .put-six2 .ensures .1) (c .before .before .before .before .before .before .put-six3 .ensures .1)
+    (c .before .before .put-six4 .ensures .1) in
+    (c .before .before .put-six4 .ensures .0, λ old g. rw (r, q) (four-of-four w (s .pre .1 .1 .0) g))
 
 pub turn-four-spec : {M : Type 1} → statement M
 turn-four-spec =
@@ -136,9 +122,5 @@ turn-four-spec =
     put-six-requires-3
     add-put-six-3
     put-six-requires-4
-    crc-four-requires
-    crc-four-requires-2
-    crc-four-requires-3
-    crc-four-requires-4
     same-length
     returns)

@@ -1,4 +1,4 @@
--- `one_pass::picture::turn_two` meets its contract: what is seen, put and summed is what four words more give.
+-- `one_pass::picture::turn_two` meets its contract: what is seen and put is what four words more give.
 -- Assumes nothing.
 use mathlib.Core.Path.{_∙_}
 use native.Mathlib.Omega.{arith}
@@ -8,7 +8,6 @@ use Rattle.one_pass.proofs.picture.turn_two.Statement.{statement}
 use Rattle.one_pass.proofs.picture.turn_two.Tie as tie
 use Rattle.one_pass.proofs.picture.turn_two.Reads as reads
 use Rattle.one_pass.proofs.picture.turn_two.Lts as lts
-use Rattle.one_pass.proofs.picture.crc_four.Reads as crc-four-reads
 use Rattle.one_pass.proofs.picture.put_pair.Reads as put-pair-reads
 use Rattle.one_pass.proofs.see.see_three.Reads as see-three-reads
 
@@ -87,30 +86,24 @@ put-pair-requires-4 c κs =
     let size = c .before .before .before .put-pair3 .ensures .0 ∙ (c .before .before .before .before .before .before .before .put-pair2 .ensures .0 ∙ (c .before .before .before .before .before .before .before .before .before .before .before .put-pair .ensures .0 ∙ (s .pre .1 .1 .1 .1))) in
     omega (arith, s .pre .1 .1 .0, size)
 
-crc-four-requires : tie.Need-crc-four-requires
-crc-four-requires c κs = search needs
-
-crc-four-requires-2 : tie.Need-crc-four-requires-2
-crc-four-requires-2 c κs = search needs
-
 same-length : tie.Need-same-length
 same-length c = search needs
 
 returns : tie.Need-returns
 returns c =
-    let s = c .before .before .before .before .before .before .before .before .before .before .before .before .before .before .before .before .before .before .before .before .before .before .before .before .before .before .before .before in
+    let s = c .before .before .before .before .before .before .before .before .before .before .before .before .before .before .before .before .before .before .before .before .before .before .before .before .before .before in
     let w = s .args .symbols .now in
     let j = s .args .j in
     let v = s .args .v in
-    let a = c .before .before .before .before .before .before .before .before .before .before .before .before .before .before .before .before .before .before .before .before .before .before .before .before .before .see-three .ensures in
-    let b = c .before .before .before .before .before .before .before .before .before .before .before .before .before .before .before .before .before .before .before .before .before .before .before .before .see-three2 .ensures in
-    let c3 = c .before .before .before .before .before .before .before .before .before .before .before .before .before .before .before .before .before .before .before .before .before .before .before .see-three3 .ensures in
-    let d = c .before .before .before .before .before .before .before .before .before .before .before .before .before .before .before .before .before .before .before .before .before .before .see-three4 .ensures in
-    let r = after-two w j v a b c3 d (c .before .crc-four .ensures) (c .crc-four2 .ensures) in
+    let a = c .before .before .before .before .before .before .before .before .before .before .before .before .before .before .before .before .before .before .before .before .before .before .before .see-three .ensures in
+    let b = c .before .before .before .before .before .before .before .before .before .before .before .before .before .before .before .before .before .before .before .before .before .before .see-three2 .ensures in
+    let c3 = c .before .before .before .before .before .before .before .before .before .before .before .before .before .before .before .before .before .before .before .before .before .see-three3 .ensures in
+    let d = c .before .before .before .before .before .before .before .before .before .before .before .before .before .before .before .before .before .before .before .before .see-three4 .ensures in
+    let r = after-two w j v a b c3 d in
     let q =
     put-two w j (s .args .rows .now) (words-seen w _ _ _ a) (words-seen w _ _ _ b) (words-seen w _ _ _ c3) (words-seen w _ _ _ d)
-    (c .before .before .before .before .before .before .before .before .before .before .before .before .before .before .before .before .put-pair .ensures .1) (c .before .before .before .before .before .before .before .before .before .before .before .before .put-pair2 .ensures .1) (c .before .before .before .before .before .before .before .before .put-pair3 .ensures .1) (c .before .before .before .before .put-pair4 .ensures .1) in
-    (c .before .before .before .before .put-pair4 .ensures .0 ∙ (c .before .before .before .before .before .before .before .before .put-pair3 .ensures .0 ∙ (c .before .before .before .before .before .before .before .before .before .before .before .before .put-pair2 .ensures .0 ∙ (c .before .before .before .before .before .before .before .before .before .before .before .before .before .before .before .before .put-pair .ensures .0 ∙ (s .pre .1 .1 .1 .1)))), λ old g. rw (r, q) (four-of-two w (s .pre .1 .1 .0) g))
+    (c .before .before .before .before .before .before .before .before .before .before .before .before .before .before .put-pair .ensures .1) (c .before .before .before .before .before .before .before .before .before .before .put-pair2 .ensures .1) (c .before .before .before .before .before .before .put-pair3 .ensures .1) (c .before .before .put-pair4 .ensures .1) in
+    (c .before .before .put-pair4 .ensures .0 ∙ (c .before .before .before .before .before .before .put-pair3 .ensures .0 ∙ (c .before .before .before .before .before .before .before .before .before .before .put-pair2 .ensures .0 ∙ (c .before .before .before .before .before .before .before .before .before .before .before .before .before .before .put-pair .ensures .0 ∙ (s .pre .1 .1 .1 .1)))), λ old g. rw (r, q) (four-of-two w (s .pre .1 .1 .0) g))
 
 pub turn-two-spec : {M : Type 1} → statement M
 turn-two-spec =
@@ -138,7 +131,5 @@ turn-two-spec =
     put-pair-requires-3
     add-put-pair-3
     put-pair-requires-4
-    crc-four-requires
-    crc-four-requires-2
     same-length
     returns)

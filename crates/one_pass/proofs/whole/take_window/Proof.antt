@@ -19,6 +19,7 @@ use Rattle.one_pass.proofs.whole.behind_sav.Reads as behind-sav-reads
 use Rattle.one_pass.proofs.whole.disparity_by.Reads as disparity-by-reads
 use Rattle.one_pass.proofs.whole.end_of.Reads as end-of-reads
 use Rattle.one_pass.proofs.whole.nothing.Reads as nothing-reads
+use Rattle.row_crc.proofs.sums.sums_of_rows.Reads as sums-of-rows-reads
 
 behind-sav-requires : tie.Need-behind-sav-requires
 behind-sav-requires c κs = search needs
@@ -76,30 +77,43 @@ end-of-requires c κs =
     let got = c .before .before .before .before .take-picture .ensures .1 rights in
     (s .pre .0, (s .pre .1 .0, tied (s .args .p) (s .args .symbols .now) (got .clean) rights (omega arith)))
 
+nothing-requires-4 : tie.Need-nothing-requires-4
+nothing-requires-4 c κs = search needs
+
+same-length-2 : tie.Need-same-length-2
+same-length-2 c = search needs
+
+returns-4 : tie.Need-returns-4
+returns-4 c = (omega (arith, c .before .before .before .before .before .before .before .before .take-picture .ensures .0), (λ t. absurd (true≢false (sym t ∙ c .nothing4 .ensures .0)), λ t. absurd (true≢false (sym t ∙ c .nothing4 .ensures .1))))
+
+sums-of-rows-requires : tie.Need-sums-of-rows-requires
+sums-of-rows-requires c κs = search needs
+
 disparity-by-requires : tie.Need-disparity-by-requires
 disparity-by-requires c κs = search needs
 
 disparity-by-requires-2 : tie.Need-disparity-by-requires-2
 disparity-by-requires-2 c κs = search needs
 
-same-length-2 : tie.Need-same-length-2
-same-length-2 c = search needs
+same-length-3 : tie.Need-same-length-3
+same-length-3 c = search needs
 
-returns-4 : tie.Need-returns-4
-returns-4 c =
-    let s = c .before .before .before .before .before .before .before .before .before .before .before .before .before .before .before .before .before in
+returns-5 : tie.Need-returns-5
+returns-5 c =
+    let s = c .before .before .before .before .before .before .before .before .before .before .before .before .before .before .before .before .before .before .before .before .before in
     let w = s .args .symbols .now in
-    let right = sym (c .before .before .before .before .before .before .before .before .before .before .passes .ensures) ∙ not-false _ (c .before .before .before .before .before .before .before .before .before .if2 .left) in
-    let rights = sym (c .before .before .before .before .passes2 .ensures) ∙ not-false _ (c .before .before .before .if3 .left) in
-    let got = c .before .before .before .before .before .before .before .take-picture .ensures .1 rights in
-    let e = c .before .before .end-of .ensures in (
-      omega (arith, c .before .before .before .before .before .before .before .take-picture .ensures .0),
+    let right = sym (c .before .before .before .before .before .before .before .before .before .before .before .before .before .before .passes .ensures) ∙ not-false _ (c .before .before .before .before .before .before .before .before .before .before .before .before .before .if2 .left) in
+    let rights = sym (c .before .before .before .before .before .before .before .before .passes2 .ensures) ∙ not-false _ (c .before .before .before .before .before .before .before .if3 .left) in
+    let got = c .before .before .before .before .before .before .before .before .before .before .before .take-picture .ensures .1 rights in
+    let picture = picture-is (s .args .p) w (s .pre .0 .small .half) (s .pre .0 .half) (s .pre .1 .1) got in
+    let e = c .before .before .before .before .before .before .end-of .ensures in (
+      omega (arith, c .before .before .before .before .before .before .before .before .before .before .before .take-picture .ensures .0),
       (
         λ t.
             record {
-              scanned = rw (c .before .disparity-by .ensures, c .disparity-by2 .ensures) (scanned-whole (s .args .p) w (c .before .before .before .before .before .before .before .before .before .before .before .before .before .before .behind-sav .ensures (c .before .before .before .before .before .before .before .before .before .before .before .before .before .if1 .left)) (c .before .before .before .before .before .before .before .before .before .before .before .see-run .ensures) right (got .clean) rights (e .0 t));
-              sums = sums-are (s .args .p) w (s .pre .0 .small .half) (s .pre .0 .half) (s .pre .1 .1) got;
-              picture = picture-is (s .args .p) w (s .pre .0 .small .half) (s .pre .0 .half) (s .pre .1 .1) got;
+              scanned = rw (c .before .disparity-by .ensures, c .disparity-by2 .ensures) (scanned-whole (s .args .p) w (c .before .before .before .before .before .before .before .before .before .before .before .before .before .before .before .before .before .before .behind-sav .ensures (c .before .before .before .before .before .before .before .before .before .before .before .before .before .before .before .before .before .if1 .left)) (c .before .before .before .before .before .before .before .before .before .before .before .before .before .before .before .see-run .ensures) right (got .clean) rights (e .0 t));
+              sums = c .before .before .sums-of-rows .ensures ∙ sums-are (s .args .p) w picture (s .pre .0 .small .half) (s .pre .0 .half);
+              picture = picture;
             },
         e .1,
       ),
@@ -123,7 +137,11 @@ take-window-spec =
     same-length
     returns-3
     end-of-requires
+    nothing-requires-4
+    same-length-2
+    returns-4
+    sums-of-rows-requires
     disparity-by-requires
     disparity-by-requires-2
-    same-length-2
-    returns-4)
+    same-length-3
+    returns-5)
