@@ -2,7 +2,7 @@
 -- Assumes nothing.
 use mathlib.Core.Path.{_≡_, refl, sym, ap, ap₂, _∙_}
 use mathlib.Core.List.{[], _∷_}
-use Prim.Native.Nat.{ℕ, zero, suc, _+_, _*_, _/_, _%_, _<_}
+use Prim.Native.Nat.{ℕ, zero, suc, _+_, _*_, _/_, _%_}
 use native.Mathlib.Numerals.{add-one}
 use native.Mathlib.Omega.{arith}
 use Rattle.ground.specs.Written.{upto, table}
@@ -10,8 +10,8 @@ use Rattle.ground.specs.Xor.{_⊕_}
 use Rattle.ground.proofs.Writing.{upto-more}
 use Rattle.ground.proofs.Xors.{⊕-zero, ⊕-self, ⊕-middle, ⊕-div, ⊕-mod, ⊕-times}
 use Rattle.crcc.specs.Ahead.{ahead}
-use Rattle.crcc.specs.Crcc.{taps, bitStep, bitSteps, crc, crcWord}
-use Rattle.crcc.proofs.Crc.{word-step, crc-append, crc-below}
+use Rattle.crcc.specs.Crcc.{bitStep, bitSteps, crc, crcWord}
+use Rattle.crcc.proofs.Crc.{word-step, crc-append}
 
 -- ---- one word
 
@@ -59,11 +59,6 @@ ahead-⊕ (suc n) a b = ap (ahead n) (zeros-⊕ a b) ∙ ahead-⊕ n (crcWord a 
 
 pub ahead-zero : (n : ℕ) → ahead n 0 ≡ 0
 ahead-zero n = ap (ahead n) (sym (⊕-zero 0)) ∙ ahead-⊕ n 0 0 ∙ ⊕-self (ahead n 0)
-
-pub ahead-below : (n c : ℕ) → c < 262144 → ahead n c < 262144
-unfolding ahead crc
-ahead-below zero c h = h
-ahead-below (suc n) c h = ahead-below n (crcWord c 0) (crc-below c (0 ∷ []) h)
 
 -- the last word in the place of the first
 pub ahead-last : (n c : ℕ) → crcWord (ahead n c) 0 ≡ ahead (suc n) c

@@ -1,5 +1,5 @@
-// The picture words of a window, into rows stream by stream, while their symbols are seen. No CRC runs over them here: each of its steps waits
-// for the one before, which would hold up the loop.
+// The picture words of a window, into rows stream by stream, while their symbols are seen. The CRCs are worked out from the rows afterwards
+// (crate `row_crc`), so that this loop has less to do.
 use crate::see::Six;
 use packing::bytes::TwoWords;
 ghost use mathlib.Core.Path.{_≡_};

@@ -1,15 +1,15 @@
 -- Two rows written side by side while a CRC runs over each: what one turn does, and what stands there at the end.
 -- Assumes nothing.
-use mathlib.Core.Path.{_≡_, refl, sym, ap, _∙_}
+use mathlib.Core.Path.{_≡_, refl, ap, _∙_}
 use mathlib.Core.List.{List, [], _∷_}
 use Prim.Native.Nat.{ℕ, suc, _+_, _≤_, _<_}
 use native.Mathlib.Omega.{arith}
 use lib.ListN.{length, set}
 use lib.Seq.{sets, set-comm, length-sets}
 use Rattle.ground.specs.Written.{upto, table}
-use Rattle.ground.proofs.Writing.{sets-upto, upto-more}
+use Rattle.ground.proofs.Writing.{sets-upto}
 use Rattle.crcc.specs.Crcc.{crc, crcWord}
-use Rattle.crcc.proofs.Crc.{crc-append}
+use Rattle.crcc.proofs.Linear.{crc-next}
 
 -- a store before a run of stores may come after it
 store-before : {A : Type 0} (ys l : List A) (k i : ℕ) (x : A) → k < i → set (sets l i ys) k x ≡ sets (set l k x) i ys
@@ -22,10 +22,6 @@ store-before {A} (y ∷ ys) l k i x h =
 store-next : (l : List ℕ) (i k n : ℕ) (f : ℕ → ℕ) → k ≡ i + n → set (sets l i (table n f)) k (f n) ≡ sets l i (table (n + 1) f)
 unfolding table
 store-next l i k n f e = sets-upto 1 (λ j. f j ∷ []) (λ m. refl) l i k n (omega arith)
-
-sum-next : (n : ℕ) (f : ℕ → ℕ) → crcWord (crc 0 (table n f)) (f n) ≡ crc 0 (table (n + 1) f)
-unfolding table crc
-sum-next n f = crc-append 0 (table n f) (f n ∷ []) ∙ ap (crc 0) (sym (upto-more n (λ k. f k ∷ [])))
 
 -- words 0 to j - 1 of two streams, in rows of so many words, and the CRC of each
 pub record Taken (A B : ℕ → ℕ) (count low high : ℕ) (old : List ℕ) (j a b : ℕ) (rows : List ℕ) : Type 0 where
@@ -66,8 +62,8 @@ module _ {A B : ℕ → ℕ} {count low high : ℕ} {old : List ℕ} where
         record {
           some = omega arith;
           apart = t .apart;
-          sum-a = rw (ec, t .sum-a, ex) (sum-next j A);
-          sum-b = rw (ed, t .sum-b, ey) (sum-next j B);
+          sum-a = rw (ec, t .sum-a, ex) (crc-next j A);
+          sum-b = rw (ed, t .sum-b, ey) (crc-next j B);
           put = both;
         }
       where

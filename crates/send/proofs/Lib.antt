@@ -1,6 +1,5 @@
 pub mod Checking
 pub mod GoodCalls
-pub mod Joining
 pub mod OneToOne
 pub mod Passing
 pub mod Putting

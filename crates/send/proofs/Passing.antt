@@ -2,24 +2,20 @@
 -- Assumes nothing.
 use mathlib.Core.Path.{_≡_, refl, sym, ap, ap₂, _∙_}
 use mathlib.Core.List.{List, _++_}
-use Prim.Native.Nat.{ℕ, _+_, _*_}
+use Prim.Native.Nat.{ℕ, zero, suc, _+_, _*_, _≤_}
 use native.Mathlib.Omega.{arith}
 use lib.ListN.{length, getD}
-use Rattle.ground.specs.Written.{upto, table}
+use borrow.Author.Tests.{eq-eqb, ne-eqb}
+use Rattle.ground.specs.Written.{upto}
 use Rattle.ground.proofs.Writing.{upto-more, length-upto}
 use Rattle.encoder.specs.Tables.{offsetOf, ofOffset}
 use Rattle.span.specs.Encoding.{symbolsFrom, afterRun}
 use Rattle.crcc.specs.Crcc.{crc}
+use Rattle.window.specs.declared.sums.Sums.{Sums}
+use Rattle.row_crc.specs.Sums.{sumsIn}
 use Rattle.send.specs.declared.picture.Passed.{Passed}
-use Rattle.send.specs.declared.picture.Sums.{Sums}
-use Rattle.send.specs.Put.{behind, put, pairChars, groupChars, wordAt, pairAt, pictureChars, passedAt, sumsAt}
+use Rattle.send.specs.Put.{behind, put, pairChars, groupChars, wordAt, pairAt, pictureChars, passedAt}
 use Rattle.send.proofs.Putting.{Put, made, renamed, then, length-group, group-of-two, group-of-four}
-
--- five numbers that are the same are the same passed
-same-passed : {o o' a a' b b' c c' e e' : ℕ} → o ≡ o' → a ≡ a' → b ≡ b' → c ≡ c' → e ≡ e'
-    → _≡_ {A = Passed} (record { offset = o; first = a; second = b; third = c; fourth = e })
-    (record { offset = o'; first = a'; second = b'; third = c'; fourth = e' })
-same-passed p q r s t = rw (p, q, r, s, t)
 
 module _ (half : ℕ) (w : ℕ → ℕ → ℕ) where
   more-chars : (n : ℕ) → pictureChars half n w ++ groupChars half (λ t. w t n) ≡ pictureChars half (n + 1) w
@@ -75,15 +71,13 @@ module _ {d at n o : ℕ} {ws before out : List ℕ} where
       (pair-at ws (1920 * 2 + n) j (1920 * 3 + n) (j + 1920) (omega arith) (omega arith)) in
       all-more k here (renamed chars (then (made x) there (made y)))
 
--- the whole picture, with the sums of two streams and of four
-module _ {d at o : ℕ} {ws before out : List ℕ} where
-  pub two-passed : Done d ws at before 1 1920 o out → {x y : ℕ} → x ≡ crc 0 (table 1920 (wordAt ws 0)) → y ≡ crc 0 (table 1920 (wordAt ws 1))
-      → _≡_ {A = Passed} (record { offset = o; first = x; second = y; third = 0; fourth = 0 }) (passedAt 1 d (wordAt ws) 1920)
-  unfolding crc
-  two-passed k p q = same-passed (k .done .offset) p q refl refl
-
-  pub four-passed : Done d ws at before 2 1920 o out → {s : Sums} → s ≡ sumsAt 1920 ws 1920
-      → _≡_ {A = Passed} (record { offset = o; first = s .first; second = s .second; third = s .third; fourth = s .fourth }) (passedAt 2 d (wordAt ws) 1920)
-  four-passed k e =
-      same-passed (k .done .offset)
-      (ap (λ (s : Sums). s .first) e) (ap (λ (s : Sums). s .second) e) (ap (λ (s : Sums). s .third) e) (ap (λ (s : Sums). s .fourth) e)
+-- the whole picture, with the CRC of each stream
+pub picture-passed : (half d : ℕ) (ws : List ℕ) {o : ℕ} {s : Sums} → 1 ≤ half → half ≤ 2 → length ws ≡ 3840 * half
+    → o ≡ behind d (pictureChars half 1920 (wordAt ws)) → s ≡ sumsIn ws
+    → _≡_ {A = Passed} (record { offset = o; first = s .first; second = s .second; third = s .third; fourth = s .fourth }) (passedAt half d (wordAt ws) 1920)
+unfolding crc
+picture-passed zero d ws h l long e is = absurd (omega arith)
+picture-passed (suc zero) d ws h l long e is = rw (is, eq-eqb (length ws) 3840 (omega arith), e) refl
+picture-passed (suc (suc zero)) d ws h l long e is =
+    rw (is, ne-eqb (length ws) 3840 (λ z. absurd (omega arith)), eq-eqb (length ws) 7680 (omega arith), e) refl
+picture-passed (suc (suc (suc half))) d ws h l long e is = absurd (omega arith)

@@ -1,7 +1,7 @@
 -- What the sender's loops put into the symbol buffer, with the running disparity kept as its offset in the encoder's tables. Only private
 -- functions speak of this; that all of it together is the span's characters is the law `whole-is`.
 -- Assumes nothing.
-use Prim.Native.Nat.{ℕ, zero, suc, _+_, _*_, _<_}
+use Prim.Native.Nat.{ℕ, _+_, _*_, _<_}
 use mathlib.Core.Path.{_≡_}
 use mathlib.Core.Bool.{true, false, cond}
 use mathlib.Core.List.{List, [], _∷_, _++_}
@@ -17,7 +17,7 @@ use Rattle.encoder.specs.Tables.{offsetOf, ofOffset}
 use Rattle.packing.specs.Bytes.{bytesOf}
 use Rattle.line.specs.Stream.{vOf, lineAfter}
 use Rattle.crcc.specs.declared.crcc.CrccWords.{CrccWords}
-use Rattle.crcc.specs.Crcc.{crc, crcWord, crccWords}
+use Rattle.crcc.specs.Crcc.{crc, crccWords}
 use Rattle.word.specs.declared.line_number.LineWords.{LineWords}
 use Rattle.word.specs.LineNumber.{lineWords}
 use Rattle.word.specs.Timing.{timing}
@@ -33,7 +33,6 @@ use Rattle.send.specs.declared.coder.Coded.{Coded}
 use Rattle.send.specs.declared.coder.Three.{Three}
 use Rattle.send.specs.declared.put.Four.{Four}
 use Rattle.send.specs.declared.picture.Passed.{Passed}
-use Rattle.send.specs.declared.picture.Sums.{Sums}
 
 -- a character
 abbrev pub coded : Disparity → ℕ → Coded
@@ -110,26 +109,6 @@ passedAt half d w n =
       second = sumOf half n w 1;
       third = sumOf half n w 2;
       fourth = sumOf half n w 3;
-    }
-
--- the CRC of the first j words of each of four runs of n words
-abbrev pub sumsAt : ℕ → List ℕ → ℕ → Sums
-sumsAt n ws j =
-    record {
-      first = crc 0 (table j (λ i. getD ws (n * 0 + i) 0));
-      second = crc 0 (table j (λ i. getD ws (n * 1 + i) 0));
-      third = crc 0 (table j (λ i. getD ws (n * 2 + i) 0));
-      fourth = crc 0 (table j (λ i. getD ws (n * 3 + i) 0));
-    }
-
--- the same with word j of each
-abbrev pub summed : ℕ → List ℕ → ℕ → Sums → Sums
-summed n ws j s =
-    record {
-      first = crcWord (s .first) (getD ws j 0);
-      second = crcWord (s .second) (getD ws (n + j) 0);
-      third = crcWord (s .third) (getD ws (2 * n + j) 0);
-      fourth = crcWord (s .fourth) (getD ws (3 * n + j) 0);
     }
 
 -- what the CRC runs over behind the picture: the EAV and the line number

@@ -1,5 +1,4 @@
 // Sending a span.
-mod ahead;
 mod check;
 mod coder;
 mod parts;

@@ -1,10 +1,10 @@
-// The picture words of all streams, put into the symbol buffer while the CRC of each stream runs over them. Two streams and four have a
-// loop each, so that none asks in every turn how many there are.
+// The picture words of all streams, put into the symbol buffer. Two streams and four have a loop each, so that none asks in every turn how
+// many there are. The CRCs are worked out from the words afterwards (crate `row_crc`), so that the loops have less to do.
 ghost use mathlib.Core.Path.{_≡_};
 ghost use Prim.Native.Nat.{_+_, _*_, _≤_, _<_};
 ghost use lib.ListN.{length};
 ghost use Rattle.encoder.specs.Tables.{offsetOf, ofOffset, symbolTable, turnTable};
-ghost use Rattle.send.specs.Put.{behind, put, pairAt, wordAt, pictureChars, passedAt, summed, AreWords};
+ghost use Rattle.send.specs.Put.{behind, put, pairAt, wordAt, pictureChars, passedAt, AreWords};
 
 // Behind so many words of each stream: the offset of the running disparity, and the CRC of each stream.
 pub(crate) struct Passed {
@@ -13,15 +13,6 @@ pub(crate) struct Passed {
     pub(crate) second: u32,
     pub(crate) third: u32,
     pub(crate) fourth: u32,
-}
-
-// The CRC of each of four runs of words. With four streams a run is a stream; with two it is half a stream, so that four CRCs run side by
-// side in either loop.
-struct Sums {
-    first: u32,
-    second: u32,
-    third: u32,
-    fourth: u32,
 }
 
 // A word of each of two streams, of the first the one at a place.
@@ -49,21 +40,7 @@ fn put_at(
     crate::put::put_both(symbols, turns, d, both, out, at)
 }
 
-// Word j of each of four runs of n words.
-fn sum_words(words: &[u16], n: usize, j: usize, s: Sums) -> Sums
-    requires { ⌜ length (now words) ≡ 4 * n ⌝ }
-    requires { ⌜ j < n ⌝ }
-    ensures { λ r. ⌜ r ≡ summed n (now (words .entry)) j s ⌝ }
-{
-    Sums {
-        first: crcc::crcc::crc_word(s.first, words[j]),
-        second: crcc::crcc::crc_word(s.second, words[n + j]),
-        third: crcc::crcc::crc_word(s.third, words[2 * n + j]),
-        fourth: crcc::crcc::crc_word(s.fourth, words[3 * n + j]),
-    }
-}
-
-// All 1920 words of each of two streams, four of each in a turn: two of each half.
+// All 1920 words of each of two streams, four of each in a turn.
 fn put_two_streams(
     symbols: &[u16; 536],
     turns: &[u16; 268],
@@ -71,40 +48,27 @@ fn put_two_streams(
     d: usize,
     out: &mut [u16],
     at: usize,
-) -> Passed
+) -> usize
     requires { ⌜ now symbols ≡ symbolTable ⌝ }
     requires { ⌜ now turns ≡ turnTable ⌝ }
     requires { ⌜ AreWords (now words) ⌝ }
     requires { ⌜ length (now words) ≡ 3840 ⌝ }
     requires { ⌜ d ≡ offsetOf (ofOffset d) ⌝ }
     requires { ⌜ at + 5760 ≤ length (now out) ⌝ }
-    ensures passed { λ r. ⌜ r ≡ passedAt 1 d (wordAt (now (words .entry))) 1920 ⌝ }
+    ensures offset { λ r. ⌜ r ≡ behind d (pictureChars 1 1920 (wordAt (now (words .entry)))) ⌝ }
     ensures out { λ _. ⌜ now (out .exit) ≡ put d (pictureChars 1 1920 (wordAt (now (words .entry)))) at (now (out .entry)) ⌝ }
 {
-    let mut s = Sums {
-        first: 0,
-        second: 0,
-        third: 0,
-        fourth: 0,
-    };
     let mut offset = d;
-    let mut j = 0;
-    while j < 960 {
-        let o = at + 6 * j;
-        let a = put_at(symbols, turns, words, 2 * j, offset, out, o);
-        let b = put_at(symbols, turns, words, 2 * j + 1, a, out, o + 3);
-        let c = put_at(symbols, turns, words, 2 * j + 2, b, out, o + 6);
-        offset = put_at(symbols, turns, words, 2 * j + 3, c, out, o + 9);
-        s = sum_words(words, 960, j + 1, sum_words(words, 960, j, s));
-        j += 2;
+    let mut i = 0;
+    while i < 1920 {
+        let o = at + 3 * i;
+        let a = put_at(symbols, turns, words, i, offset, out, o);
+        let b = put_at(symbols, turns, words, i + 1, a, out, o + 3);
+        let c = put_at(symbols, turns, words, i + 2, b, out, o + 6);
+        offset = put_at(symbols, turns, words, i + 3, c, out, o + 9);
+        i += 4;
     }
-    Passed {
-        offset,
-        first: crate::ahead::joined(s.first, s.second),
-        second: crate::ahead::joined(s.third, s.fourth),
-        third: 0,
-        fourth: 0,
-    }
+    offset
 }
 
 // All 1920 words of each of four streams, two of each in a turn.
@@ -115,22 +79,16 @@ fn put_four_streams(
     d: usize,
     out: &mut [u16],
     at: usize,
-) -> Passed
+) -> usize
     requires { ⌜ now symbols ≡ symbolTable ⌝ }
     requires { ⌜ now turns ≡ turnTable ⌝ }
     requires { ⌜ AreWords (now words) ⌝ }
     requires { ⌜ length (now words) ≡ 7680 ⌝ }
     requires { ⌜ d ≡ offsetOf (ofOffset d) ⌝ }
     requires { ⌜ at + 11520 ≤ length (now out) ⌝ }
-    ensures passed { λ r. ⌜ r ≡ passedAt 2 d (wordAt (now (words .entry))) 1920 ⌝ }
+    ensures offset { λ r. ⌜ r ≡ behind d (pictureChars 2 1920 (wordAt (now (words .entry)))) ⌝ }
     ensures out { λ _. ⌜ now (out .exit) ≡ put d (pictureChars 2 1920 (wordAt (now (words .entry)))) at (now (out .entry)) ⌝ }
 {
-    let mut s = Sums {
-        first: 0,
-        second: 0,
-        third: 0,
-        fourth: 0,
-    };
     let mut offset = d;
     let mut i = 0;
     while i < 1920 {
@@ -139,19 +97,39 @@ fn put_four_streams(
         let b = put_at(symbols, turns, words, 3840 + i, a, out, o + 3);
         let c = put_at(symbols, turns, words, i + 1, b, out, o + 6);
         offset = put_at(symbols, turns, words, 3841 + i, c, out, o + 9);
-        s = sum_words(words, 1920, i + 1, sum_words(words, 1920, i, s));
         i += 2;
     }
-    Passed {
-        offset,
-        first: s.first,
-        second: s.second,
-        third: s.third,
-        fourth: s.fourth,
-    }
+    offset
 }
 
 // All 1920 words of each stream.
+fn put_streams(
+    symbols: &[u16; 536],
+    turns: &[u16; 268],
+    half: usize,
+    words: &[u16],
+    d: usize,
+    out: &mut [u16],
+    at: usize,
+) -> usize
+    requires { ⌜ now symbols ≡ symbolTable ⌝ }
+    requires { ⌜ now turns ≡ turnTable ⌝ }
+    requires { ⌜ 1 ≤ half ⌝ }
+    requires { ⌜ half ≤ 2 ⌝ }
+    requires { ⌜ AreWords (now words) ⌝ }
+    requires { ⌜ length (now words) ≡ 3840 * half ⌝ }
+    requires { ⌜ d ≡ offsetOf (ofOffset d) ⌝ }
+    requires { ⌜ at + 5760 * half ≤ length (now out) ⌝ }
+    ensures offset { λ r. ⌜ r ≡ behind d (pictureChars half 1920 (wordAt (now (words .entry)))) ⌝ }
+    ensures out { λ _. ⌜ now (out .exit) ≡ put d (pictureChars half 1920 (wordAt (now (words .entry)))) at (now (out .entry)) ⌝ }
+{
+    if half == 1 {
+        return put_two_streams(symbols, turns, words, d, out, at);
+    }
+    put_four_streams(symbols, turns, words, d, out, at)
+}
+
+// The same, and the CRC of each stream.
 pub(crate) fn put_picture(
     symbols: &[u16; 536],
     turns: &[u16; 268],
@@ -172,8 +150,13 @@ pub(crate) fn put_picture(
     ensures passed { λ r. ⌜ r ≡ passedAt half d (wordAt (now (words .entry))) 1920 ⌝ }
     ensures out { λ _. ⌜ now (out .exit) ≡ put d (pictureChars half 1920 (wordAt (now (words .entry)))) at (now (out .entry)) ⌝ }
 {
-    if half == 1 {
-        return put_two_streams(symbols, turns, words, d, out, at);
+    let offset = put_streams(symbols, turns, half, words, d, out, at);
+    let s = row_crc::sums::sums_of_rows(words);
+    Passed {
+        offset,
+        first: s.first,
+        second: s.second,
+        third: s.third,
+        fourth: s.fourth,
     }
-    put_four_streams(symbols, turns, words, d, out, at)
 }

@@ -1,8 +1,6 @@
 -- `row_crc::fold::with_moved` meets its contract.
 -- Assumes nothing.
-use mathlib.Core.Path.{_≡_, refl, sym, ap, ap₂, _∙_}
-use Prim.Native.Nat.{ℕ, _+_, _-_, _≤_, _<_}
-use native.Mathlib.Omega.{arith}
+use mathlib.Core.Path.{refl}
 use borrow.Author.Needs.{needs}
 use Rattle.ground.specs.Xor.{_⊕_}
 use Rattle.row_crc.proofs.fold.with_moved.Statement.{statement}

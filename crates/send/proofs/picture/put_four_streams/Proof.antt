@@ -1,27 +1,25 @@
--- `send::picture::put_four_streams` meets its contract: after i words of each stream those are put and summed.
+-- `send::picture::put_four_streams` meets its contract: after i words of each stream those are put.
 -- Assumes nothing.
-use mathlib.Core.Path.{_≡_, ap, _∙_}
+use mathlib.Core.Path.{_≡_}
 use Prim.Native.Nat.{_+_, _*_, _-_, _%_, _≤_}
 use native.Mathlib.Omega.{arith}
-use Rattle.send.specs.Put.{sumsAt}
-use Rattle.send.proofs.Joining.{no-sums, more-sums}
-use Rattle.send.proofs.Passing.{Done, none-done, four-more, four-passed}
+use Rattle.send.proofs.Passing.{Done, none-done, four-more}
 use Rattle.send.proofs.Putting.{made, is-offset, same-size}
 use Rattle.send.proofs.picture.put_four_streams.Statement.{statement}
 use Rattle.send.proofs.picture.put_four_streams.Tie as tie
 
 abbrev Inv-loop : tie.InvT-loop
-Inv-loop symbols turns words d out₀ at s₀ offset₀ i₀ out s offset i =
-    (i % 2 ≡ 0) × (i ≤ 1920) × Done d words at out₀ 2 i offset out × (s ≡ sumsAt 1920 words i)
+Inv-loop symbols turns words d out₀ at offset₀ i₀ out offset i =
+    (i % 2 ≡ 0) × (i ≤ 1920) × Done d words at out₀ 2 i offset out
 
 abbrev μ-loop : tie.MeasureT-loop
-μ-loop symbols turns words d out₀ at s₀ offset₀ i₀ out s offset i = 1920 - i
+μ-loop symbols turns words d out₀ at offset₀ i₀ out offset i = 1920 - i
 
 loop-holds : tie.Need-loop-holds Inv-loop μ-loop
 loop-holds c =
     let s = c .before .before in
     let a = s .args in
-    (omega arith, omega arith, none-done (a .words .now) (a .at) (a .out .now) 2 (s .pre .1 .1 .1 .1 .0), no-sums 1920 (a .words .now))
+    (omega arith, omega arith, none-done (a .words .now) (a .at) (a .out .now) 2 (s .pre .1 .1 .1 .1 .0))
 
 mul-o : tie.Need-mul-o Inv-loop μ-loop
 mul-o c =
@@ -107,55 +105,36 @@ put-at-requires-4 c κs =
     let e = made (c .before .before .before .put-at3 .ensures) in
     (s .pre .0, (s .pre .1 .0, (s .pre .1 .1 .0, (omega (arith, left, s .pre .1 .1 .1 .0), (is-offset e, omega (arith, left, same-size (k1 .done), same-size e, s .pre .1 .1 .1 .1 .1))))))
 
-add-sum-words : tie.Need-add-sum-words Inv-loop μ-loop
-add-sum-words c =
-    let left : c .before .before .before .before .before .before .before .before .before .before .before .before .before .before .before .before .before .loop .i + 2 ≤ 1920 = omega (arith, c .before .before .before .before .before .before .before .before .before .before .before .before .before .before .before .before .before .loop .inv .0, c .before .before .before .before .before .before .before .before .before .before .before .before .before .before .before .before .loop-test .taken) in
-    omega (arith, left)
-
-sum-words-requires : tie.Need-sum-words-requires Inv-loop μ-loop
-sum-words-requires c κs =
-    let left : c .before .before .before .before .before .before .before .before .before .before .before .before .before .before .before .before .before .loop .i + 2 ≤ 1920 = omega (arith, c .before .before .before .before .before .before .before .before .before .before .before .before .before .before .before .before .before .loop .inv .0, c .before .before .before .before .before .before .before .before .before .before .before .before .before .before .before .before .loop-test .taken) in
-    (omega (arith, c .before .before .before .before .before .before .before .before .before .before .before .before .before .before .before .before .before .before .before .before .pre .1 .1 .1 .0), omega (arith, left))
-
-sum-words-requires-2 : tie.Need-sum-words-requires-2 Inv-loop μ-loop
-sum-words-requires-2 c κs =
-    let left : c .before .before .before .before .before .before .before .before .before .before .before .before .before .before .before .before .before .before .loop .i + 2 ≤ 1920 = omega (arith, c .before .before .before .before .before .before .before .before .before .before .before .before .before .before .before .before .before .before .loop .inv .0, c .before .before .before .before .before .before .before .before .before .before .before .before .before .before .before .before .before .loop-test .taken) in
-    (omega (arith, c .before .before .before .before .before .before .before .before .before .before .before .before .before .before .before .before .before .before .before .before .before .pre .1 .1 .1 .0), omega (arith, left))
-
 add-i : tie.Need-add-i Inv-loop μ-loop
 add-i c =
-    let left : c .before .before .before .before .before .before .before .before .before .before .before .before .before .before .before .before .before .before .before .loop .i + 2 ≤ 1920 = omega (arith, c .before .before .before .before .before .before .before .before .before .before .before .before .before .before .before .before .before .before .before .loop .inv .0, c .before .before .before .before .before .before .before .before .before .before .before .before .before .before .before .before .before .before .loop-test .taken) in
+    let left : c .before .before .before .before .before .before .before .before .before .before .before .before .before .before .before .before .before .loop .i + 2 ≤ 1920 = omega (arith, c .before .before .before .before .before .before .before .before .before .before .before .before .before .before .before .before .before .loop .inv .0, c .before .before .before .before .before .before .before .before .before .before .before .before .before .before .before .before .loop-test .taken) in
     omega (arith, left)
 
 loop-less : tie.Need-loop-less Inv-loop μ-loop
 loop-less c =
-    let left : c .before .before .before .before .before .before .before .before .before .before .before .before .before .before .before .before .before .before .before .loop .i + 2 ≤ 1920 = omega (arith, c .before .before .before .before .before .before .before .before .before .before .before .before .before .before .before .before .before .before .before .loop .inv .0, c .before .before .before .before .before .before .before .before .before .before .before .before .before .before .before .before .before .before .loop-test .taken) in
+    let left : c .before .before .before .before .before .before .before .before .before .before .before .before .before .before .before .before .before .loop .i + 2 ≤ 1920 = omega (arith, c .before .before .before .before .before .before .before .before .before .before .before .before .before .before .before .before .before .loop .inv .0, c .before .before .before .before .before .before .before .before .before .before .before .before .before .before .before .before .loop-test .taken) in
     omega (arith, left)
 
 loop-again : tie.Need-loop-again Inv-loop μ-loop
 loop-again c =
-    let a = c .before .before .before .before .before .before .before .before .before .before .before .before .before .before .before .before .before .before .before .before .before .before .args in
-    let v = c .before .before .before .before .before .before .before .before .before .before .before .before .before .before .before .before .before .before .before .loop in
-    let left : c .before .before .before .before .before .before .before .before .before .before .before .before .before .before .before .before .before .before .before .loop .i + 2 ≤ 1920 = omega (arith, c .before .before .before .before .before .before .before .before .before .before .before .before .before .before .before .before .before .before .before .loop .inv .0, c .before .before .before .before .before .before .before .before .before .before .before .before .before .before .before .before .before .before .loop-test .taken) in
+    let a = c .before .before .before .before .before .before .before .before .before .before .before .before .before .before .before .before .before .before .before .before .args in
+    let v = c .before .before .before .before .before .before .before .before .before .before .before .before .before .before .before .before .before .loop in
+    let left : c .before .before .before .before .before .before .before .before .before .before .before .before .before .before .before .before .before .loop .i + 2 ≤ 1920 = omega (arith, c .before .before .before .before .before .before .before .before .before .before .before .before .before .before .before .before .before .loop .inv .0, c .before .before .before .before .before .before .before .before .before .before .before .before .before .before .before .before .loop-test .taken) in
     let k0 = v .inv .2 in
-    let k1 = four-more k0 (v .i) (3840 + v .i) (a .at + 6 * v .i) (a .at + 6 * v .i + 3) (omega arith) (omega arith) (omega arith) (omega arith) (c .before .before .before .before .before .before .before .before .before .before .before .before .before .before .before .before .put-at .ensures) (c .before .before .before .before .before .before .before .before .before .before .before .before .put-at2 .ensures) in
-    let k2 = four-more k1 (v .i + 1) (3841 + v .i) (a .at + 6 * v .i + 6) (a .at + 6 * v .i + 9) (omega arith) (omega arith) (omega arith) (omega arith) (c .before .before .before .before .before .before .before .before .put-at3 .ensures) (c .before .before .before .before .put-at4 .ensures) in
+    let k1 = four-more k0 (v .i) (3840 + v .i) (a .at + 6 * v .i) (a .at + 6 * v .i + 3) (omega arith) (omega arith) (omega arith) (omega arith) (c .before .before .before .before .before .before .before .before .before .before .before .before .before .before .put-at .ensures) (c .before .before .before .before .before .before .before .before .before .before .put-at2 .ensures) in
+    let k2 = four-more k1 (v .i + 1) (3841 + v .i) (a .at + 6 * v .i + 6) (a .at + 6 * v .i + 9) (omega arith) (omega arith) (omega arith) (omega arith) (c .before .before .before .before .before .before .put-at3 .ensures) (c .before .before .put-at4 .ensures) in
     let put : v .i + 1 + 1 ≡ v .i + 2 = omega arith in
-    let next : v .i + 1 + 1 ≡ v .i + 2 = omega arith in
-    let s1 = more-sums 1920 (a .words .now) (v .i) (v .inv .3) (c .before .sum-words .ensures) in
-    let s2 = more-sums 1920 (a .words .now) (v .i + 1) s1 (c .sum-words2 .ensures) in
-    (omega (arith, v .inv .0), left, rw put at k2, s2 ∙ ap (sumsAt 1920 (a .words .now)) next)
+    (omega (arith, v .inv .0), left, rw put at k2)
 
 same-length : tie.Need-same-length Inv-loop μ-loop
 same-length c = same-size (c .before .loop .inv .2 .done)
 
 returns : tie.Need-returns Inv-loop μ-loop
 returns c =
-    let ws = c .before .before .before .before .args .words .now in
     let v = c .before .loop in
     let past : v .i ≡ 1920 = omega (arith, v .inv .1, c .loop-test .left) in
     let k = rw past at (v .inv .2) in
-    (four-passed k (v .inv .3 ∙ ap (sumsAt 1920 ws) past), k .done .out)
+    (k .done .offset, k .done .out)
 
 pub put-four-streams-spec : {M : Type 1} → statement M
 put-four-streams-spec =
@@ -176,9 +155,6 @@ put-four-streams-spec =
     add-put-at-5
     add-put-at-6
     put-at-requires-4
-    add-sum-words
-    sum-words-requires
-    sum-words-requires-2
     add-i
     loop-less
     loop-again
