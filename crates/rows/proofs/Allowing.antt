@@ -1,8 +1,8 @@
 -- The look at the picture words: what one turn of it does.
 -- Assumes nothing.
-use mathlib.Core.Path.{_≡_, ap}
+use mathlib.Core.Path.{_≡_, refl, ap}
 use mathlib.Core.Bool.{Bool, false, cond, _&&_, and-true, and-false}
-use mathlib.Core.List.{List, _∷_}
+use mathlib.Core.List.{List, [], _∷_}
 use Prim.Native.Nat.{ℕ, _+_, _≤_, _<_}
 use native.Mathlib.Omega.{arith}
 use lib.Bits.{bitOr, or-zero-r, or-add-and, and-le-l}
@@ -38,3 +38,9 @@ module _ (depth : ℕ) where
   pub look-done : (found : ℕ) (xs : List ℕ) (i : ℕ) → length xs ≤ i → (eqb found 0 && allAllowed depth (drop i xs)) ≡ eqb found 0
   unfolding allAllowed
   look-done found xs i h = rw (drop-of-length-le, and-true)
+
+-- any other depth than ten bits asks what twelve bits do
+pub allowed-else : (depth : ℕ) (xs : List ℕ) → (depth ≡ 10 → ⊥) → allAllowed 12 xs ≡ allAllowed depth xs
+unfolding allAllowed
+allowed-else depth [] n = refl
+allowed-else depth (x ∷ xs) n = rw (ne-eqb depth 10 n) (ap (λ (b : Bool). allowedWord 12 x && b) (allowed-else depth xs n))
