@@ -129,8 +129,8 @@ module _ (row moved : List ℕ) where
             (ap₂ (λ (y z : ℕ). y ⊕ z) (sym (not-only j x i n)) (only-further i (j + 86) 53 (139 + j) x (omega arith)))
             (ap₂ (λ (y z : ℕ). y ⊕ z) (only-further i (j + 93) 46 (139 + j) x (omega arith)) (ap (λ (m : ℕ). only m x i) place)))
 
-    pub turn : Folds row next (j + 1)
-    turn =
+    pub folds-on : Folds row next (j + 1)
+    folds-on =
         record {
           same =
               ap (crc 0) (table-same 1920 (left row next (j + 1)) (λ i. left row moved j i ⊕ moves j x i) (λ i _. moved-to i))

@@ -6,7 +6,7 @@ use native.Mathlib.Omega.{arith}
 use borrow.Author.Needs.{needs}
 use lib.ListN.{length}
 use Rattle.row_crc.specs.Fold.{Folds}
-use Rattle.row_crc.proofs.Folding.{begin, turn}
+use Rattle.row_crc.proofs.Folding.{begin, folds-on}
 use Rattle.row_crc.proofs.fold.fold.Statement.{statement}
 use Rattle.row_crc.proofs.fold.fold.Tie as tie
 
@@ -43,7 +43,7 @@ loop-again : tie.Need-loop-again Inv-loop μ-loop
 loop-again c =
     let v = c .before .before .before .loop in
     let row = c .before .before .before .before .before .before .args .row .now in
-    (search needs, search needs, turn row (v .moved) (c .before .before .loop-test .taken) (v .inv .1) (v .inv .2) (c .with-moved .ensures))
+    (search needs, search needs, folds-on row (v .moved) (c .before .before .loop-test .taken) (v .inv .1) (v .inv .2) (c .with-moved .ensures))
 
 same-length : tie.Need-same-length Inv-loop μ-loop
 same-length c = search needs
