@@ -3,7 +3,7 @@
  *
  * Link with libadapter.a (`rt staticlib adapter` writes it to target/staticlib), on x86-64 Linux. It calls memcpy and memset and nothing
  * else, allocates nothing, keeps nothing between calls, and may be called from any number of threads at once. As it is compiled now judging,
- * finding and the next span take up to 24 KiB of stack, sending 18 KiB, reading 9 KiB, and every other call less than 3 KiB.
+ * finding and the next span take up to 27 KiB of stack, sending 26 KiB, reading 12 KiB, and every other call less than 3 KiB.
  *
  * WHAT EVERY CALL KEEPS
  *
