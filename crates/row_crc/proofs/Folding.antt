@@ -43,6 +43,10 @@ room-long l e = rw (append-nil l) (omega arith)
 
 -- ---- one word
 
+-- nothing has been moved to it
+with-none : (r : ℕ) {a b c : ℕ} → a ≡ 0 → b ≡ 0 → c ≡ 0 → r ⊕ a ⊕ b ⊕ c ≡ r
+with-none r p q s = rw (p, q, s, ⊕-zero r, ⊕-zero r, ⊕-zero r) refl
+
 -- what each of three words gets, together
 gets : (r a b c p q s : ℕ) → r ⊕ (a ⊕ p) ⊕ (b ⊕ q) ⊕ (c ⊕ s) ≡ r ⊕ a ⊕ b ⊕ c ⊕ (0 ⊕ q ⊕ (s ⊕ p))
 gets r a b c p q s =
@@ -82,8 +86,8 @@ module _ (row moved : List ℕ) where
             (table-same 1920 (left row moved 0) (λ i. getD row (0 + i) 0)
             (λ i h.
             let here : i ≡ 0 + i = omega arith in
-            rw (le-ltb i 0 (omega arith), z .none i, z .none (i + 53), z .none (i + 46), ⊕-zero (getD row i 0), ⊕-zero (getD row i 0), ⊕-zero (getD row i 0))
-            (ap (λ (k : ℕ). getD row k 0) here)));
+            ap (λ (b : Bool). cond b 0 (withMoved row moved i)) (le-ltb i 0 (omega arith))
+            ∙ with-none (getD row i 0) (z .none _) (z .none _) (z .none _) ∙ ap (λ (k : ℕ). getD row k 0) here));
         none = λ k h. z .none k;
       }
 

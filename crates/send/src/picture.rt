@@ -59,14 +59,14 @@ fn put_two_streams(
     ensures out { λ _. ⌜ now (out .exit) ≡ put d (pictureChars 1 1920 (wordAt (now (words .entry)))) at (now (out .entry)) ⌝ }
 {
     let mut offset = d;
-    let mut i = 0;
-    while i < 1920 {
-        let o = at + 3 * i;
-        let a = put_at(symbols, turns, words, i, offset, out, o);
-        let b = put_at(symbols, turns, words, i + 1, a, out, o + 3);
-        let c = put_at(symbols, turns, words, i + 2, b, out, o + 6);
-        offset = put_at(symbols, turns, words, i + 3, c, out, o + 9);
-        i += 4;
+    let mut j = 0;
+    while j < 1920 {
+        let o = at + 3 * j;
+        let a = put_at(symbols, turns, words, j, offset, out, o);
+        let b = put_at(symbols, turns, words, j + 1, a, out, o + 3);
+        let c = put_at(symbols, turns, words, j + 2, b, out, o + 6);
+        offset = put_at(symbols, turns, words, j + 3, c, out, o + 9);
+        j += 4;
     }
     offset
 }
