@@ -167,6 +167,9 @@ entry-fits s = flagged s .fits
 pub flag-byte : (s : ℕ) → entryOf s / 8192 % 2 ≡ 1 → entryOf s / 256 % 2 ≡ 0
 flag-byte s = flagged s .byte
 
+pub byte-flag : (s : ℕ) → entryOf s % 512 < 256 → (entryOf s ≡ 0 → ⊥) → entryOf s / 8192 % 2 ≡ 1
+byte-flag s = flagged s .flag
+
 -- So the entry of a symbol says what decoding answers, and what the symbol means.
 pub decode-entry : (d : Disparity) (s : ℕ) → s < 1024 → decodedBy d (entryOf s) ≡ decodeOf d s
 decode-entry d s h = go (charOf d s) refl

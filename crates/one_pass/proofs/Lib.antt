@@ -1,4 +1,5 @@
 pub mod Blanks
 pub mod Getting
+pub mod Kept
 pub mod Seeing
 pub mod Wholes

@@ -8,17 +8,19 @@ use native.Mathlib.Omega.{arith}
 use lib.Bits.{bitAnd, bitOr, bitXor, and-shr, and-mod, or-shr, or-mod, xor-shr, xor-mod, xor-lt, and-high, and-le-l, and-le-r, or-zero-r, or-add-and}
 use lib.Dec.{eqb}
 use lib.ListN.{getD}
-use borrow.Author.Tests.{eqb-true, eq-eqb}
+use borrow.Author.Tests.{eqb-true, eqb-false, eq-eqb, not-true}
+use Rattle.ground.specs.Range.{within}
+use Rattle.ground.proofs.Ranges.{to-high}
 use Rattle.ground.proofs.Tests.{both-left, both-right}
 use Rattle.symbol.specs.declared.disparity.Disparity.{Disparity}
 use Rattle.symbol.specs.declared.disparity.Disparity.the-variants.{Negative, Positive}
 use Rattle.decoder.specs.Decoder.{decodingTable, entryOf, entryIn}
 use Rattle.decoder.proofs.Entries.{entry-at}
-use Rattle.decoder.proofs.Reading.{entry-in, entry-fits, flag-byte}
-use Rattle.mask.specs.Mask.{maskOf, afterBy}
+use Rattle.decoder.proofs.Reading.{entry-in, entry-fits, flag-byte, byte-flag}
+use Rattle.mask.specs.Mask.{legalBy, maskOf, afterBy}
 use Rattle.scan.specs.Run.{suitsBy, Going}
 use Rattle.scan.proofs.Gathering.{suits-byte}
-use Rattle.scan.proofs.Runs.{begin, turn}
+use Rattle.scan.proofs.Runs.{suits-is, begin, turn}
 use Rattle.packing.specs.declared.bytes.TwoWords.{TwoWords}
 use Rattle.packing.specs.Bytes.{wordsOf}
 use Rattle.rows.specs.Given.{plainPair}
@@ -26,7 +28,7 @@ use Rattle.rows.proofs.Plain.{pair-is}
 use Rattle.window.specs.Scan.{byteOf, symbolAt, runningAt}
 use Rattle.window.proofs.Symbols.{byte-is}
 use Rattle.one_pass.specs.declared.see.Seen.{Seen}
-use Rattle.one_pass.specs.See.{seen, seenThree, passesBy, maskBy, Clean}
+use Rattle.one_pass.specs.See.{seen, seenThree, passesBy, maskBy, AreBytes, Clean}
 
 -- ---- bits
 
@@ -53,6 +55,16 @@ and-three a b ha hb e = (omega (arith, and-le-l a b), omega (arith, and-le-r a b
 and-one : (a b : ℕ) → a < 2 → b < 2 → bitAnd a b ≡ 1 → (a ≡ 1) × (b ≡ 1)
 and-one a b ha hb e = (omega (arith, and-le-l a b), omega (arith, and-le-r a b))
 
+-- bits 11 and 12 for a disparity: those of the other
+abbrev other : Disparity → ℕ
+other Negative = 2
+other Positive = 1
+
+-- its own bit of two
+abbrev legal-bit : Disparity → ℕ → ℕ
+legal-bit Negative v = v % 2
+legal-bit Positive v = v / 2 % 2
+
 -- where one of two bits may be missing, the other is there
 has-low : (e : ℕ) → e < 4 → bitOr e 2 ≡ 3 → e % 2 ≡ 1
 has-low zero h q = absurd (let z : 2 ≡ 3 = q in omega arith)
@@ -75,17 +87,25 @@ or-left-most a b = omega (arith, or-add-and a b, and-le-r a b)
 pub or-right-most : (a b : ℕ) → b ≤ bitOr a b
 or-right-most a b = omega (arith, or-add-and a b, and-le-l a b)
 
+-- a bit of legality that an entry has, and the other one
+both-bits : (d : Disparity) (v : ℕ) → v < 4 → legal-bit d v ≡ 1 → (bitOr v (other d) ≡ 3) × (1 ≤ v)
+both-bits Negative zero h q = absurd (let z : _≡_ {A = ℕ} 0 1 = q in omega arith)
+both-bits Negative (suc zero) h q = (refl, omega arith)
+both-bits Negative (suc (suc zero)) h q = absurd (let z : _≡_ {A = ℕ} 0 1 = q in omega arith)
+both-bits Negative (suc (suc (suc zero))) h q = (refl, omega arith)
+both-bits Negative (suc (suc (suc (suc v)))) h q = absurd (omega arith)
+both-bits Positive zero h q = absurd (let z : _≡_ {A = ℕ} 0 1 = q in omega arith)
+both-bits Positive (suc zero) h q = absurd (let z : _≡_ {A = ℕ} 0 1 = q in omega arith)
+both-bits Positive (suc (suc zero)) h q = (refl, omega arith)
+both-bits Positive (suc (suc (suc zero))) h q = (refl, omega arith)
+both-bits Positive (suc (suc (suc (suc v)))) h q = absurd (omega arith)
+
 -- ---- the table
 
 pub entry-is : {t : List ℕ} (s : ℕ) → t ≡ decodingTable → s < 1024 → getD t s 0 ≡ entryOf s
 entry-is s e h = ap (λ (l : List ℕ). getD l s 0) e ∙ entry-at s h
 
 -- ---- the mask
-
--- bits 11 and 12 for a disparity: those of the other
-abbrev other : Disparity → ℕ
-other Negative = 2
-other Positive = 1
 
 mask-told : (d : Disparity) (turns : ℕ) → maskBy turns ≡ maskOf d → turns / 2048 % 4 ≡ other d
 mask-told Negative turns e = omega arith
@@ -95,6 +115,16 @@ mask-told Positive turns e = omega arith
 has-bit : (d : Disparity) (e : ℕ) → bitOr (e / 512 % 4) (other d) ≡ 3 → bitAnd e (maskOf d) ≡ maskOf d
 has-bit Negative e q = and-high e 1 9 ∙ omega (arith, has-low (e / 512 % 4) (omega arith) q)
 has-bit Positive e q = and-high e 1 10 ∙ omega (arith, has-high (e / 512 % 4) (omega arith) q)
+
+-- and one that is legal at it has both bits with the other's
+has-both : (d : Disparity) (e : ℕ) → legalBy (maskOf d) e ≡ true → (bitOr (e / 512 % 4) (other d) ≡ 3) × (1 ≤ e / 512 % 4)
+unfolding legalBy
+has-both Negative e t =
+    let set : e / 512 % 2 * 512 ≡ 0 → ⊥ = λ z. eqb-false (bitAnd e 512) 0 (not-true _ t) (and-high e 1 9 ∙ z) in
+    both-bits Negative (e / 512 % 4) (omega arith) (omega (arith, set))
+has-both Positive e t =
+    let set : e / 1024 % 2 * 1024 ≡ 0 → ⊥ = λ z. eqb-false (bitAnd e 1024) 0 (not-true _ t) (and-high e 1 10 ∙ z) in
+    both-bits Positive (e / 512 % 4) (omega arith) (omega (arith, set))
 
 -- the bit after an entry
 mask-turned : (d : Disparity) (y : ℕ) → y < 4 → bitXor (maskOf d) (y * 512) ≡ 1536 - bitXor (other d) y * 512
@@ -121,14 +151,33 @@ after-seen d turns e o =
 
 module _ (w : List ℕ) where
   pub see-begin : (from turns : ℕ) → turns < 16384 → maskBy turns ≡ maskOf (runningAt w from) → Clean w from from 65535 turns
-  see-begin from turns h e = record { come = omega arith; fits = h; clean = λ _. begin w 0 255 from (maskBy turns) e }
+  see-begin from turns h e = record { come = omega arith; fits = h; clean = λ _. begin w 0 255 from (maskBy turns) e; kept = λ _. refl }
 
   pub see-turn : {from i good turns e : ℕ} → Clean w from i good turns → e ≡ entryOf (symbolAt w i)
       → Clean w from (i + 1) (bitAnd good (bitOr e (turns / 4))) (bitXor turns e)
   see-turn {from} {i} {good} {turns} {e} g is =
       let small : e < 16384 = rw is (entry-fits (symbolAt w i)) in
-      record { come = omega (arith, g .come); fits = xor-lt 14 turns e (g .fits) small; clean = step }
+      record { come = omega (arith, g .come); fits = xor-lt 14 turns e (g .fits) small; clean = step; kept = keep }
     where
+      keep : AreBytes w from (i + 1) → passesBy (bitAnd good (bitOr e (turns / 4))) ≡ true
+      keep all =
+          let was = g .kept (record { each = λ j h l. all .each j h (omega arith) }) in
+          let legal : good / 512 % 4 ≡ 3 = eqb-true _ _ (both-left (eqb (good / 512 % 4) 3) (eqb (good / 8192 % 2) 1) was) in
+          let byte : good / 8192 % 2 ≡ 1 = eqb-true _ _ (both-right (eqb (good / 512 % 4) 3) (eqb (good / 8192 % 2) 1) was) in
+          let d = runningAt w i in
+          let o : turns / 2048 % 4 ≡ other d = mask-told d turns (g .clean was .bit) in
+          let at : turns / 4 / 512 % 4 ≡ other d = omega (arith, o) in
+          let suit : suitsBy 0 255 (maskOf d) e ≡ true = rw is (suits-is w 0 255 i ∙ all .each i (g .come) (omega arith)) in
+          let has = has-both d e (both-left (legalBy (maskOf d) e) (within 0 255 (e % 512)) suit) in
+          let low : e % 512 ≤ 255 = to-high 0 255 (e % 512) (both-right (legalBy (maskOf d) e) (within 0 255 (e % 512)) suit) in
+          let flag : e / 8192 % 2 ≡ 1 = rw is (byte-flag (symbolAt w i) (rw is at (let b : e % 512 < 256 = omega arith in b)) (λ z. absurd (omega (arith, has .1, is ∙ z)))) in
+          let none-above : turns / 4 / 8192 % 2 ≡ 0 = omega (arith, g .fits) in
+          let two : bitAnd good (bitOr e (turns / 4)) / 512 % 4 ≡ 3 =
+          legal-two good (bitOr e (turns / 4)) ∙ ap₂ bitAnd legal (either-two e (turns / 4) ∙ ap (bitOr (e / 512 % 4)) at ∙ has .0) in
+          let one : bitAnd good (bitOr e (turns / 4)) / 8192 % 2 ≡ 1 =
+          byte-one good (bitOr e (turns / 4)) ∙ ap₂ bitAnd byte (either-one e (turns / 4) ∙ ap₂ bitOr flag none-above) in
+          ap₂ _&&_ (eq-eqb _ _ two) (eq-eqb _ _ one)
+
       step : passesBy (bitAnd good (bitOr e (turns / 4))) ≡ true → Going w 0 255 from (i + 1) (maskBy (bitXor turns e))
       step t =
           let legal : bitAnd good (bitOr e (turns / 4)) / 512 % 4 ≡ 3 = eqb-true _ _ (both-left (eqb (bitAnd good (bitOr e (turns / 4)) / 512 % 4) 3) (eqb (bitAnd good (bitOr e (turns / 4)) / 8192 % 2) 1) t) in

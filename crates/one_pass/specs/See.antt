@@ -9,7 +9,7 @@ use lib.Dec.{eqb}
 use lib.ListN.{length, getD}
 use Rattle.decoder.specs.Decoder.{entryOf}
 use Rattle.rows.specs.Given.{plainPair}
-use Rattle.scan.specs.Run.{Going}
+use Rattle.scan.specs.Run.{suits, Going}
 use Rattle.window.specs.Scan.{symbolAt}
 use Rattle.one_pass.specs.declared.see.Seen.{Seen}
 use Rattle.one_pass.specs.declared.see.Six.{Six}
@@ -48,8 +48,13 @@ passesBy good = eqb (good / 512 % 4) 3 && eqb (good / 8192 % 2) 1
 abbrev pub maskBy : ℕ → ℕ
 maskBy turns = 1536 - turns / 2048 % 4 * 512
 
--- where nothing is missing, all symbols up to i are bytes that are legal where they stand
+-- all symbols from one place to another are bytes that are legal where they stand
+pub record AreBytes (w : List ℕ) (from to : ℕ) : Type 0 where
+  pub each : (j : ℕ) → from ≤ j → j < to → suits w 0 255 j ≡ true
+
+-- nothing is missing just where all symbols up to i are such bytes
 pub record Clean (w : List ℕ) (from i good turns : ℕ) : Type 0 where
   pub come : from ≤ i
   pub fits : turns < 16384
   pub clean : passesBy good ≡ true → Going w 0 255 from i (maskBy turns)
+  pub kept : AreBytes w from i → passesBy good ≡ true

@@ -2,18 +2,35 @@
 -- Assumes nothing.
 use mathlib.Core.Path.{_≡_}
 use Prim.Native.Nat.{ℕ, _+_, _*_, _<_}
+use mathlib.Core.Bool.{Bool, true, _&&_}
 use mathlib.Core.List.{List}
+use lib.Dec.{eqb}
 use lib.ListN.{length}
 use Rattle.mask.specs.Mask.{maskOf, ofMask}
 use Rattle.rows.specs.Picture.{sumsOf}
-use Rattle.scan.specs.Run.{Going, scannedOf}
+use Rattle.rows.specs.Given.{ready}
+use Rattle.scan.specs.Run.{suits, Going, place20, scannedOf}
+use Rattle.span.specs.declared.format.Format.{Format}
 use Rattle.span.specs.declared.format.Shape.{Shape}
-use Rattle.span.specs.Format.{streams}
-use Rattle.window.specs.Scan.{startOf, runningAt}
+use Rattle.span.specs.Format.{shapeOf, streams}
+use Rattle.window.specs.Scan.{startOf, runningAt, holds20}
 use Rattle.window.specs.Tests.{rows as rowsOf}
 use Rattle.window.specs.Words.{wordAt}
 use Rattle.one_pass.specs.declared.whole.Taken.{Taken}
 use Rattle.one_pass.specs.See.{maskBy}
+
+-- a special character at a place and behind it, legal there
+pub record Twice (w : List ℕ) (c at : ℕ) : Type 0 where
+  pub first : suits w c c at ≡ true
+  pub second : suits w c c (at + 1) ≡ true
+
+-- test 20 holds at every symbol
+pub record AllHold (p : Shape) (w : List ℕ) : Type 0 where
+  pub each : (j : ℕ) → j < length w → holds20 p w j ≡ true
+
+-- a window of a known format with its rows, at whose every symbol test 20 holds
+abbrev pub wholeIf : Format → List ℕ → ℕ → Bool
+wholeIf f w room = ready f (length w) room && eqb (place20 (shapeOf f) w) (length w)
 
 -- what is gathered before symbol i tells the running disparity there
 pub record Tied (w : List ℕ) (i turns : ℕ) : Type 0 where

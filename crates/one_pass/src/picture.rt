@@ -8,7 +8,7 @@ ghost use Prim.Native.Nat.{ℕ, _+_, _-_, _*_, _%_, _≤_, _<_};
 ghost use mathlib.Core.List.{List};
 ghost use lib.ListN.{length};
 ghost use Rattle.decoder.specs.Decoder.{decodingTable};
-ghost use Rattle.one_pass.specs.See.{TenBits, Clean, passesBy};
+ghost use Rattle.one_pass.specs.See.{TenBits, AreBytes, Clean, passesBy};
 ghost use Rattle.one_pass.specs.Picture.{Got, putPair};
 
 // Words of each stream in a piece. None is looked at behind one with a fault: what is no window is soon known to be none.
@@ -197,6 +197,7 @@ pub(crate) fn take_picture(
     requires { ⌜ Clean (now symbols) (12 * half) (12 * half) 65535 turns ⌝ }
     ensures size { λ _. ⌜ length (now (rows .exit)) ≡ 3840 * half ⌝ }
     ensures got { λ r. ⌜ (passesBy (r .good) ≡ true → Got half (now (symbols .entry)) (now (rows .entry)) 1920 r (now (rows .exit))) ⌝ }
+    ensures kept { λ r. ⌜ (AreBytes (now (symbols .entry)) (12 * half) (5772 * half) → passesBy (r .good) ≡ true) ⌝ }
 {
     let mut p = Passed { good: 65535, turns };
     let mut j = 0;

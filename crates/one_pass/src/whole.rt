@@ -8,13 +8,14 @@ ghost use mathlib.Core.Path.{_≡_};
 ghost use mathlib.Core.Bool.{true, false};
 ghost use Prim.Native.Nat.{_+_, _*_, _≤_};
 ghost use lib.ListN.{length};
-ghost use Rattle.mask.specs.Mask.{ofMask};
+ghost use Rattle.mask.specs.Mask.{maskOf, ofMask};
 ghost use Rattle.rows.specs.Fill.{fillRight};
 ghost use Rattle.rows.specs.Given.{Given};
 ghost use Rattle.scan.specs.Run.{Going};
 ghost use Rattle.span.specs.Format.{shapeOf, samplesIn};
-ghost use Rattle.one_pass.specs.See.{TenBits, maskBy};
-ghost use Rattle.one_pass.specs.Whole.{Begun, Stays, Tied, Ending, Wholly};
+ghost use Rattle.window.specs.Scan.{runningAt};
+ghost use Rattle.one_pass.specs.See.{TenBits, AreBytes, maskBy};
+ghost use Rattle.one_pass.specs.Whole.{Twice, AllHold, wholeIf, Begun, Stays, Tied, Ending, Wholly};
 
 pub struct Taken {
     // Whether the window is as it should be: then all that follows is right, and the rows are.
@@ -30,7 +31,8 @@ pub struct Taken {
 
 // Whether each symbol has ten bits. Each is looked at, so that the loop takes many at a time.
 fn are_ten_bits(symbols: &[u16]) -> bool
-    ensures { λ r. ⌜ (r ≡ true → TenBits (now (symbols .entry))) ⌝ }
+    ensures sound { λ r. ⌜ (r ≡ true → TenBits (now (symbols .entry))) ⌝ }
+    ensures kept { λ r. ⌜ (TenBits (now (symbols .entry)) → r ≡ true) ⌝ }
 {
     let mut all = 0;
     let mut i = 0;
@@ -54,7 +56,8 @@ fn disparity_by(turns: u32) -> Disparity
 // K28.5 twice: what is gathered behind it; 0 where something else stands there.
 fn behind_sav(symbols: &[u16]) -> u32
     requires { ⌜ 2 ≤ length (now symbols) ⌝ }
-    ensures { λ r. ⌜ ((r ≡ 0 → ⊥) → Begun (now (symbols .entry)) r) ⌝ }
+    ensures sound { λ r. ⌜ ((r ≡ 0 → ⊥) → Begun (now (symbols .entry)) r) ⌝ }
+    ensures kept { λ r. ⌜ (Twice (now (symbols .entry)) 261 0 → r ≡ 0 → ⊥) ⌝ }
 {
     if symbols[0] == 0x17C {
         if symbols[1] == 0x283 {
@@ -73,7 +76,8 @@ fn behind_sav(symbols: &[u16]) -> u32
 // Whether K29.7 stands twice from a place on, at the disparity at which `turns` has been gathered, which it does not turn.
 fn is_eav(symbols: &[u16], at: usize, turns: u32) -> bool
     requires { ⌜ at + 2 ≤ length (now symbols) ⌝ }
-    ensures { λ r. ⌜ (r ≡ true → Stays (now (symbols .entry)) at turns) ⌝ }
+    ensures sound { λ r. ⌜ (r ≡ true → Stays (now (symbols .entry)) at turns) ⌝ }
+    ensures kept { λ r. ⌜ (maskBy turns ≡ maskOf (runningAt (now (symbols .entry)) at) → Twice (now (symbols .entry)) 266 at → r ≡ true) ⌝ }
 {
     if turns / 2048 % 4 == 2 {
         if symbols[at] == 0x05D {
@@ -101,6 +105,7 @@ fn tail_of(t: &[u16; 1024], p: Shape, symbols: &[u16], turns: u32) -> Ended
     requires { ⌜ Tied (now symbols) (5796 * p .half) turns ⌝ }
     ensures whole { λ r. ⌜ (r .whole ≡ true → Going (now (symbols .entry)) 0 255 (5796 * p .half) (length (now (symbols .entry))) (maskBy (r .turns))) ⌝ }
     ensures filled { λ r. ⌜ (r .filled ≡ true → fillRight p (now (symbols .entry)) ≡ true) ⌝ }
+    ensures kept { λ r. ⌜ (AreBytes (now (symbols .entry)) (5796 * p .half) (length (now (symbols .entry))) → r .whole ≡ true) ⌝ }
 {
     let from = 5796 * p.half;
     let to = symbols.len();
@@ -136,6 +141,7 @@ fn end_of(t: &[u16; 1024], p: Shape, symbols: &[u16], turns: u32) -> Ended
     requires { ⌜ Tied (now symbols) (5772 * p .half) turns ⌝ }
     ensures whole { λ r. ⌜ (r .whole ≡ true → Ending p (now (symbols .entry)) turns (r .turns)) ⌝ }
     ensures filled { λ r. ⌜ (r .filled ≡ true → fillRight p (now (symbols .entry)) ≡ true) ⌝ }
+    ensures kept { λ r. ⌜ (AllHold p (now (symbols .entry)) → r .whole ≡ true) ⌝ }
 {
     let eav = 5772 * p.half;
     let behind = eav + 24 * p.half;
@@ -175,6 +181,7 @@ fn take_window(t: &[u16; 1024], p: Shape, symbols: &[u16], rows: &mut [u16]) -> 
     ensures size { λ _. ⌜ length (now (rows .exit)) ≡ samplesIn p ⌝ }
     ensures whole { λ r. ⌜ (r .whole ≡ true → Wholly p (now (symbols .entry)) r (now (rows .exit))) ⌝ }
     ensures filled { λ r. ⌜ (r .filled ≡ true → fillRight p (now (symbols .entry)) ≡ true) ⌝ }
+    ensures kept { λ r. ⌜ (AllHold p (now (symbols .entry)) → r .whole ≡ true) ⌝ }
 {
     let first = behind_sav(symbols);
     if first == 0 {
@@ -206,14 +213,16 @@ fn take_window(t: &[u16; 1024], p: Shape, symbols: &[u16], rows: &mut [u16]) -> 
 // A window with rows of its format's length; of anything else nothing is known. The table is lent once, here.
 pub fn take(f: Format, symbols: &[u16], rows: &mut [u16]) -> Taken
     ensures size { λ _. ⌜ length (now (rows .exit)) ≡ length (now (rows .entry)) ⌝ }
-    ensures whole { λ r. ⌜ (r .whole ≡ true → Wholly (shapeOf f) (now (symbols .entry)) r (now (rows .exit))) ⌝ }
+    ensures taken { λ r. ⌜ (r .whole ≡ true → Wholly (shapeOf f) (now (symbols .entry)) r (now (rows .exit))) ⌝ }
     ensures filled { λ r. ⌜ (r .filled ≡ true → fillRight (shapeOf f) (now (symbols .entry)) ≡ true) ⌝ }
+    ensures whole { λ r. ⌜ r .whole ≡ wholeIf f (now (symbols .entry)) (length (now (rows .entry))) ⌝ }
 {
-    if rows::fit::is_ready(f, symbols.len(), rows.len()) {
-        if are_ten_bits(symbols) {
-            let t = decoder::table::decoding_table();
-            return take_window(&t, span::format::shape_of(f), symbols, rows);
-        }
+    if !rows::fit::is_ready(f, symbols.len(), rows.len()) {
+        return nothing();
     }
-    nothing()
+    if !are_ten_bits(symbols) {
+        return nothing();
+    }
+    let t = decoder::table::decoding_table();
+    take_window(&t, span::format::shape_of(f), symbols, rows)
 }

@@ -27,7 +27,7 @@ use Rattle.scan.specs.Run.{suitsBy, suits, stop, ranOn, Going}
 
 module _ (w : List ℕ) (low high : ℕ) where
   -- what the table says of a symbol is so
-  suits-is : (i : ℕ) → suitsBy low high (maskOf (runningAt w i)) (entryOf (symbolAt w i)) ≡ suits w low high i
+  pub suits-is : (i : ℕ) → suitsBy low high (maskOf (runningAt w i)) (entryOf (symbolAt w i)) ≡ suits w low high i
   unfolding suits
   suits-is i =
       ap₂ _&&_ (legal-mask (runningAt w i) (entryOf (symbolAt w i)) ∙ legal-is (runningAt w i) (symbolAt w i))

@@ -65,7 +65,7 @@ module _ (p : Shape) (w : List ℕ) where
       record { within-to = omega arith; bit = m; held = λ j h. absurd (omega arith); failed = λ h. absurd (omega arith) }
 
   module _ (low high from to : ℕ) (kind : (i : ℕ) → from ≤ i → i < to → (c : ℕ) → fits p i c ≡ within low high c) where
-    same-test : (i : ℕ) → from ≤ i → i < to → holds20 p w i ≡ suits w low high i
+    pub same-test : (i : ℕ) → from ≤ i → i < to → holds20 p w i ≡ suits w low high i
     unfolding holds20 suits
     same-test i h l = ap (λ (t : Bool). isSome (charOf (runningAt w i) (symbolAt w i)) && t) (kind i h l (meant (symbolAt w i)))
 

@@ -2,12 +2,14 @@
 -- Assumes nothing.
 use mathlib.Core.Path.{_≡_, refl, sym, _∙_}
 use mathlib.Core.Bool.{true≢false}
-use Prim.Native.Nat.{_-_, _*_, _%_, _≤_}
+use Prim.Native.Nat.{_+_, _-_, _*_, _%_, _≤_}
+use native.Mathlib.Nat.{mul-le-mul-left}
 use native.Mathlib.Omega.{arith}
 use lib.ListN.{length}
 use borrow.Author.Needs.{needs}
 use Rattle.one_pass.specs.Picture.{Got}
 use Rattle.one_pass.proofs.Getting.{got-begin}
+use Rattle.one_pass.proofs.Kept.{bytes-in}
 use Rattle.one_pass.proofs.picture.take_picture.Statement.{statement}
 use Rattle.one_pass.proofs.picture.take_picture.Tie as tie
 use Rattle.one_pass.proofs.picture.take_picture.Reads as reads
@@ -59,7 +61,13 @@ same-length c = omega (arith, c .before .before .before .before .take-piece .ens
 
 returns : tie.Need-returns Inv-loop μ-loop
 returns c =
-    (c .before .before .before .before .take-piece .ensures .0, λ t. absurd (true≢false (sym t ∙ sym (c .before .passes .ensures) ∙ c .if1 .left)))
+    let s = c .before .before .before .before .before .before .before .before .before .before in
+    let v = c .before .before .before .before .before .before .before .loop in
+    let e = c .before .before .before .before .take-piece .ensures in
+    let t = c .before .before .before .before .before .before .loop-test .taken in
+    let few : v .j + 120 ≤ 1920 = omega (arith, v .inv .1, t) in
+    let most : 3 * s .args .half * (v .j + 120) ≤ 3 * s .args .half * 1920 = mul-le-mul-left (3 * s .args .half) few in
+    (e .0, (λ t. absurd (true≢false (sym t ∙ sym (c .before .passes .ensures) ∙ c .if1 .left)), λ all. e .1 (s .args .rows .now) (v .inv .3) .clean .kept (bytes-in all (omega arith) (omega (arith, most)))))
 
 same-length-2 : tie.Need-same-length-2 Inv-loop μ-loop
 same-length-2 c = omega (arith, c .before .loop .inv .2, c .before .before .before .before .pre .1 .1 .1 .1 .1 .0)
@@ -68,7 +76,8 @@ returns-2 : tie.Need-returns-2 Inv-loop μ-loop
 returns-2 c =
     let v = c .before .loop in
     let end : v .j ≡ 1920 = omega (arith, v .inv .0, c .loop-test .left) in
-    (v .inv .2, λ _. rw end at (v .inv .3))
+    let got = rw end at (v .inv .3) in
+    (v .inv .2, (λ _. got, λ all. got .clean .kept (bytes-in all (omega arith) (omega arith))))
 
 pub take-picture-spec : {M : Type 1} → statement M
 take-picture-spec =

@@ -5,9 +5,10 @@ use mathlib.Core.Bool.{true≢false}
 use Prim.Native.Nat.{_+_, _*_}
 use native.Mathlib.Omega.{arith}
 use borrow.Author.Needs.{needs}
-use borrow.Author.Tests.{not-false}
+use borrow.Author.Tests.{not-true, not-false}
 use Rattle.scan.proofs.Gathering.{join}
 use Rattle.one_pass.specs.Whole.{Tied}
+use Rattle.one_pass.proofs.Kept.{eav-stands, bytes-stand}
 use Rattle.one_pass.proofs.Wholes.{tied, goes-on}
 use Rattle.one_pass.proofs.whole.end_of.Statement.{statement}
 use Rattle.one_pass.proofs.whole.end_of.Tie as tie
@@ -35,7 +36,15 @@ unended-requires : tie.Need-unended-requires
 unended-requires c κs = search needs
 
 returns : tie.Need-returns
-returns c = (λ t. absurd (true≢false (sym t ∙ c .unended .ensures .0)), λ t. absurd (true≢false (sym t ∙ c .unended .ensures .1)))
+returns c =
+    let s = c .before .before .before .before .before .before in
+    let h = s .pre .0 .half in (
+      λ t. absurd (true≢false (sym t ∙ c .unended .ensures .0)),
+      (
+        λ t. absurd (true≢false (sym t ∙ c .unended .ensures .1)),
+        λ all. absurd (true≢false (sym (c .before .before .is-eav .ensures .1 (s .pre .1 .1 .bit) (eav-stands (s .args .p) (s .args .symbols .now) all _ (omega (arith, h)) (omega arith) (omega (arith, h, s .pre .0 .long)))) ∙ not-true _ (c .before .if1 .taken))),
+      ),
+    )
 
 add-see-run : tie.Need-add-see-run
 add-see-run c = search needs
@@ -44,7 +53,7 @@ see-run-requires : tie.Need-see-run-requires
 see-run-requires c κs =
     let s = c .before .before .before .before .before in
     let w = s .args .symbols .now in
-    let eav = c .before .is-eav .ensures (not-false _ (c .if1 .left)) .going (s .pre .1 .1 .bit) in
+    let eav = c .before .is-eav .ensures .0 (not-false _ (c .if1 .left)) .going (s .pre .1 .1 .bit) in
     let tie : Tied w _ (s .args .turns) = record { fits = s .pre .1 .1 .fits; bit = eav .bit } in
     (s .pre .0 .table, (s .pre .1 .0, (omega (arith, s .pre .0 .half), (omega (arith, s .pre .0 .long), goes-on (s .args .p) w tie))))
 
@@ -55,7 +64,15 @@ unended-requires-2 : tie.Need-unended-requires-2
 unended-requires-2 c κs = search needs
 
 returns-2 : tie.Need-returns-2
-returns-2 c = (λ t. absurd (true≢false (sym t ∙ c .unended2 .ensures .0)), λ t. absurd (true≢false (sym t ∙ c .unended2 .ensures .1)))
+returns-2 c =
+    let s = c .before .before .before .before .before .before .before .before .before in
+    let h = s .pre .0 .half in (
+      λ t. absurd (true≢false (sym t ∙ c .unended2 .ensures .0)),
+      (
+        λ t. absurd (true≢false (sym t ∙ c .unended2 .ensures .1)),
+        λ all. absurd (true≢false (sym (c .before .before .passes .ensures ∙ c .before .before .before .see-run .ensures .kept (bytes-stand (s .args .p) (s .args .symbols .now) all _ _ (omega (arith, h)) (omega (arith, h, s .pre .0 .long)) (λ i a b e. omega arith))) ∙ not-true _ (c .before .if2 .taken))),
+      ),
+    )
 
 tail-of-requires : tie.Need-tail-of-requires
 tail-of-requires c κs =
@@ -72,10 +89,10 @@ returns-3 c =
     let e = c .tail-of .ensures in (
       λ t.
           record {
-            eav = c .before .before .before .before .before .is-eav .ensures (not-false _ (c .before .before .before .before .if1 .left)) .going (s .pre .1 .1 .bit);
+            eav = c .before .before .before .before .before .is-eav .ensures .0 (not-false _ (c .before .before .before .before .if1 .left)) .going (s .pre .1 .1 .bit);
             bytes = join w (rw at at (c .before .before .before .see-run .ensures .clean right)) (e .0 t);
           },
-      e .1,
+      (e .1 .0, λ all. e .1 .1 (bytes-stand (s .args .p) w all _ _ (omega (arith, s .pre .0 .half)) (omega arith) (λ i a b q. omega arith))),
     )
 
 pub end-of-spec : {M : Type 1} → statement M

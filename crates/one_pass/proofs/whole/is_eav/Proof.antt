@@ -2,7 +2,8 @@
 -- Assumes nothing.
 use mathlib.Core.Path.{sym}
 use mathlib.Core.Bool.{true≢false}
-use borrow.Author.Tests.{eqb-true}
+use borrow.Author.Tests.{eqb-true, eq-eqb}
+use Rattle.one_pass.proofs.Kept.{eav-negative, eav-positive}
 use Rattle.one_pass.proofs.Wholes.{stays-negative, stays-positive}
 use borrow.Author.Needs.{needs}
 use Rattle.one_pass.proofs.whole.is_eav.Statement.{statement}
@@ -26,10 +27,15 @@ shared-slice-read-result : tie.Need-shared-slice-read-result
 shared-slice-read-result c = search needs
 
 returns : tie.Need-returns
-returns c = λ t. let a = c .before .before .before .before .args in stays-negative (a .symbols .now) (a .at) (a .turns) (c .before .before .before .if1 .taken) (c .before .if2 .taken) (eqb-true _ _ t)
+returns c =
+    let a = c .before .before .before .before .args in
+    let d = c .before .before .before .if1 .taken in
+    (λ t. stays-negative (a .symbols .now) (a .at) (a .turns) d (c .before .if2 .taken) (eqb-true _ _ t), λ m t. eq-eqb _ _ (eav-negative (a .symbols .now) (a .at) (a .turns) m t d .1))
 
 returns-2 : tie.Need-returns-2
-returns-2 c = λ t. absurd (true≢false (sym t))
+returns-2 c =
+    let a = c .before .before .before .args in
+    (λ t. absurd (true≢false (sym t)), λ m t. absurd (c .if2 .left (eav-negative (a .symbols .now) (a .at) (a .turns) m t (c .before .before .if1 .taken) .0)))
 
 mul-if3 : tie.Need-mul-if3
 mul-if3 c = search needs
@@ -47,10 +53,15 @@ shared-slice-read-result-2 : tie.Need-shared-slice-read-result-2
 shared-slice-read-result-2 c = search needs
 
 returns-3 : tie.Need-returns-3
-returns-3 c = λ t. let a = c .before .before .before .before .args in stays-positive (a .symbols .now) (a .at) (a .turns) (c .before .before .before .if1 .left) (c .before .if3 .taken) (eqb-true _ _ t)
+returns-3 c =
+    let a = c .before .before .before .before .args in
+    let d = c .before .before .before .if1 .left in
+    (λ t. stays-positive (a .symbols .now) (a .at) (a .turns) d (c .before .if3 .taken) (eqb-true _ _ t), λ m t. eq-eqb _ _ (eav-positive (a .symbols .now) (a .at) (a .turns) m t d .1))
 
 returns-4 : tie.Need-returns-4
-returns-4 c = λ t. absurd (true≢false (sym t))
+returns-4 c =
+    let a = c .before .before .before .args in
+    (λ t. absurd (true≢false (sym t)), λ m t. absurd (c .if3 .left (eav-positive (a .symbols .now) (a .at) (a .turns) m t (c .before .before .if1 .left) .0)))
 
 pub is-eav-spec : {M : Type 1} → statement M
 is-eav-spec =

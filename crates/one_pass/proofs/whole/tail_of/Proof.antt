@@ -1,6 +1,6 @@
 -- `one_pass::whole::tail_of` meets its contract: blanking words, or bytes as they come.
 -- Assumes nothing.
-use mathlib.Core.Path.{_≡_, sym, _∙_}
+use mathlib.Core.Path.{_≡_, refl, sym, _∙_}
 use mathlib.Core.Bool.{true≢false}
 use Prim.Native.Nat.{_+_, _*_}
 use native.Mathlib.Omega.{arith}
@@ -32,7 +32,7 @@ returns c =
     let b = c .before .are-blank .ensures (c .if1 .taken) in
     let more : length w ≡ 5796 * a .p .half + 3 * (a .p .half * a .p .ancillary + a .p .fill) = omega (arith, s .pre .0 .long) in (
       λ _. blank-going w _ (a .turns) _ b _ (begin w 0 255 (5796 * a .p .half) (maskBy (a .turns)) (s .pre .1 .1 .bit)) _ more,
-      λ _. blank-fill (a .p) w (a .turns) (s .pre .0 .half) (s .pre .0 .long) b,
+      (λ _. blank-fill (a .p) w (a .turns) (s .pre .0 .half) (s .pre .0 .long) b, λ _. refl),
     )
 
 see-run-requires : tie.Need-see-run-requires
@@ -44,7 +44,7 @@ passes-requires : tie.Need-passes-requires
 passes-requires c κs = search needs
 
 returns-2 : tie.Need-returns-2
-returns-2 c = (λ t. c .before .see-run .ensures .clean (sym (c .passes .ensures) ∙ t), λ t. absurd (true≢false (sym t)))
+returns-2 c = (λ t. c .before .see-run .ensures .clean (sym (c .passes .ensures) ∙ t), (λ t. absurd (true≢false (sym t)), λ all. c .passes .ensures ∙ c .before .see-run .ensures .kept all))
 
 pub tail-of-spec : {M : Type 1} → statement M
 tail-of-spec =

@@ -4,9 +4,10 @@ use mathlib.Core.Path.{refl, sym, _∙_}
 use mathlib.Core.Bool.{true≢false}
 use native.Mathlib.Omega.{arith}
 use borrow.Author.Needs.{needs}
-use borrow.Author.Tests.{not-false}
+use borrow.Author.Tests.{not-true, not-false}
 use Rattle.one_pass.specs.Whole.{Tied}
 use Rattle.one_pass.proofs.Getting.{picture-is, sums-are}
+use Rattle.one_pass.proofs.Kept.{sav-stands, bytes-stand}
 use Rattle.one_pass.proofs.Wholes.{tied, goes-on, scanned-whole}
 use Rattle.one_pass.proofs.whole.take_window.Statement.{statement}
 use Rattle.one_pass.proofs.whole.take_window.Tie as tie
@@ -28,7 +29,17 @@ nothing-requires : tie.Need-nothing-requires
 nothing-requires c κs = search needs
 
 returns : tie.Need-returns
-returns c = (c .before .before .before .before .before .pre .1 .1, (λ t. absurd (true≢false (sym t ∙ c .nothing .ensures .0)), λ t. absurd (true≢false (sym t ∙ c .nothing .ensures .1))))
+returns c =
+    let s = c .before .before .before .before .before in (
+      s .pre .1 .1,
+      (
+        λ t. absurd (true≢false (sym t ∙ c .nothing .ensures .0)),
+        (
+          λ t. absurd (true≢false (sym t ∙ c .nothing .ensures .1)),
+          λ all. absurd (c .before .before .behind-sav .ensures .1 (sav-stands (s .args .p) (s .args .symbols .now) all (omega (arith, s .pre .0 .half, s .pre .0 .long))) (c .before .if1 .taken)),
+        ),
+      ),
+    )
 
 mul-see-run : tie.Need-mul-see-run
 mul-see-run c = search needs
@@ -37,7 +48,7 @@ see-run-requires : tie.Need-see-run-requires
 see-run-requires c κs =
     let s = c .before .before .before .before .before in
     let w = s .args .symbols .now in
-    let sav = c .before .before .behind-sav .ensures (c .before .if1 .left) in
+    let sav = c .before .before .behind-sav .ensures .0 (c .before .if1 .left) in
     let tie : Tied w 2 _ = record { fits = sav .fits; bit = sav .going .bit } in
     (s .pre .0 .table, (s .pre .1 .0, (omega (arith, s .pre .0 .half), (omega (arith, s .pre .0 .long), goes-on (s .args .p) w tie))))
 
@@ -48,7 +59,18 @@ nothing-requires-2 : tie.Need-nothing-requires-2
 nothing-requires-2 c κs = search needs
 
 returns-2 : tie.Need-returns-2
-returns-2 c = (c .before .before .before .before .before .before .before .before .before .pre .1 .1, (λ t. absurd (true≢false (sym t ∙ c .nothing2 .ensures .0)), λ t. absurd (true≢false (sym t ∙ c .nothing2 .ensures .1))))
+returns-2 c =
+    let s = c .before .before .before .before .before .before .before .before .before in
+    let h = s .pre .0 .half in (
+      s .pre .1 .1,
+      (
+        λ t. absurd (true≢false (sym t ∙ c .nothing2 .ensures .0)),
+        (
+          λ t. absurd (true≢false (sym t ∙ c .nothing2 .ensures .1)),
+          λ all. absurd (true≢false (sym (c .before .before .passes .ensures ∙ c .before .before .before .see-run .ensures .kept (bytes-stand (s .args .p) (s .args .symbols .now) all _ _ (omega arith) (omega (arith, h, s .pre .0 .long)) (λ i a b e. absurd (omega (arith, h))))) ∙ not-true _ (c .before .if2 .taken))),
+        ),
+      ),
+    )
 
 take-picture-requires : tie.Need-take-picture-requires
 take-picture-requires c κs =
@@ -68,13 +90,24 @@ same-length : tie.Need-same-length
 same-length c = search needs
 
 returns-3 : tie.Need-returns-3
-returns-3 c = (omega (arith, c .before .before .before .before .before .take-picture .ensures .0), (λ t. absurd (true≢false (sym t ∙ c .nothing3 .ensures .0)), λ t. absurd (true≢false (sym t ∙ c .nothing3 .ensures .1))))
+returns-3 c =
+    let s = c .before .before .before .before .before .before .before .before .before .before .before .before .before .before .before in
+    let e = c .before .before .before .before .before .take-picture .ensures in (
+      omega (arith, e .0),
+      (
+        λ t. absurd (true≢false (sym t ∙ c .nothing3 .ensures .0)),
+        (
+          λ t. absurd (true≢false (sym t ∙ c .nothing3 .ensures .1)),
+          λ all. absurd (true≢false (sym (c .before .before .passes2 .ensures ∙ e .1 .1 (bytes-stand (s .args .p) (s .args .symbols .now) all _ _ (omega (arith, s .pre .0 .half)) (omega (arith, s .pre .0 .half, s .pre .0 .long)) (λ i a b q. absurd (omega arith)))) ∙ not-true _ (c .before .if3 .taken))),
+        ),
+      ),
+    )
 
 end-of-requires : tie.Need-end-of-requires
 end-of-requires c κs =
     let s = c .before .before .before .before .before .before .before .before .before .before .before .before .before .before in
     let rights = sym (c .before .passes2 .ensures) ∙ not-false _ (c .if3 .left) in
-    let got = c .before .before .before .before .take-picture .ensures .1 rights in
+    let got = c .before .before .before .before .take-picture .ensures .1 .0 rights in
     (s .pre .0, (s .pre .1 .0, tied (s .args .p) (s .args .symbols .now) (got .clean) rights (omega arith)))
 
 nothing-requires-4 : tie.Need-nothing-requires-4
@@ -84,7 +117,16 @@ same-length-2 : tie.Need-same-length-2
 same-length-2 c = search needs
 
 returns-4 : tie.Need-returns-4
-returns-4 c = (omega (arith, c .before .before .before .before .before .before .before .before .take-picture .ensures .0), (λ t. absurd (true≢false (sym t ∙ c .nothing4 .ensures .0)), λ t. absurd (true≢false (sym t ∙ c .nothing4 .ensures .1))))
+returns-4 c = (
+  omega (arith, c .before .before .before .before .before .before .before .before .take-picture .ensures .0),
+  (
+    λ t. absurd (true≢false (sym t ∙ c .nothing4 .ensures .0)),
+    (
+      λ t. absurd (true≢false (sym t ∙ c .nothing4 .ensures .1)),
+      λ all. absurd (true≢false (sym (c .before .before .before .end-of .ensures .1 .1 all) ∙ not-true _ (c .before .if4 .taken))),
+    ),
+  ),
+)
 
 sums-of-rows-requires : tie.Need-sums-of-rows-requires
 sums-of-rows-requires c κs = search needs
@@ -104,18 +146,18 @@ returns-5 c =
     let w = s .args .symbols .now in
     let right = sym (c .before .before .before .before .before .before .before .before .before .before .before .before .before .before .passes .ensures) ∙ not-false _ (c .before .before .before .before .before .before .before .before .before .before .before .before .before .if2 .left) in
     let rights = sym (c .before .before .before .before .before .before .before .before .passes2 .ensures) ∙ not-false _ (c .before .before .before .before .before .before .before .if3 .left) in
-    let got = c .before .before .before .before .before .before .before .before .before .before .before .take-picture .ensures .1 rights in
+    let got = c .before .before .before .before .before .before .before .before .before .before .before .take-picture .ensures .1 .0 rights in
     let picture = picture-is (s .args .p) w (s .pre .0 .small .half) (s .pre .0 .half) (s .pre .1 .1) got in
     let e = c .before .before .before .before .before .before .end-of .ensures in (
       omega (arith, c .before .before .before .before .before .before .before .before .before .before .before .take-picture .ensures .0),
       (
         λ t.
             record {
-              scanned = rw (c .before .disparity-by .ensures, c .disparity-by2 .ensures) (scanned-whole (s .args .p) w (c .before .before .before .before .before .before .before .before .before .before .before .before .before .before .before .before .before .before .behind-sav .ensures (c .before .before .before .before .before .before .before .before .before .before .before .before .before .before .before .before .before .if1 .left)) (c .before .before .before .before .before .before .before .before .before .before .before .before .before .before .before .see-run .ensures) right (got .clean) rights (e .0 t));
+              scanned = rw (c .before .disparity-by .ensures, c .disparity-by2 .ensures) (scanned-whole (s .args .p) w (c .before .before .before .before .before .before .before .before .before .before .before .before .before .before .before .before .before .before .behind-sav .ensures .0 (c .before .before .before .before .before .before .before .before .before .before .before .before .before .before .before .before .before .if1 .left)) (c .before .before .before .before .before .before .before .before .before .before .before .before .before .before .before .see-run .ensures) right (got .clean) rights (e .0 t));
               sums = c .before .before .sums-of-rows .ensures ∙ sums-are (s .args .p) w picture (s .pre .0 .small .half) (s .pre .0 .half);
               picture = picture;
             },
-        e .1,
+        (e .1 .0, e .1 .1),
       ),
     )
 

@@ -19,7 +19,7 @@ read-words-requires c κs =
     let s = c .before .before .before .before .before .before .before .before .before in
     let taken = c .before .before .before .before .before .take .ensures in
     let whole = taken .1 .0 (c .before .before .if1 .taken) in
-    (s .pre .0, (whole .scanned, (refl, (whole .sums, (taken .1 .1, is-picture (s .args .f) (s .args .symbols .now) (s .pre .0) (whole .picture))))))
+    (s .pre .0, (whole .scanned, (refl, (whole .sums, (taken .1 .1 .0, is-picture (s .args .f) (s .args .symbols .now) (s .pre .0) (whole .picture))))))
 
 same-length : tie.Need-same-length
 same-length c = search needs
