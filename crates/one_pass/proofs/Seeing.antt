@@ -1,7 +1,7 @@
 -- Symbols seen without a way out: where nothing is missing, each is a byte that is legal where it stands.
 -- Assumes nothing.
 use mathlib.Core.Path.{_≡_, refl, sym, ap, ap₂, _∙_}
-use mathlib.Core.Bool.{Bool, true, false, _&&_}
+use mathlib.Core.Bool.{true, _&&_}
 use mathlib.Core.List.{List}
 use Prim.Native.Nat.{ℕ, zero, suc, _+_, _-_, _*_, _/_, _%_, _≤_, _<_}
 use native.Mathlib.Omega.{arith}
@@ -14,7 +14,7 @@ use Rattle.ground.proofs.Ranges.{to-high}
 use Rattle.ground.proofs.Tests.{both-left, both-right}
 use Rattle.symbol.specs.declared.disparity.Disparity.{Disparity}
 use Rattle.symbol.specs.declared.disparity.Disparity.the-variants.{Negative, Positive}
-use Rattle.decoder.specs.Decoder.{decodingTable, entryOf, entryIn}
+use Rattle.decoder.specs.Decoder.{decodingTable, entryOf}
 use Rattle.decoder.proofs.Entries.{entry-at}
 use Rattle.decoder.proofs.Reading.{entry-in, entry-fits, flag-byte, byte-flag}
 use Rattle.mask.specs.Mask.{legalBy, maskOf, afterBy}
