@@ -53,46 +53,40 @@ module _ (w : List ℕ) where
   its-after : (c j : ℕ) → suits w c c j ≡ true → runningAt w (j + 1) ≡ afterOf (runningAt w j) c
   its-after c j t = ap (runningAt w) (add-one j) ∙ running-on w j ∙ ap (afterOf (runningAt w j)) (its-meaning c j t)
 
+  -- it stands at a place and behind it, each at the disparity there
+  twice-told : (c at : ℕ) → Twice w c at → (symbolAt w at ≡ symbolOf (runningAt w at) c) × (symbolAt w (at + 1) ≡ symbolOf (afterOf (runningAt w at) c) c)
+  twice-told c at t =
+      (its-symbol c at (t .first), its-symbol c (at + 1) (t .second) ∙ ap (λ (d : Disparity). symbolOf d c) (its-after c at (t .first)))
+
   -- K28.5 twice: in one form, and then in the other
   pub sav-told : Twice w 261 0 → ((symbolAt w 0 ≡ 0x17C) × (symbolAt w 1 ≡ 0x283)) ⊎ ((symbolAt w 0 ≡ 0x283) × (symbolAt w 1 ≡ 0x17C))
   unfolding symbolOf afterOf
-  sav-told t = go (runningAt w 0) refl
+  sav-told t = go (runningAt w 0) (twice-told 261 0 t)
     where
-      go : (d : Disparity) → runningAt w 0 ≡ d → ((symbolAt w 0 ≡ 0x17C) × (symbolAt w 1 ≡ 0x283)) ⊎ ((symbolAt w 0 ≡ 0x283) × (symbolAt w 1 ≡ 0x17C))
-      go Negative e =
-          inl (
-            its-symbol 261 0 (t .first) ∙ ap (λ (d : Disparity). symbolOf d 261) e,
-            its-symbol 261 1 (t .second) ∙ ap (λ (d : Disparity). symbolOf d 261) (its-after 261 0 (t .first) ∙ ap (λ (d : Disparity). afterOf d 261) e),
-          )
-      go Positive e =
-          inr (
-            its-symbol 261 0 (t .first) ∙ ap (λ (d : Disparity). symbolOf d 261) e,
-            its-symbol 261 1 (t .second) ∙ ap (λ (d : Disparity). symbolOf d 261) (its-after 261 0 (t .first) ∙ ap (λ (d : Disparity). afterOf d 261) e),
-          )
+      go : (d : Disparity) → (symbolAt w 0 ≡ symbolOf d 261) × (symbolAt w 1 ≡ symbolOf (afterOf d 261) 261)
+          → ((symbolAt w 0 ≡ 0x17C) × (symbolAt w 1 ≡ 0x283)) ⊎ ((symbolAt w 0 ≡ 0x283) × (symbolAt w 1 ≡ 0x17C))
+      go Negative both = inl both
+      go Positive both = inr both
 
   -- K29.7 twice: in the same form
   module _ (at turns : ℕ) (bit : maskBy turns ≡ maskOf (runningAt w at)) (t : Twice w 266 at) where
     pub eav-negative : turns / 2048 % 4 ≡ 2 → (symbolAt w at ≡ 0x05D) × (symbolAt w (at + 1) ≡ 0x05D)
     unfolding symbolOf afterOf
-    eav-negative e = go (runningAt w at) refl
+    eav-negative e = go (runningAt w at) bit (twice-told 266 at t)
       where
-        go : (d : Disparity) → runningAt w at ≡ d → (symbolAt w at ≡ 0x05D) × (symbolAt w (at + 1) ≡ 0x05D)
-        go Negative r = (
-          its-symbol 266 at (t .first) ∙ ap (λ (d : Disparity). symbolOf d 266) r,
-          its-symbol 266 (at + 1) (t .second) ∙ ap (λ (d : Disparity). symbolOf d 266) (its-after 266 at (t .first) ∙ ap (λ (d : Disparity). afterOf d 266) r),
-        )
-        go Positive r = absurd (let z : maskBy turns ≡ 1024 = bit ∙ ap maskOf r in omega arith)
+        go : (d : Disparity) → maskBy turns ≡ maskOf d → (symbolAt w at ≡ symbolOf d 266) × (symbolAt w (at + 1) ≡ symbolOf (afterOf d 266) 266)
+            → (symbolAt w at ≡ 0x05D) × (symbolAt w (at + 1) ≡ 0x05D)
+        go Negative m both = both
+        go Positive m both = absurd (omega arith)
 
     pub eav-positive : (turns / 2048 % 4 ≡ 2 → ⊥) → (symbolAt w at ≡ 0x3A2) × (symbolAt w (at + 1) ≡ 0x3A2)
     unfolding symbolOf afterOf
-    eav-positive n = go (runningAt w at) refl
+    eav-positive n = go (runningAt w at) bit (twice-told 266 at t)
       where
-        go : (d : Disparity) → runningAt w at ≡ d → (symbolAt w at ≡ 0x3A2) × (symbolAt w (at + 1) ≡ 0x3A2)
-        go Negative r = absurd (n (let z : maskBy turns ≡ 512 = bit ∙ ap maskOf r in omega arith))
-        go Positive r = (
-          its-symbol 266 at (t .first) ∙ ap (λ (d : Disparity). symbolOf d 266) r,
-          its-symbol 266 (at + 1) (t .second) ∙ ap (λ (d : Disparity). symbolOf d 266) (its-after 266 at (t .first) ∙ ap (λ (d : Disparity). afterOf d 266) r),
-        )
+        go : (d : Disparity) → maskBy turns ≡ maskOf d → (symbolAt w at ≡ symbolOf d 266) × (symbolAt w (at + 1) ≡ symbolOf (afterOf d 266) 266)
+            → (symbolAt w at ≡ 0x3A2) × (symbolAt w (at + 1) ≡ 0x3A2)
+        go Negative m both = absurd (n (omega arith))
+        go Positive m both = both
 
 -- ---- the parts of a window
 

@@ -47,14 +47,15 @@ room-long l e = rw (append-nil l) (omega arith)
 with-none : (r : ℕ) {a b c : ℕ} → a ≡ 0 → b ≡ 0 → c ≡ 0 → r ⊕ a ⊕ b ⊕ c ≡ r
 with-none r p q s = rw (p, q, s, ⊕-zero r, ⊕-zero r, ⊕-zero r) refl
 
--- what each of three words gets, together
-gets : (r a b c p q s : ℕ) → r ⊕ (a ⊕ p) ⊕ (b ⊕ q) ⊕ (c ⊕ s) ≡ r ⊕ a ⊕ b ⊕ c ⊕ (0 ⊕ q ⊕ (s ⊕ p))
-gets r a b c p q s =
-    ap (λ (x : ℕ). x ⊕ (b ⊕ q) ⊕ (c ⊕ s)) (sym (⊕-assoc r a p))
+-- what it gets from each of three, together
+gets : (r a b c p q s : ℕ) {a' b' c' : ℕ} → a' ≡ a ⊕ p → b' ≡ b ⊕ q → c' ≡ c ⊕ s → r ⊕ a' ⊕ b' ⊕ c' ≡ r ⊕ a ⊕ b ⊕ c ⊕ (0 ⊕ q ⊕ (s ⊕ p))
+gets r a b c p q s x y z =
+    rw (x, y, z)
+    (ap (λ (x : ℕ). x ⊕ (b ⊕ q) ⊕ (c ⊕ s)) (sym (⊕-assoc r a p))
     ∙ ap (λ (x : ℕ). x ⊕ (c ⊕ s)) (⊕-middle (r ⊕ a) p b q)
     ∙ ⊕-middle (r ⊕ a ⊕ b) (p ⊕ q) c s
     ∙ ap (λ (x : ℕ). r ⊕ a ⊕ b ⊕ c ⊕ x)
-    (ap (λ (x : ℕ). x ⊕ s) (⊕-comm p q) ∙ ⊕-assoc q p s ∙ ap₂ (λ (x y : ℕ). x ⊕ y) (sym (zero-⊕ q)) (⊕-comm p s))
+    (ap (λ (x : ℕ). x ⊕ s) (⊕-comm p q) ∙ ⊕-assoc q p s ∙ ap₂ (λ (x y : ℕ). x ⊕ y) (sym (zero-⊕ q)) (⊕-comm p s)))
 
 -- a word at a place, asked for further on
 only-further : (i p s m x : ℕ) → p + s ≡ m → only m x (i + s) ≡ only p x i
@@ -123,15 +124,12 @@ module _ (row moved : List ℕ) where
       where
         behind : (i : ℕ) → j ≤ i → (i ≡ j → ⊥) → withMoved row next i ≡ withMoved row moved i ⊕ moves j x i
         behind i l n =
-            let r = getD row i 0 in
             let place : 139 + j ≡ j + 139 = omega arith in
-            ap₂ (λ (a b : ℕ). r ⊕ a ⊕ b ⊕ getD next (i + 46) 0) (at i) (at (i + 53))
-            ∙ ap (λ (c : ℕ). r ⊕ (getD moved i 0 ⊕ only (139 + j) x i) ⊕ (getD moved (i + 53) 0 ⊕ only (139 + j) x (i + 53)) ⊕ c) (at (i + 46))
-            ∙ gets r (getD moved i 0) (getD moved (i + 53) 0) (getD moved (i + 46) 0) (only (139 + j) x i) (only (139 + j) x (i + 53)) (only (139 + j) x (i + 46))
+            gets (getD row i 0) _ _ _ _ _ _ (at _) (at _) (at _)
             ∙ ap (λ (y : ℕ). withMoved row moved i ⊕ y)
             (ap₂ (λ (y z : ℕ). y ⊕ z)
-            (ap₂ (λ (y z : ℕ). y ⊕ z) (sym (not-only j x i n)) (only-further i (j + 86) 53 (139 + j) x (omega arith)))
-            (ap₂ (λ (y z : ℕ). y ⊕ z) (only-further i (j + 93) 46 (139 + j) x (omega arith)) (ap (λ (m : ℕ). only m x i) place)))
+            (ap₂ (λ (y z : ℕ). y ⊕ z) (sym (not-only j x i n)) (only-further i (j + 86) _ (139 + j) x (omega arith)))
+            (ap₂ (λ (y z : ℕ). y ⊕ z) (only-further i (j + 93) _ (139 + j) x (omega arith)) (ap (λ (m : ℕ). only m x i) place)))
 
     pub folds-on : Folds row next (j + 1)
     folds-on =

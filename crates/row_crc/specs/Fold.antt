@@ -1,4 +1,4 @@
--- A row whose first words have been moved further on.
+-- A row whose first words have been moved further on, by a multiple of the polynomial of 004, 6.4 b (law `moves-nothing`).
 -- Assumes nothing.
 use Prim.Native.Nat.{ℕ, _+_, _≤_}
 use mathlib.Core.Bool.{cond}
@@ -12,7 +12,7 @@ use Rattle.crcc.specs.Crcc.{crc}
 use Rattle.row_crc.specs.Sums.{wordsIn}
 
 -- word i of a row with what has been moved to it: the words 139, 86 and 93 before it, where these have been moved. Word j that has been
--- moved stands at 139 + j; 0 stands there until then, and before.
+-- moved stands at 139 + j, so these stand at i, i + 53 and i + 46; 0 stands there until then, and before.
 abbrev pub withMoved : List ℕ → List ℕ → ℕ → ℕ
 withMoved row moved i = getD row i 0 ⊕ getD moved i 0 ⊕ getD moved (i + 53) 0 ⊕ getD moved (i + 46) 0
 

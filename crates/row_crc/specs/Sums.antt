@@ -1,4 +1,4 @@
--- The CRC of each row of a picture.
+-- The CRC of each stream over its picture words (004, 6.4 d), from the rows of a picture.
 -- Assumes nothing.
 use Prim.Native.Nat.{ℕ, _+_, _*_}
 use mathlib.Core.Bool.{cond}

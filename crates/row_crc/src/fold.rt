@@ -10,7 +10,8 @@ ghost use Rattle.crcc.specs.Crcc.{crc};
 ghost use Rattle.row_crc.specs.Fold.{withMoved, Empty, Folds};
 ghost use Rattle.row_crc.specs.Sums.{wordsIn};
 
-// Words 86, 93 and 139 behind a word stand here at 53, 46 and 0 before the place of what has been moved.
+// Word j that is moved is put at 139 + j. So what word i gets stands at i, which is the word 139 before it, at i + 53, the word 86 before, and at
+// i + 46, the word 93 before.
 const BEHIND: usize = 139;
 
 // Words that are folded: all but the last 139.
