@@ -43,12 +43,8 @@ loop-again c =
 
 returns : tie.Need-returns Inv-loop μ-loop
 returns c =
-    let v = c .before .loop in (
-      λ t.
-          let small = ltb-true _ _ t in
-          record { below = λ k h. omega (arith, v .inv .1 k (omega (arith, c .loop-test .left)), small) },
-      λ ten. lt-ltb (v .all) 1024 (v .inv .2 ten),
-    )
+    let v = c .before .loop in
+    (λ t. record { below = λ k h. omega (arith, v .inv .1 k (omega (arith, c .loop-test .left)), ltb-true (v .all) 1024 t) }, λ ten. lt-ltb (v .all) 1024 (v .inv .2 ten))
 
 pub are-ten-bits-spec : {M : Type 1} → statement M
 are-ten-bits-spec =
