@@ -23,13 +23,12 @@ use Rattle.picture.specs.Choice.{rowOn}
 use Rattle.picture.specs.Place.{placedOf}
 use Rattle.span.specs.declared.content.Content.{Content}
 use Rattle.span.specs.declared.format.Format.{Format}
-use Rattle.span.specs.Format.{isKnown}
+use Rattle.span.specs.Format.{isKnown, formatFrom}
 use Rattle.span.specs.Length.{lengthsOf}
-use Rattle.blanking.specs.Blanking.{fillOf, filledRow}
+use Rattle.span.specs.Blanking.{fillOf, filledRow}
 use Rattle.send.specs.Send.{asked, sendOf, sentBuffer}
 use Rattle.window.specs.Read.{judgeOf, readOf, rowsRead}
 use Rattle.recording.specs.Call.{findOf, nextOf, afterNext, rowsNext}
-use Rattle.boundary.specs.Numbers.{formatFrom}
 
 -- what is the same for all numbers from a top on is the same for a number and the smaller of it and the top
 pub whole : {A : Type 0} (g : ℕ → A) (top n : ℕ) → ((m : ℕ) → top ≤ m → g m ≡ g top) → g (min n top) ≡ g n

@@ -4,7 +4,7 @@ use recording_answers::recordings::NextAnswer;
 ghost use mathlib.Core.Path.{_≡_};
 ghost use lib.ListN.{length};
 ghost use Rattle.recording.specs.Call.{findOf, nextOf, afterNext, rowsNext};
-ghost use Rattle.boundary.specs.Numbers.{formatFrom};
+ghost use Rattle.span.specs.Format.{formatFrom};
 ghost use Rattle.recording_answers.specs.Recordings.{findAnswerOf, nextAnswerOf};
 
 // The first span at or after a start: 1, 3, 5.

@@ -8,10 +8,11 @@ ghost use mathlib.Core.Path.{_≡_};
 ghost use lib.ListN.{length};
 ghost use Rattle.span.specs.Length.{lengthsOf};
 ghost use Rattle.span.specs.declared.content.Content.the-variants.{NoneNamed, Named};
-ghost use Rattle.blanking.specs.Blanking.{fillOf, filledRow};
+ghost use Rattle.span.specs.Blanking.{fillOf, filledRow};
 ghost use Rattle.send.specs.Send.{asked, sendOf, sentBuffer};
 ghost use Rattle.window.specs.Read.{judgeOf, readOf, rowsRead};
-ghost use Rattle.boundary.specs.Numbers.{formatFrom, disparityFrom, numberIn};
+ghost use Rattle.boundary.specs.Numbers.{disparityFrom, numberIn};
+ghost use Rattle.span.specs.Format.{formatFrom};
 ghost use Rattle.span_answers.specs.Spans.{lengthsAnswerOf, sendAnswerOf, readAnswerOf};
 
 // The lengths of a format: 1.
@@ -98,7 +99,7 @@ pub extern "C" fn brazulint_fill_blanking(format: u32, depth: u32, row: &mut [u1
     ensures row { λ _. ⌜ now (row .exit) ≡ filledRow (formatFrom format depth) (now (row .entry)) ⌝ }
 {
     let f = boundary::numbers::format_from(format, depth);
-    picture_answers::pictures::filled_number(blanking::blanking::fill_blanking(f, row))
+    picture_answers::pictures::filled_number(span::blanking::fill_blanking(f, row))
 }
 
 // A span into rows: 1, 3, 4, 20 to 26.

@@ -8,9 +8,6 @@ use Rattle.span.specs.declared.format.Format.{Format}
 use Rattle.symbol.specs.declared.disparity.Disparity.{Disparity}
 use Rattle.symbol.specs.declared.disparity.Disparity.the-variants.{Negative, Positive}
 
-abbrev pub formatFrom : ℕ → ℕ → Format
-formatFrom number depth = record { number = number; depth = depth }
-
 -- the running disparity crosses as a bool, which has no third value: true is positive
 abbrev pub disparityFrom : Bool → Disparity
 disparityFrom true = Positive

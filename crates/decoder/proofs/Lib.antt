@@ -1,3 +1,4 @@
 pub mod Entries
+pub mod Masks
 pub mod Paper
 pub mod Reading

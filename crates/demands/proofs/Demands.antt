@@ -39,7 +39,7 @@ use Rattle.recording.specs.Call.{findRows, findOf}
 use Rattle.recording.specs.Recording.{accepts, limit, Reading, reading, findFrom, deliveryFrom}
 use Rattle.recording.proofs.Calling.{finds}
 use Rattle.recording.proofs.Readings.{span-whole}
-use Rattle.blanking.specs.Blanking.{fillOf, blankRow}
+use Rattle.span.specs.Blanking.{fillOf, blankRow}
 use Rattle.send.specs.Send.{asked, refusals, sendOf, sentBuffer}
 use Rattle.send.proofs.GoodCalls.{GoodCall, good-is-sent}
 use Rattle.demands.specs.Form.{Sending, WasSent, readingOf, Delivered}

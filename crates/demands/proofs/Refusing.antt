@@ -38,7 +38,7 @@ use Rattle.span.specs.Sample.{allowed}
 use Rattle.span.specs.Stream.{Asked}
 use Rattle.span.specs.Numbers.{IsFormat, Symbols, Samples}
 use Rattle.span.proofs.Formats.{is-known, known-told}
-use Rattle.blanking.specs.Blanking.{fillOf}
+use Rattle.span.specs.Blanking.{fillOf}
 use Rattle.send.specs.Send.{firstForbidden, sendOf}
 use Rattle.window.specs.Read.{placed, tests as testsOf, pictureOf, judgeOf, readOf, rowsLeft}
 use Rattle.window.specs.Scan.{holds20}

@@ -46,7 +46,7 @@ use Rattle.recording.specs.declared.seek.Spanned.{Spanned}
 use Rattle.recording.specs.Call.{findOf, nextOf, afterNext, rowsNext}
 use Rattle.recording.specs.Recording.{limit, Reading, reading, accepts, deliveryFrom}
 use Rattle.stepping.specs.Steps.{runFrom, spanStep, endStep, lastRows}
-use Rattle.blanking.specs.Blanking.{fillOf, blankRow, filledRow}
+use Rattle.span.specs.Blanking.{fillOf, blankRow, filledRow}
 use Rattle.send.specs.Send.{asked, sendOf, sentBuffer}
 use Rattle.demands.specs.Form.{MaySend, Refusal, row, lowest, Tried, Lent, Rows, Sending, WasSent, symbolsOf, readingOf, stepsFrom, Delivered, wordsFor, streamIn}
 

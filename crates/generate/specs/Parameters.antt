@@ -8,7 +8,7 @@ use lib.ListN.{length, getD}
 use Rattle.ground.specs.Answer.{Answer, refused, given, Row, unless, checked}
 use Rattle.line.specs.Stream.{isLine}
 use Rattle.span.specs.declared.format.Format.{Format}
-use Rattle.span.specs.Format.{isKnown, shapeOf, symbolsIn}
+use Rattle.span.specs.Format.{formatFrom, isKnown, shapeOf, symbolsIn}
 use Rattle.recording.specs.Recording.{limit}
 use Rattle.text.specs.Words.{wordAt}
 use Rattle.generate.specs.declared.parameters.Parameters.{Parameters}
@@ -17,7 +17,7 @@ use Rattle.generate.specs.declared.parameters.Wanted.the-variants.{Recor
 
 -- a byte of format, a byte of depth; a byte that is missing is neither
 abbrev pub formatIn : List ℕ → Format
-formatIn input = record { number = getD input 0 0; depth = getD input 1 0 }
+formatIn input = formatFrom (getD input 0 0) (getD input 1 0)
 
 -- the first line, two bytes, low byte first; where one of them is missing it is line 0, which is none
 abbrev pub lineIn : List ℕ → ℕ

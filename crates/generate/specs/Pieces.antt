@@ -9,7 +9,7 @@ use Rattle.ground.specs.Answer.{Answer, refused, given}
 use Rattle.line.specs.Stream.{isLine, lineAfter}
 use Rattle.symbol.specs.declared.disparity.Disparity.{Disparity}
 use Rattle.symbol.specs.Disparity.{fresh}
-use Rattle.span.specs.Format.{isKnown}
+use Rattle.span.specs.Format.{formatFrom, isKnown}
 use Rattle.span.specs.Span.{spanSymbols, spanAfter, signalFrom}
 use Rattle.generate.specs.declared.left.Left.{Left}
 use Rattle.generate.specs.declared.parameters.Parameters.{Parameters}
@@ -29,7 +29,7 @@ abbrev pub allOf : Parameters → Left
 allOf p = record { format = p .format; line = p .first; disparity = fresh; count = p .count }
 
 abbrev pub nothing : Left
-nothing = record { format = record { number = 0; depth = 0 }; line = record { 0 = 0 }; disparity = fresh; count = 0 }
+nothing = record { format = formatFrom 0 0; line = record { 0 = 0 }; disparity = fresh; count = 0 }
 
 abbrev pub leftBy : Answer Parameters → Left
 leftBy (refused number place) = nothing

@@ -18,7 +18,7 @@ use Rattle.span.specs.declared.format.Shape.{Shape}
 use Rattle.span.specs.Format.{isKnown, shapeOf, symbolsIn, streams, eavAt}
 use Rattle.span.proofs.Formats.{small}
 use Rattle.span.proofs.Lengths.{known-has-streams}
-use Rattle.window.specs.declared.sums.Sums.{Sums}
+use Rattle.crcc.specs.declared.sums.Sums.{Sums}
 use Rattle.window.specs.Read.{contentIn}
 use Rattle.window.specs.Scan.{byteOf, symbolAt}
 use Rattle.window.specs.Tests.{nextLine, lineRead, repairs}

@@ -11,7 +11,7 @@ use Rattle.ground.proofs.Ranges.{not-within}
 use Rattle.span.specs.declared.format.Format.{Format}
 use Rattle.span.specs.declared.format.Shape.{Shape}
 use Rattle.span.specs.Format.{streams, pairsIn}
-use Rattle.window.specs.declared.sums.Sums.{Sums}
+use Rattle.crcc.specs.declared.sums.Sums.{Sums}
 use Rattle.window.specs.Tests.{holds21, holds22, holds23}
 use Rattle.window.specs.Words.{wordAt}
 use Rattle.judge.specs.declared.service.Verdict.{Verdict}

@@ -7,8 +7,8 @@ use borrow.Author.Tests.{ne-eqb}
 use Rattle.span.specs.declared.format.Format.{Format}
 use Rattle.span.specs.declared.format.Shape.{Shape}
 use Rattle.span.specs.Format.{streams}
-use Rattle.window.specs.declared.sums.Sums.{Sums}
-use Rattle.window.specs.Sums.{sumIn}
+use Rattle.crcc.specs.declared.sums.Sums.{Sums}
+use Rattle.crcc.specs.Sums.{sumIn}
 use Rattle.window.specs.Tests.{holds21, holds22, holds23}
 use Rattle.window.specs.Words.{wordAt}
 use Rattle.judge.specs.Holds.{picture25, fill26, holds24By, holdsOf}

@@ -17,7 +17,8 @@ use Rattle.packing.specs.declared.bytes.TwoWords.{TwoWords}
 use Rattle.packing.specs.Bytes.{wordsOf}
 use Rattle.crcc.specs.Crcc.{crc, crcWord, crccWords}
 use Rattle.word.specs.LineNumber.{lineOf, namedOf}
-use Rattle.window.specs.Tests.{wordOf, repaired, wrongBits, sumOf, nextLine, lineRead, repairs}
+use Rattle.window.specs.Tests.{wordOf, sumOf, nextLine, lineRead, repairs}
+use Rattle.word.specs.Received.{repaired, wrongBits}
 use Rattle.window.specs.Words.{fixedByte, byteAt, pairAt, wordAt}
 use Rattle.window.proofs.Bytes.{word-below}
 use Rattle.window.proofs.Encoded.{fixed-two, fixed-four}

@@ -17,9 +17,10 @@ use Rattle.line.specs.Stream.{isLine, vOf}
 use Rattle.span.specs.declared.format.Shape.{Shape}
 use Rattle.span.specs.Format.{streams}
 use Rattle.word.specs.LineNumber.{ln0, ln1, names, lineOf}
-use Rattle.window.specs.declared.sums.Sums.{Sums}
-use Rattle.window.specs.Sums.{sumIn}
-use Rattle.window.specs.Tests.{isTiming, vIn, same, wordOf, named, nextLine, lineRead, holds21, holds22, holds23}
+use Rattle.crcc.specs.declared.sums.Sums.{Sums}
+use Rattle.crcc.specs.Sums.{sumIn}
+use Rattle.window.specs.Tests.{same, wordOf, named, nextLine, lineRead, holds21, holds22, holds23}
+use Rattle.word.specs.Received.{isTiming, vIn}
 use Rattle.window.specs.Words.{wordAt}
 use Rattle.judge.specs.Holds.{crccBehind, holds24By}
 

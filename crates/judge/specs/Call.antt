@@ -8,7 +8,7 @@ use lib.ListN.{length}
 use Rattle.span.specs.declared.format.Format.{Format}
 use Rattle.span.specs.declared.format.Shape.{Shape}
 use Rattle.span.specs.Format.{isKnown, shapeOf, streams, symbolsIn}
-use Rattle.window.specs.declared.sums.Sums.{Sums}
+use Rattle.crcc.specs.declared.sums.Sums.{Sums}
 use Rattle.window.specs.Read.{placed, contentIn}
 use Rattle.window.specs.Tests.{lineRead, repairs}
 use Rattle.window.specs.Words.{wordAt}

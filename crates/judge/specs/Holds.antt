@@ -15,10 +15,11 @@ use Rattle.span.specs.Span.{fillWord}
 use Rattle.crcc.specs.declared.crcc.CrccWords.{CrccWords}
 use Rattle.crcc.specs.Crcc.{crc, crccWords}
 use Rattle.packing.specs.Sample.{allowedWord}
-use Rattle.window.specs.declared.sums.Sums.{Sums}
+use Rattle.crcc.specs.declared.sums.Sums.{Sums}
 use Rattle.window.specs.Read.{placed}
-use Rattle.window.specs.Sums.{sumIn}
-use Rattle.window.specs.Tests.{wordOf, column, repaired, nextLine, holds21, holds22, holds23}
+use Rattle.crcc.specs.Sums.{sumIn}
+use Rattle.window.specs.Tests.{wordOf, column, nextLine, holds21, holds22, holds23}
+use Rattle.word.specs.Received.{repaired}
 use Rattle.window.specs.Words.{wordAt}
 use Rattle.judge.specs.Given.{Given}
 

@@ -6,7 +6,7 @@ use mathlib.Core.Option.{Option, none, some}
 use Rattle.ground.specs.Answer.{Row}
 use Rattle.span.specs.declared.format.Shape.{Shape}
 use Rattle.span.specs.Format.{streams, pairsIn}
-use Rattle.window.specs.declared.sums.Sums.{Sums}
+use Rattle.crcc.specs.declared.sums.Sums.{Sums}
 use Rattle.window.specs.Read.{lowest, placed}
 use Rattle.window.specs.Tests.{holds21, holds22, holds23}
 use Rattle.window.specs.Words.{wordAt}

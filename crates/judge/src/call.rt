@@ -1,9 +1,9 @@
 // What other crates ask of a window. Of what is no window of a known format they get nothing: 0.
 use crate::service::Verdict;
+use crcc::sums::Sums;
 use line::stream::StreamLine;
 use span::content::ContentBytes;
 use span::format::Format;
-use window::sums::Sums;
 ghost use mathlib.Core.Path.{_≡_};
 ghost use Prim.Native.Nat.{_≤_};
 ghost use lib.ListN.{length};

@@ -1,15 +1,15 @@
 // The tests at one interleaved place, and the lowest place at which one does not hold.
 use crcc::crcc::CrccWords;
+use crcc::sums::Sums;
 use line::stream::StreamLine;
 use span::format::Format;
 use span::format::Shape;
-use window::sums::Sums;
 use word::line_number::Named;
 ghost use mathlib.Core.Path.{_≡_};
 ghost use Prim.Native.Nat.{_*_, _/_, _%_, _≤_, _<_};
 ghost use Rattle.span.specs.Format.{streams, pairsIn};
 ghost use Rattle.window.specs.Read.{placed};
-ghost use Rattle.window.specs.Sums.{sumIn};
+ghost use Rattle.crcc.specs.Sums.{sumIn};
 ghost use Rattle.window.specs.Tests.{nextLine, repairs, holds21, holds22, holds23};
 ghost use Rattle.window.specs.Words.{wordAt};
 ghost use Rattle.judge.specs.Given.{Given};
@@ -40,11 +40,11 @@ fn timing_holds(t: &[u16; 1024], p: Shape, symbols: &[u16], k: usize) -> bool
     let j = k / (2 * p.half);
     let w = crate::words::word_at(t, p, symbols, k);
     if j < 4 {
-        return timing_code::timing::is_timing(false, j, w);
+        return word::received::is_timing(false, j, w);
     }
     if 1924 <= j {
         if j < 1928 {
-            return timing_code::timing::is_timing(true, j - 1924, w);
+            return word::received::is_timing(true, j - 1924, w);
         }
     }
     true
@@ -81,10 +81,10 @@ fn v_holds(t: &[u16; 1024], p: Shape, symbols: &[u16], next: StreamLine, k: usiz
     let j = k / (2 * p.half);
     let w = crate::words::word_at(t, p, symbols, k);
     if j == 3 {
-        return timing_code::timing::v_in(w) == line::stream::v_of(line::stream::line_before(next));
+        return word::received::v_in(w) == line::stream::v_of(line::stream::line_before(next));
     }
     if j == 1927 {
-        return timing_code::timing::v_in(w) == line::stream::v_of(next);
+        return word::received::v_in(w) == line::stream::v_of(next);
     }
     true
 }
@@ -101,7 +101,7 @@ fn crcc_behind(t: &[u16; 1024], p: Shape, symbols: &[u16], i: usize, c: u32) -> 
     let c2 = crcc::crcc::crc_word(c1, crate::words::word_at(t, p, symbols, at + s));
     let c3 = crcc::crcc::crc_word(c2, crate::words::word_at(t, p, symbols, at + 2 * s));
     let xyz = crate::words::word_at(t, p, symbols, at + 3 * s);
-    let c4 = crcc::crcc::crc_word(c3, timing_code::timing::repaired_word(xyz));
+    let c4 = crcc::crcc::crc_word(c3, word::received::repaired_word(xyz));
     let c5 = crcc::crcc::crc_word(c4, crate::words::word_at(t, p, symbols, at + 4 * s));
     crcc::crcc::crcc_words(crcc::crcc::crc_word(
         c5,
@@ -217,13 +217,8 @@ pub(crate) fn wrong_in_all(t: &[u16; 1024], p: Shape, symbols: &[u16]) -> u8
     let mut sum = 0;
     let mut i = 0;
     while i < s {
-        let sav = timing_code::timing::wrong_bits(crate::words::word_at(t, p, symbols, 3 * s + i));
-        let eav = timing_code::timing::wrong_bits(crate::words::word_at(
-            t,
-            p,
-            symbols,
-            1927 * s + i,
-        ));
+        let sav = word::received::wrong_bits(crate::words::word_at(t, p, symbols, 3 * s + i));
+        let eav = word::received::wrong_bits(crate::words::word_at(t, p, symbols, 1927 * s + i));
         sum = sum + (sav + eav);
         i += 1;
     }

@@ -1,8 +1,8 @@
 // Tests 21 to 24 in their order, each over the whole span.
+use crcc::sums::Sums;
 use line::stream::StreamLine;
 use span::format::Format;
 use span::format::Shape;
-use window::sums::Sums;
 ghost use mathlib.Core.Path.{_≡_};
 ghost use Prim.Native.Nat.{_*_, _≤_};
 ghost use Rattle.span.specs.Format.{streams};

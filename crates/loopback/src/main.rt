@@ -34,7 +34,7 @@ fn open_picture() -> i32 {
 // What was lost, as text.
 fn print_summary(heard: &[u16]) {
     let mut text = [0u8; 128];
-    let end = losses::summary::put_summary(heard, &mut text);
+    let end = reception::summary::put_summary(heard, &mut text);
     io::write_all(STDOUT_FILENO, &text[..end]);
 }
 

@@ -11,7 +11,7 @@ use lib.Bits.{bitOr, bitXor}
 use lib.ListN.{length}
 use borrow.Author.Tests.{ne-eqb}
 use Rattle.symbol.specs.Code.{symbolOf}
-use Rattle.mask.specs.Mask.{ofMask}
+use Rattle.decoder.specs.Mask.{ofMask}
 use Rattle.packing.specs.declared.bytes.TwoWords.{TwoWords}
 use Rattle.packing.specs.Bytes.{bytesOf, wordsOf}
 use Rattle.packing.proofs.Packing.{unpack-pack}

@@ -22,7 +22,7 @@ use Rattle.symbol.specs.declared.disparity.Disparity.the-variants.{Negative, Po
 use Rattle.symbol.specs.Code.{symbolOf, charOf, afterOf}
 use Rattle.symbol.proofs.Inverse.{encode-decode, decoded-below}
 use Rattle.symbol.proofs.Ones.{symbol-below}
-use Rattle.mask.specs.Mask.{maskOf}
+use Rattle.decoder.specs.Mask.{maskOf}
 use Rattle.rows.specs.Given.{ready}
 use Rattle.scan.specs.Run.{suits, place20}
 use Rattle.scan.proofs.Window.{same-test, kind-sav, kind-eav, kind-byte}

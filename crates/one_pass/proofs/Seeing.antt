@@ -17,7 +17,7 @@ use Rattle.symbol.specs.declared.disparity.Disparity.the-variants.{Negative, Po
 use Rattle.decoder.specs.Decoder.{decodingTable, entryOf}
 use Rattle.decoder.proofs.Entries.{entry-at}
 use Rattle.decoder.proofs.Reading.{entry-in, entry-fits, flag-byte, byte-flag}
-use Rattle.mask.specs.Mask.{legalBy, maskOf, afterBy}
+use Rattle.decoder.specs.Mask.{legalBy, maskOf, afterBy}
 use Rattle.scan.specs.Run.{suitsBy, Going}
 use Rattle.scan.proofs.Gathering.{suits-byte}
 use Rattle.scan.proofs.Runs.{suits-is, begin, turn}

@@ -10,7 +10,7 @@ use borrow.Author.Tests.{eq-eqb, ne-eqb}
 use Rattle.symbol.specs.declared.disparity.Disparity.{Disparity}
 use Rattle.symbol.specs.declared.disparity.Disparity.the-variants.{Negative, Positive}
 use Rattle.symbol.specs.Code.{symbolOf, afterOf}
-use Rattle.mask.specs.Mask.{maskOf, ofMask}
+use Rattle.decoder.specs.Mask.{maskOf, ofMask}
 use Rattle.scan.specs.Run.{Going, scannedOf}
 use Rattle.scan.proofs.Gathering.{char-turn, join}
 use Rattle.scan.proofs.Runs.{begin}

@@ -6,7 +6,7 @@ use mathlib.Core.Bool.{Bool, true, _&&_}
 use mathlib.Core.List.{List}
 use lib.Dec.{eqb}
 use lib.ListN.{length}
-use Rattle.mask.specs.Mask.{maskOf, ofMask}
+use Rattle.decoder.specs.Mask.{maskOf, ofMask}
 use Rattle.rows.specs.Picture.{sumsOf}
 use Rattle.rows.specs.Given.{ready}
 use Rattle.scan.specs.Run.{suits, Going, place20, scannedOf}

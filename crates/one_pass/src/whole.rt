@@ -1,14 +1,14 @@
 // A window whose symbols are all as they should be (document 01, refusal 20): its rows, the CRC of each stream, and its disparities. Where
 // anything is not, it says so and no more; what it is, is looked for elsewhere.
+use crcc::sums::Sums;
 use span::format::Format;
 use span::format::Shape;
 use symbol::disparity::Disparity;
-use window::sums::Sums;
 ghost use mathlib.Core.Path.{_≡_};
 ghost use mathlib.Core.Bool.{true, false};
 ghost use Prim.Native.Nat.{_+_, _*_, _≤_};
 ghost use lib.ListN.{length};
-ghost use Rattle.mask.specs.Mask.{maskOf, ofMask};
+ghost use Rattle.decoder.specs.Mask.{maskOf, ofMask};
 ghost use Rattle.rows.specs.Fill.{fillRight};
 ghost use Rattle.rows.specs.Given.{Given};
 ghost use Rattle.scan.specs.Run.{Going};

@@ -12,10 +12,10 @@ use Rattle.dividing.specs.declared.row.Copied.{Copied}
 use Rattle.dividing.specs.declared.row.Copied.the-variants as Copied
 use Rattle.dividing.specs.Row.{paperCopied}
 use Rattle.dividing.proofs.OneToOne.{copied-one-to-one}
-use Rattle.blanking.specs.declared.blanking.Filled.{Filled}
-use Rattle.blanking.specs.declared.blanking.Filled.the-variants as Filled
-use Rattle.blanking.specs.Blanking.{paperFilled}
-use Rattle.blanking.proofs.OneToOne.{filled-one-to-one}
+use Rattle.span.specs.declared.blanking.Filled.{Filled}
+use Rattle.span.specs.declared.blanking.Filled.the-variants as Filled
+use Rattle.span.specs.Blanking.{paperFilled}
+use Rattle.span.proofs.FilledOneToOne.{filled-one-to-one}
 use Rattle.picture_answers.specs.declared.pictures.PlaceAnswer.{PlaceAnswer}
 use Rattle.boundary.specs.Numbers.{numberIn}
 use Rattle.picture_answers.specs.Pictures.{placeAnswerOf}

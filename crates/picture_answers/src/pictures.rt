@@ -1,11 +1,11 @@
 // What the calls on places and rows answer.
-use blanking::blanking::Filled;
 use dividing::row::Copied;
 use picture::place::Placed;
+use span::blanking::Filled;
 ghost use mathlib.Core.Path.{_≡_};
 ghost use Rattle.picture.specs.Place.{paperPlaced};
 ghost use Rattle.dividing.specs.Row.{paperCopied};
-ghost use Rattle.blanking.specs.Blanking.{paperFilled};
+ghost use Rattle.span.specs.Blanking.{paperFilled};
 ghost use Rattle.picture_answers.specs.Pictures.{placeAnswerOf};
 ghost use Rattle.boundary.specs.Numbers.{numberIn};
 

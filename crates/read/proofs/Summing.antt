@@ -17,8 +17,9 @@ use Rattle.rows.specs.Picture.{columnOf, sumsOf}
 use Rattle.judge.specs.Holds.{crccBehind, holds24By}
 use Rattle.judge.specs.Verdict.{serviceTests}
 use Rattle.window.specs.Read.{lowest, placed, wordTests}
-use Rattle.window.specs.Sums.{sumIn}
-use Rattle.window.specs.Tests.{wordOf, column, repaired, registerOf, holds21, holds22, holds23, holds24}
+use Rattle.crcc.specs.Sums.{sumIn}
+use Rattle.window.specs.Tests.{wordOf, column, registerOf, holds21, holds22, holds23, holds24}
+use Rattle.word.specs.Received.{repaired}
 use Rattle.window.specs.Words.{wordAt}
 use Rattle.window.proofs.Placing.{stream-below}
 

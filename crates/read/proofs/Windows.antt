@@ -26,7 +26,7 @@ use Rattle.judge.specs.Verdict.{firstRow, serviceTests}
 use Rattle.scan.specs.declared.scan.Scanned.{Scanned}
 use Rattle.scan.specs.Run.{place20, scannedOf}
 use Rattle.window.specs.declared.delivery.Delivery.{Delivery}
-use Rattle.window.specs.declared.sums.Sums.{Sums}
+use Rattle.crcc.specs.declared.sums.Sums.{Sums}
 use Rattle.window.specs.Read.{wordTests, contentIn, deliveryOf, pictureOf, readSpan, judgeOf, readOf, rowsLeft, rowsRead}
 use Rattle.window.specs.Scan.{byteOf, symbolAt, startOf, runningAt, holds20}
 use Rattle.window.specs.Tests.{lineRead, repairs, rows as rowsOf}

@@ -1,10 +1,10 @@
 // The two calls (document 01, "Receiving and finding").
 use crate::answer::Read;
+use crcc::sums::Sums;
 use judge::call::Service;
 use judge::service::Verdict;
 use scan::scan::Scanned;
 use span::format::Format;
-use window::sums::Sums;
 ghost use mathlib.Core.Path.{_≡_};
 ghost use mathlib.Core.Bool.{true};
 ghost use Prim.Native.Nat.{ℕ, _≤_};

@@ -24,7 +24,7 @@ link-symbols = refl
 
 -- it is told by its two numbers
 pub is-link : {f : Format} → f .number ≡ 3 → f .depth ≡ 12 → f ≡ link
-is-link p q = ap₂ (λ (n d : ℕ). record { number = n; depth = d }) p q
+is-link p q = ap₂ formatFrom p q
 
 -- a piece is short enough for the calls
 pub within-limit : (k : ℕ) → k ≤ 95040 → k ≤ limit

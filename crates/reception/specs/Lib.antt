@@ -1,2 +1,3 @@
 pub mod Link
 pub mod Receiving
+pub mod Summary

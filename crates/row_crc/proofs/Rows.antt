@@ -9,7 +9,7 @@ use lib.Seq.{getD-take, getD-drop}
 use borrow.Author.Tests.{eq-eqb, ne-eqb}
 use Rattle.ground.proofs.Writing.{table-same}
 use Rattle.crcc.specs.Crcc.{crc}
-use Rattle.window.specs.declared.sums.Sums.{Sums}
+use Rattle.crcc.specs.declared.sums.Sums.{Sums}
 use Rattle.row_crc.specs.declared.fold.Two.{Two}
 use Rattle.row_crc.specs.Sums.{wordsIn, sumsIn}
 

@@ -7,7 +7,7 @@ use lib.Dec.{eqb}
 use lib.ListN.{length, getD}
 use Rattle.ground.specs.Written.{table}
 use Rattle.crcc.specs.Crcc.{crc}
-use Rattle.window.specs.declared.sums.Sums.{Sums}
+use Rattle.crcc.specs.declared.sums.Sums.{Sums}
 
 -- the 1920 words from a place on
 abbrev pub wordsIn : List ℕ → ℕ → List ℕ

@@ -1,5 +1,5 @@
 // The CRC of each stream over its picture words (004, 6.4), from the rows.
-use window::sums::Sums;
+use crcc::sums::Sums;
 ghost use mathlib.Core.Path.{_≡_};
 ghost use Rattle.row_crc.specs.Sums.{sumsIn};
 

@@ -16,7 +16,7 @@ use Rattle.window.specs.Read.{pictureOf}
 use Rattle.window.specs.Tests.{rows as rowsOf, wordOf}
 use Rattle.window.specs.Words.{wordAt}
 use Rattle.rows.specs.declared.picture.Two.{Two}
-use Rattle.window.specs.declared.sums.Sums.{Sums}
+use Rattle.crcc.specs.declared.sums.Sums.{Sums}
 use Rattle.rows.specs.Given.{ready}
 use Rattle.rows.specs.Picture.{columnOf, twoOf, putTwo, sumsOf, noSums, sumsIf, rowsIf}
 

@@ -15,7 +15,7 @@ use Rattle.window.specs.Read.{pictureOf}
 use Rattle.window.specs.Tests.{column}
 use Rattle.window.specs.Words.{wordAt}
 use Rattle.rows.specs.declared.picture.Two.{Two}
-use Rattle.window.specs.declared.sums.Sums.{Sums}
+use Rattle.crcc.specs.declared.sums.Sums.{Sums}
 use Rattle.rows.specs.Given.{ready}
 
 -- words first to first + count - 1 of stream t

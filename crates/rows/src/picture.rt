@@ -1,7 +1,7 @@
 // The picture words of a window, taken out of its interleaved pairs stream by stream while the CRC of each stream runs over them.
+use crcc::sums::Sums;
 use span::format::Format;
 use span::format::Shape;
-use window::sums::Sums;
 ghost use mathlib.Core.Path.{_≡_};
 ghost use Prim.Native.Nat.{_+_, _*_, _≤_, _<_};
 ghost use lib.ListN.{length};

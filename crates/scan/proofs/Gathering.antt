@@ -18,8 +18,8 @@ use Rattle.symbol.specs.declared.disparity.Disparity.the-variants.{Negative, Po
 use Rattle.symbol.specs.Code.{symbolOf, charOf, afterOf}
 use Rattle.symbol.proofs.Inverse.{decode-encode}
 use Rattle.decoder.specs.Decoder.{decodingTable, entryIn}
-use Rattle.mask.specs.Mask.{legalBy, maskOf, ofMask, afterBy}
-use Rattle.mask.proofs.Masks.{mask-again}
+use Rattle.decoder.specs.Mask.{legalBy, maskOf, ofMask, afterBy}
+use Rattle.decoder.proofs.Masks.{mask-again}
 use Rattle.window.specs.Scan.{meant, symbolAt, runningAt}
 use Rattle.window.proofs.Symbols.{meant-of, running-on}
 use Rattle.scan.specs.Run.{suitsBy, suits, Going, blankBy}

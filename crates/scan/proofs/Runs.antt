@@ -17,8 +17,8 @@ use Rattle.ground.proofs.Tests.{both-left}
 use Rattle.symbol.specs.declared.disparity.Disparity.the-variants.{Negative, Positive}
 use Rattle.symbol.specs.Code.{symbolOf, charOf}
 use Rattle.decoder.specs.Decoder.{decodingTable, entryOf, entryIn}
-use Rattle.mask.specs.Mask.{maskOf, afterBy}
-use Rattle.mask.proofs.Masks.{legal-mask, after-mask}
+use Rattle.decoder.specs.Mask.{maskOf, afterBy}
+use Rattle.decoder.proofs.Masks.{legal-mask, after-mask}
 use Rattle.decoder.proofs.Reading.{legal-is, entry-in}
 use Rattle.window.specs.Scan.{meant, symbolAt, startOf, runningAt}
 use Rattle.window.proofs.Symbols.{meant-entry, some-meant, running-on}

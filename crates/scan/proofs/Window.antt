@@ -17,8 +17,8 @@ use Rattle.ground.proofs.Cases.{on-test}
 use Rattle.ground.proofs.Ranges.{is-within, not-within}
 use Rattle.ground.proofs.Searches.{hit-from, miss-from, is-hit, is-miss}
 use Rattle.symbol.specs.Code.{charOf}
-use Rattle.mask.specs.Mask.{maskOf, ofMask}
-use Rattle.mask.proofs.Masks.{mask-again}
+use Rattle.decoder.specs.Mask.{maskOf, ofMask}
+use Rattle.decoder.proofs.Masks.{mask-again}
 use Rattle.span.specs.declared.format.Shape.{Shape}
 use Rattle.span.specs.Format.{eavAt}
 use Rattle.window.specs.Scan.{meant, symbolAt, startOf, runningAt, fits, holds20}

@@ -10,7 +10,7 @@ use lib.ListN.{length}
 use Rattle.ground.specs.Range.{within}
 use Rattle.ground.specs.Search.{firstFrom, firstBelow, isSome}
 use Rattle.symbol.specs.Code.{symbolOf, charOf}
-use Rattle.mask.specs.Mask.{legalBy, maskOf, ofMask}
+use Rattle.decoder.specs.Mask.{legalBy, maskOf, ofMask}
 use Rattle.span.specs.declared.format.Shape.{Shape}
 use Rattle.window.specs.Scan.{meant, symbolAt, startOf, runningAt, holds20}
 use Rattle.scan.specs.declared.bytes.Blank.{Blank}

@@ -4,7 +4,7 @@ ghost use mathlib.Core.Path.{_≡_};
 ghost use Prim.Native.Nat.{_≤_};
 ghost use lib.ListN.{length};
 ghost use Rattle.decoder.specs.Decoder.{decodingTable};
-ghost use Rattle.mask.specs.Mask.{maskOf};
+ghost use Rattle.decoder.specs.Mask.{maskOf};
 ghost use Rattle.window.specs.Scan.{runningAt};
 ghost use Rattle.scan.specs.Run.{ranOn, Going, blankBy};
 
@@ -41,7 +41,7 @@ fn gather(t: &[u16; 1024], symbols: &[u16], from: usize, to: usize, mask: u16) -
         let e = decoder::table::entry(t, symbols[i]);
         fault = fault | (e & m ^ m);
         kinds = kinds | e;
-        m = mask::mask::after_by(m, e);
+        m = decoder::mask::after_by(m, e);
         i += 1;
     }
     Gathered {

@@ -3,7 +3,7 @@ ghost use mathlib.Core.Path.{_≡_};
 ghost use Prim.Native.Nat.{_≤_};
 ghost use lib.ListN.{length};
 ghost use Rattle.decoder.specs.Decoder.{decodingTable};
-ghost use Rattle.mask.specs.Mask.{maskOf};
+ghost use Rattle.decoder.specs.Mask.{maskOf};
 ghost use Rattle.window.specs.Scan.{runningAt};
 ghost use Rattle.scan.specs.Run.{suitsBy, ranOn};
 
@@ -18,7 +18,7 @@ pub(crate) struct Run {
 fn suits(low: u16, high: u16, mask: u16, e: u16) -> bool
     ensures { λ r. ⌜ r ≡ suitsBy low high mask e ⌝ }
 {
-    if mask::mask::legal_by(mask, e) {
+    if decoder::mask::legal_by(mask, e) {
         return ground::range::within(low, high, e % 512);
     }
     false
@@ -49,7 +49,7 @@ pub(crate) fn run_on(
     while i < to {
         let e = decoder::table::entry(t, symbols[i]);
         if suits(low, high, mask, e) {
-            mask = mask::mask::after_by(mask, e);
+            mask = decoder::mask::after_by(mask, e);
             i += 1;
         } else {
             return Run { place: i, mask };

@@ -53,7 +53,7 @@ pub fn scan(f: Format, symbols: &[u16]) -> Scanned
     let before = start_of(symbols);
     let start = Run {
         place: 0,
-        mask: mask::mask::mask_of(before),
+        mask: decoder::mask::mask_of(before),
     };
     let a = crate::run::run_on(&t, symbols, K28_5, K28_5, 0, sav, start);
     let b = crate::bytes::run_bytes(&t, symbols, sav, 12 * p.half, eav, a);
@@ -62,6 +62,6 @@ pub fn scan(f: Format, symbols: &[u16]) -> Scanned
     Scanned {
         place: d.place,
         before,
-        after: mask::mask::disparity_of(d.mask),
+        after: decoder::mask::disparity_of(d.mask),
     }
 }

@@ -11,7 +11,7 @@ use Rattle.ground.proofs.Writing.{upto-more, length-upto}
 use Rattle.encoder.specs.Tables.{offsetOf, ofOffset}
 use Rattle.span.specs.Encoding.{symbolsFrom, afterRun}
 use Rattle.crcc.specs.Crcc.{crc}
-use Rattle.window.specs.declared.sums.Sums.{Sums}
+use Rattle.crcc.specs.declared.sums.Sums.{Sums}
 use Rattle.row_crc.specs.Sums.{sumsIn}
 use Rattle.send.specs.declared.picture.Passed.{Passed}
 use Rattle.send.specs.Put.{behind, put, pairChars, groupChars, wordAt, pairAt, pictureChars, passedAt}

@@ -5,6 +5,7 @@ use mathlib.Core.List.{List, [], _∷_}
 use Prim.Native.Nat.{ℕ}
 use Rattle.span.specs.declared.format.Format.{Format}
 use Rattle.span.specs.Image.{imageOf}
+use Rattle.span.specs.Format.{formatFrom}
 
 abbrev two : Format → ℕ → List ℕ
 two f pair = imageOf f pair 0 ∷ imageOf f pair 1 ∷ []
@@ -14,15 +15,15 @@ four f pair = imageOf f pair 0 ∷ imageOf f pair 1 ∷ imageOf f pair 2 ∷ ima
 
 module _ (depth : ℕ) where
   -- at 120 and 100 Hz images 1 and 2, or 3 and 4
-  pub images-of-120 : (two (record { number = 1; depth = depth }) 1 ≡ 1 ∷ 2 ∷ []) × (two (record { number = 1; depth = depth }) 2 ≡ 3 ∷ 4 ∷ [])
+  pub images-of-120 : (two (formatFrom 1 depth) 1 ≡ 1 ∷ 2 ∷ []) × (two (formatFrom 1 depth) 2 ≡ 3 ∷ 4 ∷ [])
   unfolding imageOf
   images-of-120 = (refl, refl)
 
-  pub images-of-100 : (two (record { number = 2; depth = depth }) 1 ≡ 1 ∷ 2 ∷ []) × (two (record { number = 2; depth = depth }) 2 ≡ 3 ∷ 4 ∷ [])
+  pub images-of-100 : (two (formatFrom 2 depth) 1 ≡ 1 ∷ 2 ∷ []) × (two (formatFrom 2 depth) 2 ≡ 3 ∷ 4 ∷ [])
   unfolding imageOf
   images-of-100 = (refl, refl)
 
   -- at 50 Hz images 1 to 4 in that order
-  pub images-of-50 : (pair : ℕ) → four (record { number = 3; depth = depth }) pair ≡ 1 ∷ 2 ∷ 3 ∷ 4 ∷ []
+  pub images-of-50 : (pair : ℕ) → four (formatFrom 3 depth) pair ≡ 1 ∷ 2 ∷ 3 ∷ 4 ∷ []
   unfolding imageOf
   images-of-50 pair = refl

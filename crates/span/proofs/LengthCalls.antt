@@ -7,7 +7,7 @@ use Prim.Native.Nat.{ℕ}
 use native.Mathlib.Omega.{arith}
 use Rattle.ground.specs.Answer.{refused, given}
 use Rattle.span.specs.declared.format.Format.{Format}
-use Rattle.span.specs.Format.{isKnown, shapeOf, samplesIn, symbolsIn}
+use Rattle.span.specs.Format.{isKnown, shapeOf, samplesIn, symbolsIn, formatFrom}
 use Rattle.span.specs.Length.{lengthsOf}
 use Rattle.span.proofs.Formats.{Known, is-known, unknown}
 
@@ -24,14 +24,14 @@ module _ (f : Format) where
   lengths-meets-1 x = lengths-refused (unknown f x)
 
 module _ (depth : ℕ) (bits : (depth ≡ 10) ⊎ (depth ≡ 12)) where
-  pub lengths-of-120 : lengthsOf (record { number = 1; depth = depth }) ≡ given (record { samples = 3840; symbols = 7920 })
+  pub lengths-of-120 : lengthsOf (formatFrom 1 depth) ≡ given (record { samples = 3840; symbols = 7920 })
   unfolding shapeOf
-  lengths-of-120 = let f : Format = record { number = 1; depth = depth } in lengths-given f (is-known f (record { from = omega arith; to = omega arith; bits = bits }))
+  lengths-of-120 = let f : Format = (formatFrom 1 depth) in lengths-given f (is-known f (record { from = omega arith; to = omega arith; bits = bits }))
 
-  pub lengths-of-100 : lengthsOf (record { number = 2; depth = depth }) ≡ given (record { samples = 3840; symbols = 9504 })
+  pub lengths-of-100 : lengthsOf (formatFrom 2 depth) ≡ given (record { samples = 3840; symbols = 9504 })
   unfolding shapeOf
-  lengths-of-100 = let f : Format = record { number = 2; depth = depth } in lengths-given f (is-known f (record { from = omega arith; to = omega arith; bits = bits }))
+  lengths-of-100 = let f : Format = (formatFrom 2 depth) in lengths-given f (is-known f (record { from = omega arith; to = omega arith; bits = bits }))
 
-  pub lengths-of-50 : lengthsOf (record { number = 3; depth = depth }) ≡ given (record { samples = 7680; symbols = 19008 })
+  pub lengths-of-50 : lengthsOf (formatFrom 3 depth) ≡ given (record { samples = 7680; symbols = 19008 })
   unfolding shapeOf
-  lengths-of-50 = let f : Format = record { number = 3; depth = depth } in lengths-given f (is-known f (record { from = omega arith; to = omega arith; bits = bits }))
+  lengths-of-50 = let f : Format = (formatFrom 3 depth) in lengths-given f (is-known f (record { from = omega arith; to = omega arith; bits = bits }))

@@ -14,7 +14,7 @@ use Rattle.symbol.specs.declared.disparity.Disparity.{Disparity}
 use Rattle.span.specs.declared.format.Format.{Format}
 use Rattle.span.specs.declared.format.Shape.{Shape}
 use Rattle.span.specs.Content.{contentOf}
-use Rattle.span.specs.Format.{isKnown, shapeOf, streams, samplesIn, pairsIn, symbolsIn, eavAt}
+use Rattle.span.specs.Format.{isKnown, shapeOf, streams, samplesIn, pairsIn, symbolsIn, eavAt, formatFrom}
 use Rattle.span.specs.Span.{interleaved, bytes, wordsFromSav, wordsFromEav, spanWords, charsFromSav, charsFromEav, spanChars, spanSymbols, fillWord}
 use Rattle.span.specs.Stream.{Asked, fromSav, fromEav}
 use Rattle.span.proofs.Encoding.{length-symbols}
@@ -28,9 +28,9 @@ columns p = streams p ∷ p .ancillary ∷ 2 * p .fill ∷ symbolsIn p ∷ sampl
 
 pub table-of-formats :
     (depth : ℕ)
-    → (columns (shapeOf record { number = 1; depth = depth }) ≡ 2 ∷ 268 ∷ 880 ∷ 7920 ∷ 3840 ∷ [])
-    × (columns (shapeOf record { number = 2; depth = depth }) ≡ 2 ∷ 708 ∷ 1056 ∷ 9504 ∷ 3840 ∷ [])
-    × (columns (shapeOf record { number = 3; depth = depth }) ≡ 4 ∷ 708 ∷ 2112 ∷ 19008 ∷ 7680 ∷ [])
+    → (columns (shapeOf (formatFrom 1 depth)) ≡ 2 ∷ 268 ∷ 880 ∷ 7920 ∷ 3840 ∷ [])
+    × (columns (shapeOf (formatFrom 2 depth)) ≡ 2 ∷ 708 ∷ 1056 ∷ 9504 ∷ 3840 ∷ [])
+    × (columns (shapeOf (formatFrom 3 depth)) ≡ 4 ∷ 708 ∷ 2112 ∷ 19008 ∷ 7680 ∷ [])
 unfolding shapeOf
 table-of-formats depth = (refl, refl, refl)
 
@@ -40,7 +40,7 @@ record Some (p : Shape) : Type 0 where
   fill : 1 ≤ p .fill
 
 -- formats 1 to 3 have, whatever the depth
-numbered : (n depth : ℕ) → 1 ≤ n → n ≤ 3 → Some (shapeOf record { number = n; depth = depth })
+numbered : (n depth : ℕ) → 1 ≤ n → n ≤ 3 → Some (shapeOf (formatFrom n depth))
 unfolding shapeOf
 numbered zero depth p q = absurd (omega arith)
 numbered (suc zero) depth p q = record { half = omega arith; fill = omega arith }

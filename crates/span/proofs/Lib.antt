@@ -1,5 +1,7 @@
+pub mod Blank
 pub mod Contents
 pub mod Encoding
+pub mod FilledOneToOne
 pub mod Formats
 pub mod Images
 pub mod Interleaving

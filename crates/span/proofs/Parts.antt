@@ -17,7 +17,7 @@ use Rattle.span.specs.declared.content.ContentBytes.{ContentBytes}
 use Rattle.span.specs.declared.format.Format.{Format}
 use Rattle.span.specs.Content.{contentOf}
 use Rattle.span.specs.Format.{shapeOf, streams}
-use Rattle.span.specs.Sample.{blank}
+use Rattle.span.specs.Sample.{blankWord}
 use Rattle.span.specs.Span.{interleaved, fillWord, wordsFromSav, wordsFromEav, listed, bytes, synchronised, charsFromSav, charsFromEav}
 use Rattle.span.specs.Stream.{Asked, sav, picture, eav, lineNumber, crcc, ancillary, fromEav}
 use Rattle.span.proofs.Interleaving.{length-interleaved, interleaved-append}
@@ -96,7 +96,7 @@ module _ (f : Format) (a : Asked) (some : 1 ≤ shapeOf f .half) where
 -- the ancillary area is blanking throughout
 pub blank-area : (f : Format) (n : ℕ)
     → bytes (interleaved (streams (shapeOf f)) (shapeOf f .ancillary) (ancillary f n))
-    ≡ upto (shapeOf f .half * shapeOf f .ancillary) (λ _. listed (bytesOf (blank f 0) (blank f 0)))
+    ≡ upto (shapeOf f .half * shapeOf f .ancillary) (λ _. listed (bytesOf (blankWord f) (blankWord f)))
 unfolding ancillary
 blank-area f n =
     let half : ℕ = shapeOf f .half in
@@ -104,7 +104,7 @@ blank-area f n =
     bytes-interleaved half many (ancillary f n)
     ∙ upto-same many
     (λ j. upto half (λ u. listed (bytesOf (getD (ancillary f n (2 * u)) j 0) (getD (ancillary f n (2 * u + 1)) j 0))))
-    (λ _. upto half (λ _. listed (bytesOf (blank f 0) (blank f 0))))
+    (λ _. upto half (λ _. listed (bytesOf (blankWord f) (blankWord f))))
     (λ j h.
-    ap (λ (w : ℕ). upto half (λ _. listed (bytesOf w w))) (getD-replicate many j (blank f 0) 0 h))
-    ∙ upto-again half many (listed (bytesOf (blank f 0) (blank f 0)))
+    ap (λ (w : ℕ). upto half (λ _. listed (bytesOf w w))) (getD-replicate many j (blankWord f) 0 h))
+    ∙ upto-again half many (listed (bytesOf (blankWord f) (blankWord f)))

@@ -23,7 +23,7 @@ use Rattle.span.specs.declared.format.Format.{Format}
 use Rattle.span.specs.Content.{contentOf}
 use Rattle.span.specs.Encoding.{symbolsFrom, afterRun}
 use Rattle.span.specs.Format.{shapeOf, streams, pairsIn, symbolsIn, eavAt}
-use Rattle.span.specs.Sample.{blank, sampleWord}
+use Rattle.span.specs.Sample.{blankWord, sampleWord}
 use Rattle.span.specs.Span.{interleaved, bytes, listed, wordsFromSav, wordsFromEav, spanWords, charsFromSav, charsFromEav, spanChars, spanSymbols, fillWord}
 use Rattle.span.specs.Stream.{Asked, sav, picture, eav, lineNumber, crcc, register, ancillary, fromSav, fromEav}
 use Rattle.span.proofs.Encoding.{symbol-at}
@@ -133,9 +133,9 @@ module _ (f : Format) (a : Asked) where
         ∙ word-at-eav (8 + i) (omega arith)
         ∙ getD-second (eav a ++ (lineNumber a ++ crcc f a t)) (ancillary f (a .line) t) 8 i 0 refl
 
-    pub ancillary-blank : (i : ℕ) → i < shapeOf f .ancillary → wordAt f a (1932 + i) t ≡ blank f t
+    pub ancillary-blank : (i : ℕ) → i < shapeOf f .ancillary → wordAt f a (1932 + i) t ≡ blankWord f
     unfolding ancillary
-    ancillary-blank i h = ancillary-word i h ∙ getD-replicate (shapeOf f .ancillary) i (blank f t) 0 h
+    ancillary-blank i h = ancillary-word i h ∙ getD-replicate (shapeOf f .ancillary) i (blankWord f) 0 h
 
 -- ---- characters
 

@@ -12,7 +12,7 @@ use Rattle.ground.proofs.Cases.{on-test}
 use Rattle.ground.proofs.Ranges.{is-within, from-low, to-high}
 use Rattle.line.specs.Stream.{isActive}
 use Rattle.span.specs.declared.format.Format.{Format}
-use Rattle.span.specs.Sample.{allowed, sampleWord, boundsOf}
+use Rattle.span.specs.Sample.{blankWord, allowed, sampleWord, boundsOf}
 use Rattle.span.proofs.Formats.{Known}
 
 -- two tests that hold together are the same
@@ -21,12 +21,12 @@ same-test true b p q = sym (p refl)
 same-test false true p q = q refl
 same-test false false p q = refl
 
--- 100 (hex) alone
-one-number : (x : ℕ) → eqb x 0x100 ≡ within 0x100 0x100 x
-one-number x =
-    same-test (eqb x 0x100) (within 0x100 0x100 x)
-    (λ t. let e : x ≡ 0x100 = eqb-true x 0x100 t in is-within 0x100 0x100 x (omega arith) (omega arith))
-    (λ t. eq-eqb x 0x100 (omega (arith, from-low _ _ _ t, to-high _ _ _ t)))
+-- one number alone
+one-number : (b x : ℕ) → eqb x b ≡ within b b x
+one-number b x =
+    same-test (eqb x b) (within b b x)
+    (λ t. let e : x ≡ b = eqb-true x b t in is-within b b x (omega arith) (omega arith))
+    (λ t. eq-eqb x b (omega (arith, from-low _ _ _ t, to-high _ _ _ t)))
 
 module _ (f : Format) (k : Known f) (n t x : ℕ) where
   pub allowed-is : allowed f n t x ≡ within (boundsOf f n .low) (boundsOf f n .high) x
@@ -39,7 +39,7 @@ module _ (f : Format) (k : Known f) (n t x : ℕ) where
       let not-ten : f .depth ≡ 10 → ⊥ = λ ten. omega arith in
       simp (active, ne-eqb (f .depth) 10 not-ten, eq-eqb (f .depth) 12 e))
       (k .bits))
-      (λ blanking. simp blanking (one-number x))
+      (λ blanking. simp blanking (one-number (blankWord f) x))
 
   high-is : allowed f n t x ≡ true → x ≤ boundsOf f n .high
   high-is ok = to-high _ _ _ (sym allowed-is ∙ ok)
@@ -52,7 +52,7 @@ module _ (f : Format) (k : Known f) (n t x : ℕ) where
       on-test (eqb (f .depth) 10)
       (λ ten. let h : x ≤ 1019 = simp (active, ten) at (high-is ok) in simp (active, ten) (omega arith))
       (λ twelve. let h : x ≤ 4079 = simp (active, twelve) at (high-is ok) in simp (active, twelve) (omega arith)))
-      (λ blanking. let h : x ≤ 0x100 = simp blanking at (high-is ok) in simp blanking (omega arith))
+      (λ blanking. let h : x ≤ blankWord f = simp blanking at (high-is ok) in simp blanking (omega arith))
 
   -- and that word is sent for it
   pub word-is : allowed f n t x ≡ true → sampleWord f n t x ≡ x * boundsOf f n .factor

@@ -8,6 +8,11 @@ use lib.ListN.{getD}
 use Rattle.ground.specs.Range.{within}
 use Rattle.span.specs.declared.format.Format.{Format}
 use Rattle.span.specs.declared.format.Shape.{Shape}
+use Rattle.span.specs.Layout.{ancillaryStart}
+
+-- a format as a caller writes it: the one place where its record is made
+abbrev pub formatFrom : ℕ → ℕ → Format
+formatFrom number depth = record { number = number; depth = depth }
 
 -- formats 1 to 3, at 10 or 12 bits
 abbrev pub isKnown : Format → Bool
@@ -36,9 +41,9 @@ streams p = 2 * p .half
 abbrev pub samplesIn : Shape → ℕ
 samplesIn p = 1920 * streams p
 
--- the words of one stream from a SAV to before the next, fill apart: SAV 4, picture 1920, EAV 4, line number 2, CRCC 2, ancillary
+-- the words of one stream from a SAV to before the next, fill apart
 abbrev pub wordsPerStream : Shape → ℕ
-wordsPerStream p = 4 + 1920 + 4 + 2 + 2 + p .ancillary
+wordsPerStream p = ancillaryStart + p .ancillary
 
 -- the pairs of words of a span
 abbrev pub pairsIn : Shape → ℕ

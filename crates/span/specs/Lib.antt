@@ -1,7 +1,9 @@
+pub mod Blanking
 pub mod Content
 pub mod Encoding
 pub mod Format
 pub mod Image
+pub mod Layout
 pub mod Length
 pub mod Numbers
 pub mod Sample

@@ -8,13 +8,13 @@ use Rattle.packing.specs.Sample.{allowed as allowedAt, sampleWord as wordAt}
 use Rattle.span.specs.declared.format.Format.{Format}
 use Rattle.span.specs.declared.sample.Bounds.{Bounds}
 
--- 6.8: the blanking word of stream t
-abbrev pub blank : Format → ℕ → ℕ
-blank f t = 0x100
+-- 6.8: the blanking word of a link's streams, which all carry one component
+abbrev pub blankWord : Format → ℕ
+blankWord f = 0x100
 
 -- may stream t of line n carry sample x: on an active line what the depth allows, on a blanking line the blanking word alone
 abbrev pub allowed : Format → ℕ → ℕ → ℕ → Bool
-allowed f n t x = cond (isActive n) (allowedAt (f .depth) x) (eqb x (blank f t))
+allowed f n t x = cond (isActive n) (allowedAt (f .depth) x) (eqb x (blankWord f))
 
 -- the word sent for it: on an active line by the depth, on a blanking line as it is
 abbrev pub sampleWord : Format → ℕ → ℕ → ℕ → ℕ
@@ -25,4 +25,4 @@ abbrev pub boundsOf : Format → ℕ → Bounds
 boundsOf f n =
     cond (isActive n)
     (cond (eqb (f .depth) 10) (record { low = 4; high = 1019; factor = 4 }) (record { low = 16; high = 4079; factor = 1 }))
-    (record { low = 0x100; high = 0x100; factor = 1 })
+    (record { low = blankWord f; high = blankWord f; factor = 1 })

@@ -14,7 +14,7 @@ use Rattle.word.specs.Timing.{timingCode}
 use Rattle.span.specs.declared.content.Content.{Content}
 use Rattle.span.specs.declared.format.Format.{Format}
 use Rattle.span.specs.Format.{shapeOf}
-use Rattle.span.specs.Sample.{blank, sampleWord}
+use Rattle.span.specs.Sample.{blankWord, sampleWord}
 
 -- what a caller asks to be sent: the line, the content bytes, the samples stream by stream
 pub record Asked : Type 0 where
@@ -53,7 +53,7 @@ crcc f a t = crccPair (crccWords (register f a t))
 -- 6.8: the ancillary area, blanking throughout
 unfoldable pub ancillary : Format → ℕ → ℕ → List ℕ
 unfolding shapeOf
-ancillary f n t = replicate (shapeOf f .ancillary) (blank f t)
+ancillary f n t = replicate (shapeOf f .ancillary) (blankWord f)
 
 -- the SAV and what follows it up to the EAV
 abbrev pub fromSav : Format → Asked → ℕ → List ℕ

@@ -1,6 +1,6 @@
 // Formats as the caller wrote them, and what the known ones mean (document 01, "A span").
 ghost use mathlib.Core.Path.{_≡_};
-ghost use Rattle.span.specs.Format.{isKnown as known, shapeOf};
+ghost use Rattle.span.specs.Format.{formatFrom, isKnown as known, shapeOf};
 
 // The number of the format and the depth in bits, any numbers: the calls that take a format refuse what is unknown.
 pub struct Format {
@@ -17,7 +17,7 @@ pub struct Shape {
 
 // The one place where a format is made.
 pub fn format_of(number: u8, depth: u8) -> Format
-    ensures { λ r. ⌜ r ≡ record { number = number; depth = depth } ⌝ }
+    ensures { λ r. ⌜ r ≡ formatFrom number depth ⌝ }
 {
     Format { number, depth }
 }

@@ -17,7 +17,7 @@ fn between(low: u16, high: u16, factor: u16) -> Bounds
     Bounds { low, high, factor }
 }
 
-// Those of a line: by the depth on an active line; 100 (hex) alone, as it is, on any other.
+// Those of a line: by the depth on an active line; the blanking word alone, as it is, on any other.
 pub fn bounds_of(f: Format, l: StreamLine) -> Bounds
     ensures { λ r. ⌜ r ≡ boundsOf f (l .0) ⌝ }
 {
@@ -27,5 +27,6 @@ pub fn bounds_of(f: Format, l: StreamLine) -> Bounds
         }
         return between(16, 4079, 1);
     }
-    between(0x100, 0x100, 1)
+    let blank = crate::blanking::blank_word(f);
+    between(blank, blank, 1)
 }

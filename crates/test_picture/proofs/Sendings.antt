@@ -19,12 +19,12 @@ use Rattle.span.specs.declared.content.Content.{Content}
 use Rattle.span.specs.declared.format.Format.{Format}
 use Rattle.span.specs.Format.{isKnown, shapeOf, samplesIn, symbolsIn}
 use Rattle.span.specs.Image.{imageOf}
-use Rattle.span.specs.Sample.{blank, boundsOf}
+use Rattle.span.specs.Sample.{blankWord, boundsOf}
 use Rattle.span.specs.Span.{spanAfter}
 use Rattle.send.specs.Send.{asked, sendOf}
 use Rattle.send.proofs.Checking.{outside-never}
 use Rattle.send.proofs.Refusals.{sends}
-use Rattle.blanking.specs.Blanking.{blankRow}
+use Rattle.span.specs.Blanking.{blankRow}
 use Rattle.test_picture.specs.TestPicture.{stepOf, sampleBy, testSamples}
 use Rattle.test_picture.proofs.Codes.{code-low, code-high}
 use Rattle.test_picture.proofs.Images.{picture-long, sample-is}
@@ -51,7 +51,7 @@ module _ (f : Format) (n : ℕ) where
   pub samples-long : length (testSamples f n) ≡ samplesIn (shapeOf f)
   samples-long =
       on-test (isActive n) (picture-long f n)
-      (λ t. rw (are-blanking t) (length-table (samplesIn (shapeOf f)) (λ i. blank f (i / 1920))))
+      (λ t. rw (are-blanking t) (length-table (samplesIn (shapeOf f)) (λ i. blankWord f)))
 
   pub each-inside : (i : ℕ) → i < length (testSamples f n) → Inside (getD (testSamples f n) i 0)
   each-inside i h =
@@ -67,7 +67,7 @@ module _ (f : Format) (n : ℕ) where
       (subst Inside (sym is) (code-inside active (lineFrom u (basicLineOf n)) (sampleFrom u j))))
       (λ t.
       let inside : i < samplesIn (shapeOf f) = omega (arith, samples-long) in
-      rw (are-blanking t, getD-table (samplesIn (shapeOf f)) (λ k. blank f (k / 1920)) i 0 inside)
+      rw (are-blanking t, getD-table (samplesIn (shapeOf f)) (λ k. blankWord f) i 0 inside)
       (simp t (is-within 0x100 0x100 0x100 (omega arith) (omega arith))))
 
   -- so a call with them is refused nothing

@@ -13,7 +13,7 @@ use Rattle.dividing.specs.Row.{divided}
 use Rattle.span.specs.declared.format.Format.{Format}
 use Rattle.span.specs.Format.{shapeOf, streams}
 use Rattle.span.specs.Image.{imageOf}
-use Rattle.blanking.specs.Blanking.{blankRow}
+use Rattle.span.specs.Blanking.{blankRow}
 
 -- how far a number is from another
 abbrev pub apart : ℕ → ℕ → ℕ

@@ -98,7 +98,7 @@ fn put_line(f: Format, l: StreamLine, samples: &mut [u16])
         put_picture(f, l, &mut row, &mut first, &mut second, samples);
         return;
     }
-    blanking::blanking::fill_blanking(f, samples);
+    span::blanking::fill_blanking(f, samples);
 }
 
 // The samples of a stream line, stream by stream.

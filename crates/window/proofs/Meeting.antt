@@ -25,7 +25,8 @@ use Rattle.word.specs.Timing.{timing}
 use Rattle.word.proofs.LineNumbers.{named-is-line, named-ln0, named-ln1}
 use Rattle.window.specs.Encoded.{Meets}
 use Rattle.window.specs.Read.{placed}
-use Rattle.window.specs.Tests.{hasH, repaired, vIn, wrongBits, same, mayBring, sumOf, wordOf, holds21, nextLine, lineRead, holds22, holds23, registerOf, holds24, holds25, holds26, repairs}
+use Rattle.window.specs.Tests.{same, mayBring, sumOf, wordOf, holds21, nextLine, lineRead, holds22, holds23, registerOf, holds24, holds25, holds26, repairs}
+use Rattle.word.specs.Received.{hasH, repaired, vIn, wrongBits}
 use Rattle.window.proofs.Nearest.{repaired-is, whole-timing}
 use Rattle.window.proofs.Placing.{place-again, at-word, in-span}
 use Rattle.window.proofs.Symbols.{some-told}

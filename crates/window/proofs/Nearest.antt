@@ -11,7 +11,8 @@ use Rattle.word.specs.Repair.{distance, legalWord, nearest}
 use Rattle.word.specs.Timing.{bit, timing}
 use Rattle.word.proofs.Repairs.{same-word, nearest-is, nearest-none}
 use Rattle.word.proofs.Timings.{timing-below}
-use Rattle.window.specs.Tests.{hasH, repaired, vIn, wrongBits, same}
+use Rattle.window.specs.Tests.{same}
+use Rattle.word.specs.Received.{hasH, repaired, vIn, wrongBits}
 
 -- two tests that agree
 pub same-test : (a b : Bool) → a ≡ b → same a b ≡ true

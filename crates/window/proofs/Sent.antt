@@ -22,13 +22,14 @@ use Rattle.packing.proofs.Samples.{sent-ten, sent-twelve}
 use Rattle.word.proofs.Timings.{timing-below}
 use Rattle.span.specs.declared.format.Format.{Format}
 use Rattle.span.specs.Format.{shapeOf, streams}
-use Rattle.span.specs.Sample.{blank, allowed, sampleWord}
+use Rattle.span.specs.Sample.{blankWord, allowed, sampleWord}
 use Rattle.span.specs.Span.{across, interleaved, fillWord, wordsFromSav, wordsFromEav, spanWords}
 use Rattle.span.specs.Stream.{Asked, sav, picture, eav, lineNumber, crcc, register, ancillary, fromSav, fromEav}
 use Rattle.span.proofs.Formats.{Known, known-told}
 use Rattle.span.proofs.Samples.{word-is, word-below}
 use Rattle.window.specs.Encoded.{wordIn, Sendable}
-use Rattle.window.specs.Tests.{repaired, mayBring, wordOf, column, registerOf}
+use Rattle.window.specs.Tests.{mayBring, wordOf, column, registerOf}
+use Rattle.word.specs.Received.{repaired}
 
 -- ---- lists of words of twelve bits
 
@@ -121,7 +122,7 @@ module _ (f : Format) (a : Asked) (good : Sendable f a) where
       (both-twelve (lineNumber a) (crcc f a t ++ ancillary f (a .line) t) (pair-twelve (ln0 n) (ln1 n) (ln0-below n) (ln1-below n))
       (both-twelve (crcc f a t) (ancillary f (a .line) t)
       (pair-twelve (crccWords r .crcc0) (crccWords r .crcc1) (guard-below _) (guard-below _))
-      (again-twelve (shapeOf f .ancillary) (blank f t) (omega arith))))
+      (again-twelve (shapeOf f .ancillary) (blankWord f) (omega arith))))
 
   -- every word has twelve bits
   pub sent-twelve-bits : (k : ℕ) → wordIn (spanWords f a) k < 4096

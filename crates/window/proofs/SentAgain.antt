@@ -18,7 +18,7 @@ use Rattle.span.specs.declared.content.ContentBytes.{ContentBytes}
 use Rattle.span.specs.declared.format.Format.{Format}
 use Rattle.span.specs.Encoding.{symbolsFrom}
 use Rattle.span.specs.Format.{isKnown, shapeOf, streams, samplesIn, pairsIn, symbolsIn}
-use Rattle.span.specs.Sample.{blank, allowed, sampleWord}
+use Rattle.span.specs.Sample.{blankWord, allowed, sampleWord}
 use Rattle.span.specs.Span.{spanWords, spanSymbols}
 use Rattle.span.specs.Stream.{Asked, register}
 use Rattle.span.proofs.Formats.{known-told}
@@ -61,7 +61,7 @@ module _ (f : Format) (known : isKnown f ≡ true) (n t x : ℕ) (may : mayBring
 module _ (f : Format) (known : isKnown f ≡ true) (word : ℕ → ℕ) (small : (k : ℕ) → word k < 4096) (m : Meets f word)
     (none-wrong : repairs (streams (shapeOf f)) word ≡ 0)
     (blankAncillary : (j t : ℕ) → 1932 ≤ j → j < 1932 + shapeOf f .ancillary → t < streams (shapeOf f)
-    → wordOf (streams (shapeOf f)) word j t ≡ blank f t)
+    → wordOf (streams (shapeOf f)) word j t ≡ blankWord f)
     (blankLine : isActive (lineRead (streams (shapeOf f)) word) ≡ false → (j t : ℕ) → 4 ≤ j → j < 1924 → t < streams (shapeOf f)
     → wordOf (streams (shapeOf f)) word j t ≡ 0x100)
     (c : ContentBytes) where
@@ -203,7 +203,7 @@ module _ (f : Format) (known : isKnown f ≡ true) (word : ℕ → ℕ) (small :
 module _ (f : Format) (w : List ℕ) (known : isKnown f ≡ true) (long : length w ≡ symbolsIn (shapeOf f)) (acc : Accepted f w)
     (none-wrong : repairs (streams (shapeOf f)) (wordAt (shapeOf f) w) ≡ 0)
     (blankAncillary : (j t : ℕ) → 1932 ≤ j → j < 1932 + shapeOf f .ancillary → t < streams (shapeOf f)
-    → wordOf (streams (shapeOf f)) (wordAt (shapeOf f) w) j t ≡ blank f t)
+    → wordOf (streams (shapeOf f)) (wordAt (shapeOf f) w) j t ≡ blankWord f)
     (blankLine : isActive (lineRead (streams (shapeOf f)) (wordAt (shapeOf f) w)) ≡ false → (j t : ℕ) → 4 ≤ j → j < 1924
     → t < streams (shapeOf f) → wordOf (streams (shapeOf f)) (wordAt (shapeOf f) w) j t ≡ 0x100) where
   -- its answer may be sent

@@ -18,6 +18,7 @@ use Rattle.span.specs.declared.format.Shape.{Shape}
 use Rattle.span.specs.Encoding.{symbolsFrom, afterRun}
 use Rattle.span.specs.Content.{contentOf}
 use Rattle.span.specs.Format.{isKnown, shapeOf, streams, samplesIn, pairsIn, eavAt}
+use Rattle.span.specs.Layout.{pictureStart, eavStart, savXyz, eavXyz}
 use Rattle.span.specs.Sample.{allowed}
 use Rattle.span.specs.Span.{bytes, synchronised, spanWords}
 use Rattle.span.specs.Stream.{Asked}
@@ -31,8 +32,8 @@ use Rattle.window.specs.Words.{fixedByte, wordAt}
 -- the characters of a span's words, with the special characters and the content bytes put in
 unfoldable pub charsOf : Shape → ContentBytes → List ℕ → List ℕ
 charsOf p c words =
-    synchronised «K28_5» (c .sav1) (c .sav2) (bytes (take (1924 * streams p) words))
-    ++ synchronised «K29_7» (c .eav1) (c .eav2) (bytes (drop (1924 * streams p) words))
+    synchronised «K28_5» (c .sav1) (c .sav2) (bytes (take (eavStart * streams p) words))
+    ++ synchronised «K29_7» (c .eav1) (c .eav2) (bytes (drop (eavStart * streams p) words))
 
 pub record AreContent (c : ContentBytes) : Type 0 where
   pub sav1 : c .sav1 < 256
@@ -87,9 +88,9 @@ pub record Sendable (f : Format) (a : Asked) : Type 0 where
   pub long : length (a .samples) ≡ samplesIn (shapeOf f)
   pub allowed : (i : ℕ) → i < length (a .samples) → allowed f (a .line) (i / 1920) (getD (a .samples) i 0) ≡ true
 
--- XYZ is word 3 of a stream, in the SAV, and word 1927, in the EAV
+-- the XYZ of SAV and EAV
 abbrev pub IsXyz : ℕ → Type 0
-IsXyz j = (j ≡ 3) ⊎ (j ≡ 1927)
+IsXyz j = (j ≡ savXyz) ⊎ (j ≡ eavXyz)
 
 -- twelve-bit words that are those of a span that is sent, apart from its XYZ
 pub record Disturbed (f : Format) (a : Asked) (words : List ℕ) : Type 0 where
@@ -98,8 +99,8 @@ pub record Disturbed (f : Format) (a : Asked) (words : List ℕ) : Type 0 where
   pub same :
       (k : ℕ)
       → k < 2 * pairsIn (shapeOf f)
-      → (k / streams (shapeOf f) ≡ 3 → ⊥)
-      → (k / streams (shapeOf f) ≡ 1927 → ⊥)
+      → (k / streams (shapeOf f) ≡ savXyz → ⊥)
+      → (k / streams (shapeOf f) ≡ eavXyz → ⊥)
       → wordIn words k ≡ wordIn (spanWords f a) k
 
 -- in how many bits the word at place k is not the one sent
@@ -116,7 +117,7 @@ sampleIn f n x = cond (isActive n && eqb (f .depth) 10) (x / 4) x
 abbrev pub samplesOf : Format → (ℕ → ℕ) → List ℕ
 samplesOf f word =
     let s = streams (shapeOf f) in
-    table (samplesIn (shapeOf f)) (λ i. sampleIn f (lineRead s word) (wordOf s word (4 + i % 1920) (i / 1920)))
+    table (samplesIn (shapeOf f)) (λ i. sampleIn f (lineRead s word) (wordOf s word (pictureStart + i % 1920) (i / 1920)))
 
 -- what a caller asks for to have such words and content bytes sent
 abbrev pub askedFor : Format → ContentBytes → (ℕ → ℕ) → Asked

@@ -1,6 +1,5 @@
 pub mod Encoded
 pub mod Read
 pub mod Scan
-pub mod Sums
 pub mod Tests
 pub mod Words

@@ -14,34 +14,16 @@ use Rattle.ground.specs.Written.{upto, table}
 use Rattle.line.specs.Stream.{isActive, vOf, lineBefore}
 use Rattle.span.specs.declared.format.Format.{Format}
 use Rattle.span.specs.Format.{shapeOf}
+use Rattle.span.specs.Layout.{pictureStart, eavStart, lineStart, crccStart, ancillaryStart, savXyz, eavXyz}
 use Rattle.span.specs.Span.{fillWord}
 use Rattle.crcc.specs.Crcc.{crc, crccWords}
 use Rattle.word.specs.LineNumber.{lineOf}
-use Rattle.word.specs.Repair.{distance, legalWord, nearest}
+use Rattle.word.specs.Received.{isTiming, repaired, vIn, wrongBits}
 use Rattle.packing.specs.Sample.{allowedWord}
-use Rattle.word.specs.Timing.{bit, timingCode}
 
 -- ---- one word
 
--- H of the legal word that is near is h
-abbrev pub hasH : Bool → Option ℕ → Bool
-hasH h none = false
-hasH h (some vh) = eqb (vh % 2) (bit h)
-
--- word j of a timing code with this H: FFF 000 000, and XYZ, which may have one wrong bit
-abbrev pub isTiming : Bool → ℕ → ℕ → Bool
-isTiming h j w = cond (ltb j 3) (eqb w (getD (timingCode false h) j 0)) (hasH h (nearest w))
-
--- XYZ as repaired, V in it, and how many bits were wrong
-abbrev pub repaired : ℕ → ℕ
-repaired w = legalWord (Option·getD (nearest w) 0)
-
-abbrev pub vIn : ℕ → Bool
-vIn w = eqb (Option·getD (nearest w) 0 / 2) 1
-
-abbrev pub wrongBits : ℕ → ℕ
-wrongBits w = distance w (repaired w)
-
+-- two tests that agree
 abbrev pub same : Bool → Bool → Bool
 same a b = cond a b (not b)
 
@@ -64,14 +46,15 @@ module _ (s : ℕ) (word : ℕ → ℕ) where
   abbrev pub column : ℕ → ℕ → ℕ → List ℕ
   column j n t = table n (λ i. wordOf (j + i) t)
 
-  -- 21: the timing words: SAV at 0 to 3, EAV at 1924 to 1927
+  -- 21: the timing words, four of the SAV and four of the EAV
   unfoldable pub holds21 : ℕ → ℕ → Bool
   holds21 j t =
-      cond (ltb j 4) (isTiming false j (wordOf j t)) (cond (within 1924 1927 j) (isTiming true (j - 1924) (wordOf j t)) true)
+      cond (ltb j pictureStart) (isTiming false j (wordOf j t))
+      (cond (within eavStart eavXyz j) (isTiming true (j - eavStart) (wordOf j t)) true)
 
   -- the line that the two words of stream 1 name, if they name one; and the line before it, whose SAV begins the span
   abbrev pub named : Option ℕ
-  named = lineOf (wordOf 1928 0) (wordOf 1929 0)
+  named = lineOf (wordOf lineStart 0) (wordOf (lineStart + 1) 0)
 
   unfoldable pub nextLine : ℕ
   nextLine = Option·getD named 0
@@ -82,35 +65,36 @@ module _ (s : ℕ) (word : ℕ → ℕ) where
   -- 22: stream 1 names a line, asked at its LN0, and every other stream has the same two words
   unfoldable pub holds22 : ℕ → ℕ → Bool
   holds22 j t =
-      cond (within 1928 1929 j) (cond (eqb j 1928 && eqb t 0) (isSome named) (eqb (wordOf j t) (wordOf j 0))) true
+      cond (within lineStart (lineStart + 1) j) (cond (eqb j lineStart && eqb t 0) (isSome named) (eqb (wordOf j t) (wordOf j 0))) true
 
   -- 23: V of each SAV is that of the line read, V of each EAV that of the line named
   unfoldable pub holds23 : ℕ → ℕ → Bool
   holds23 j t =
-      cond (eqb j 3) (same (vIn (wordOf j t)) (vOf lineRead))
-      (cond (eqb j 1927) (same (vIn (wordOf j t)) (vOf nextLine)) true)
+      cond (eqb j savXyz) (same (vIn (wordOf j t)) (vOf lineRead))
+      (cond (eqb j eavXyz) (same (vIn (wordOf j t)) (vOf nextLine)) true)
 
   -- 24: each CRCC word is the one worked out over what the stream has from after the SAV to its last line-number word, XYZ repaired
   unfoldable pub registerOf : ℕ → ℕ
-  registerOf t = crc 0 (column 4 1920 t ++ (column 1924 3 t ++ (repaired (wordOf 1927 t) ∷ column 1928 2 t)))
+  registerOf t =
+      crc 0 (column pictureStart 1920 t ++ (column eavStart 3 t ++ (repaired (wordOf eavXyz t) ∷ column lineStart 2 t)))
 
   unfoldable pub holds24 : ℕ → ℕ → Bool
   holds24 j t =
-      cond (eqb j 1930) (eqb (wordOf j t) (crccWords (registerOf t) .crcc0))
-      (cond (eqb j 1931) (eqb (wordOf j t) (crccWords (registerOf t) .crcc1)) true)
+      cond (eqb j crccStart) (eqb (wordOf j t) (crccWords (registerOf t) .crcc0))
+      (cond (eqb j (crccStart + 1)) (eqb (wordOf j t) (crccWords (registerOf t) .crcc1)) true)
 
   -- 25: the picture words
   unfoldable pub holds25 : Format → ℕ → ℕ → Bool
-  holds25 f j t = cond (within 4 1923 j) (mayBring f lineRead t (wordOf j t)) true
+  holds25 f j t = cond (within pictureStart (eavStart - 1) j) (mayBring f lineRead t (wordOf j t)) true
 
   -- 26: the fill, behind all words of the streams
   unfoldable pub holds26 : Format → ℕ → ℕ → Bool
-  holds26 f j t = cond (ltb j (1932 + shapeOf f .ancillary)) true (eqb (wordOf j t) fillWord)
+  holds26 f j t = cond (ltb j (ancillaryStart + shapeOf f .ancillary)) true (eqb (wordOf j t) fillWord)
 
   -- how many bits were wrong in all timing words
   unfoldable pub repairs : ℕ
-  repairs = sumOf s (λ t. wrongBits (wordOf 3 t) + wrongBits (wordOf 1927 t))
+  repairs = sumOf s (λ t. wrongBits (wordOf savXyz t) + wrongBits (wordOf eavXyz t))
 
   -- the picture, stream by stream
   unfoldable pub rows : List ℕ
-  rows = upto s (column 4 1920)
+  rows = upto s (column pictureStart 1920)

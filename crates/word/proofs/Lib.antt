@@ -1,6 +1,7 @@
 pub mod Agree
 pub mod Guards
 pub mod LineNumbers
+pub mod Near
 pub mod OneToOne
 pub mod Repairs
 pub mod Timings

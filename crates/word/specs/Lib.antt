@@ -1,4 +1,5 @@
 pub mod LineNumber
+pub mod Received
 pub mod Repair
 pub mod Timing
 pub mod Values

@@ -2,7 +2,7 @@
 -- Assumes nothing.
 use mathlib.Core.Path.{ap, _∙_}
 use Rattle.span.specs.declared.format.Format.{Format}
-use Rattle.blanking.specs.Blanking.{fillOf, filledRow}
+use Rattle.span.specs.Blanking.{fillOf, filledRow}
 use Rattle.boundary.specs.Numbers.{numberIn}
 use Rattle.adapter.proofs.Whole.{fill-whole, filled-whole}
 use borrow.Author.Needs.{needs}

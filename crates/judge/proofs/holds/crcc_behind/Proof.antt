@@ -5,7 +5,7 @@ use Prim.Native.Nat.{ℕ, _+_, _*_, _%_}
 use native.Mathlib.Omega.{arith}
 use Rattle.span.specs.Format.{streams}
 use Rattle.crcc.specs.Crcc.{crcWord, crccWords}
-use Rattle.window.specs.Tests.{repaired}
+use Rattle.word.specs.Received.{repaired}
 use Rattle.window.specs.Words.{wordAt}
 use Rattle.judge.proofs.Reading.{six}
 use borrow.Author.Needs.{needs}

@@ -5,7 +5,7 @@ use mathlib.Core.Bool.{true, false}
 use Prim.Native.Nat.{ℕ, _-_, _/_, _%_, _≤_}
 use native.Mathlib.Omega.{arith}
 use Rattle.span.specs.Format.{streams}
-use Rattle.window.specs.Tests.{isTiming}
+use Rattle.word.specs.Received.{isTiming}
 use Rattle.window.specs.Words.{wordAt}
 use Rattle.judge.proofs.Reading.{here-below}
 use Rattle.judge.proofs.Tests.{sav-21, eav-21, else-21}

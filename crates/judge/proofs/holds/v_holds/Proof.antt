@@ -4,7 +4,8 @@ use mathlib.Core.Path.{sym, ap, ap₂, _∙_}
 use Prim.Native.Nat.{ℕ, _/_, _%_}
 use Rattle.line.specs.Stream.{vOf, lineBefore}
 use Rattle.span.specs.Format.{streams}
-use Rattle.window.specs.Tests.{vIn, same}
+use Rattle.window.specs.Tests.{same}
+use Rattle.word.specs.Received.{vIn}
 use Rattle.window.specs.Words.{wordAt}
 use Rattle.judge.proofs.Reading.{here-below, line-is}
 use Rattle.judge.proofs.Tests.{same-is, sav-23, eav-23, else-23}

@@ -6,7 +6,8 @@ use native.Mathlib.Nat.{mod-eq-of-lt}
 use native.Mathlib.Omega.{arith}
 use borrow.Author.Needs.{needs}
 use Rattle.span.specs.Format.{streams}
-use Rattle.window.specs.Tests.{wrongBits, sumOf}
+use Rattle.window.specs.Tests.{sumOf}
+use Rattle.word.specs.Received.{wrongBits}
 use Rattle.window.specs.Words.{wordAt}
 use Rattle.judge.proofs.Reading.{wrongOf, none-summed, one-more, all-summed}
 use Rattle.judge.proofs.holds.wrong_in_all.Statement.{statement}

@@ -3,7 +3,7 @@
 use mathlib.Core.Path.{refl, sym, ap, _∙_}
 use native.Mathlib.Omega.{arith}
 use Rattle.span.proofs.Formats.{small}
-use Rattle.mask.specs.Mask.{maskOf}
+use Rattle.decoder.specs.Mask.{maskOf}
 use Rattle.window.proofs.Symbols.{running-start}
 use Rattle.scan.proofs.Window.{not-yet, ran-1, ran-2, ran-3, ran-4, scanned-is}
 use borrow.Author.Needs.{needs}

@@ -3,8 +3,8 @@
 use mathlib.Core.Path.{refl, sym, _∙_}
 use borrow.Author.Needs.{needs}
 use Rattle.ground.proofs.Answers.{when-given}
-use Rattle.blanking.specs.Blanking.{blankRow}
-use Rattle.blanking.proofs.Blank.{fills}
+use Rattle.span.specs.Blanking.{blankRow}
+use Rattle.span.proofs.Blank.{fills}
 use Rattle.test_picture.proofs.Sendings.{are-blanking}
 use Rattle.test_picture.proofs.samples.put_line.Statement.{statement}
 use Rattle.test_picture.proofs.samples.put_line.Tie as tie

@@ -1,2 +1,0 @@
-// Filling a row with blanking samples.
-pub mod blanking;

@@ -1,0 +1,49 @@
+-- A loop that keeps the disparity as a bit reads the entries as the definition does.
+-- Assumes nothing.
+use mathlib.Core.Path.{_≡_, refl, sym, ap, _∙_}
+use mathlib.Core.Bool.{Bool, true, false, not}
+use mathlib.Core.Option.{some}
+use Prim.Native.Nat.{ℕ, zero, suc, _*_, _/_, _%_, _<_}
+use native.Mathlib.Omega.{arith}
+use lib.Bits.{bitXor, and-high}
+use lib.Dec.{eqb}
+use borrow.Author.Tests.{eq-eqb, ne-eqb}
+use Rattle.symbol.specs.declared.disparity.Disparity.{Disparity}
+use Rattle.symbol.specs.declared.disparity.Disparity.the-variants.{Negative, Positive}
+use Rattle.symbol.specs.Code.{charOf, afterOf, turns, bit}
+use Rattle.symbol.specs.Disparity.{turnedIf}
+use Rattle.symbol.proofs.Inverse.{decoded-below}
+use Rattle.symbol.proofs.Ones.{turns-both}
+use Rattle.decoder.specs.Decoder.{entryOf, legalBit}
+use Rattle.decoder.proofs.Reading.{turn-is}
+use Rattle.decoder.specs.Mask.{maskOf, ofMask, legalBy, afterBy}
+
+pub mask-again : (d : Disparity) → ofMask (maskOf d) ≡ d
+mask-again Negative = refl
+mask-again Positive = refl
+
+-- a bit that is 0 or 1, tested against 0 where it stands k places up, and against 1 where it stands lowest
+bit-tests : (k b : ℕ) → 0 < k → b < 2 → not (eqb (b * k) 0) ≡ eqb b 1
+bit-tests k zero h l = ap not (eq-eqb (0 * k) 0 (omega arith))
+bit-tests k (suc zero) h l = ap not (ne-eqb (1 * k) 0 (omega arith))
+bit-tests k (suc (suc b)) h l = absurd (omega arith)
+
+pub legal-mask : (d : Disparity) (e : ℕ) → legalBy (maskOf d) e ≡ legalBit d e
+unfolding legalBy
+legal-mask Negative e = ap (λ (x : ℕ). not (eqb x 0)) (and-high e 1 9) ∙ bit-tests 512 (e / 512 % 2) (omega arith) (omega arith)
+legal-mask Positive e = ap (λ (x : ℕ). not (eqb x 0)) (and-high e 1 10) ∙ bit-tests 1024 (e / 1024 % 2) (omega arith) (omega arith)
+
+turn-mask : (d : Disparity) (t : Bool) → bitXor (maskOf d) (3 * bit t * 512) ≡ maskOf (turnedIf t d)
+turn-mask Negative true = refl
+turn-mask Negative false = refl
+turn-mask Positive true = refl
+turn-mask Positive false = refl
+
+-- the bit after a symbol that is legal is that of the disparity after its character
+pub after-mask : (d : Disparity) (s c : ℕ) → charOf d s ≡ some c → afterBy (maskOf d) (entryOf s) ≡ maskOf (afterOf d c)
+unfolding afterBy
+after-mask d s c e =
+    let q : entryOf s / 4 / 512 % 4 ≡ 3 * bit (turns c) = omega (arith, turn-is d s c e) in
+    ap (bitXor (maskOf d)) (and-high (entryOf s / 4) 2 9 ∙ ap (λ (x : ℕ). x * 512) q)
+    ∙ turn-mask d (turns c)
+    ∙ ap maskOf (sym (turns-both d c (decoded-below d s c e)))

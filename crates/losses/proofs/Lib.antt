@@ -1,3 +1,0 @@
-pub mod Counting
-pub mod Items
-pub mod Rooms
