@@ -36,7 +36,7 @@ use Rattle.span.specs.Stream.{Asked}
 use Rattle.span.specs.Numbers.{IsFormat, Symbols, Samples}
 use Rattle.window.specs.declared.delivery.Delivery.{Delivery}
 use Rattle.window.specs.Encoded.{charsOf, AreContent, Encodes, wordIn, Meets, IsXyz, Disturbed, wrongAt}
-use Rattle.window.specs.Read.{placed, pictureOf, readSpan, judgeOf, readOf, rowsRead}
+use Rattle.window.specs.Read.{placed, repairsOf, pictureOf, readSpan, judgeOf, readOf, rowsRead}
 use Rattle.window.specs.Scan.{holds20}
 use Rattle.window.specs.Tests.{holds21, holds22, holds23, holds24, holds25, holds26, sumOf}
 use Rattle.window.specs.Words.{wordAt}
@@ -243,7 +243,7 @@ pub record Demand2 : Type 0 where
         content = c;
         before = d;
         after = afterRun d (charsOf (shapeOf f) c words);
-        repairs = sumOf s (λ t. wrongAt f (x .asked) words (s * 3 + t) + wrongAt f (x .asked) words (s * 1927 + t));
+        repairs = repairsOf (sumOf s (λ t. wrongAt f (x .asked) words (s * 3 + t) + wrongAt f (x .asked) words (s * 1927 + t)));
       }))
       × (pictureOf f w ≡ readingOf f x .words)
   -- and where two of one are: it is refused there

@@ -22,6 +22,7 @@ use Rattle.recording.specs.declared.seek.Spanned.{Spanned}
 use Rattle.recording.specs.Recording.{Reading}
 use Rattle.stepping.specs.Steps.{Step, runFrom}
 use Rattle.send.specs.Send.{sendOf}
+use Rattle.window.specs.Read.{repairsOf}
 
 -- ---- document 01's own numbers
 
@@ -100,7 +101,7 @@ readingOf f x =
             content = contentOf f (x .asked .content);
             before = x .before;
             after = spanAfter (x .before) f (x .asked);
-            repairs = 0;
+            repairs = repairsOf 0;
           };
       words = upto (streams (shapeOf f)) (picture f (x .asked));
     }

@@ -19,9 +19,9 @@ use Rattle.span.specs.Format.{isKnown, shapeOf, symbolsIn, streams, eavAt}
 use Rattle.span.proofs.Formats.{small}
 use Rattle.span.proofs.Lengths.{known-has-streams}
 use Rattle.crcc.specs.declared.sums.Sums.{Sums}
-use Rattle.window.specs.Read.{contentIn}
+use Rattle.window.specs.Read.{contentIn, repairsOf}
 use Rattle.window.specs.Scan.{byteOf, symbolAt}
-use Rattle.window.specs.Tests.{nextLine, lineRead, repairs}
+use Rattle.window.specs.Tests.{nextLine, lineRead, repairCount}
 use Rattle.window.specs.Words.{wordAt}
 use Rattle.judge.specs.Call.{isWindow, serviceOf, place25, place26}
 use Rattle.judge.specs.declared.service.Verdict.{Verdict}
@@ -56,8 +56,8 @@ module _ (p : Shape) (w : List ℕ) {x1 x2 x3 x4 : ℕ} where
 -- ---- the answers, by the shape in hand
 module _ (f : Format) (w : List ℕ) {p : Shape} (e : p ≡ shapeOf f) where
   pub service-is : {v : Verdict} {l : StreamLine} {n r : ℕ} {b : ContentBytes} (c : Sums) → v ≡ firstRow (serviceTests p w c)
-      → l .0 ≡ lineBefore n → n ≡ nextLine (streams p) (wordAt p w) → b ≡ contentIn p w → r ≡ repairs (streams p) (wordAt p w)
-      → record { verdict = v; line = l; content = b; repairs = r } ≡ serviceOf (shapeOf f) w c
+      → l .0 ≡ lineBefore n → n ≡ nextLine (streams p) (wordAt p w) → b ≡ contentIn p w → r ≡ repairCount (streams p) (wordAt p w)
+      → record { verdict = v; line = l; content = b; repairs = repairsOf r } ≡ serviceOf (shapeOf f) w c
   unfolding lineRead
   service-is {v} {l} {n} {r} {b} c ev el en eb er =
       let line : l .0 ≡ lineRead (streams p) (wordAt p w) = el ∙ ap lineBefore en in

@@ -17,7 +17,7 @@ use Rattle.packing.specs.declared.bytes.TwoWords.{TwoWords}
 use Rattle.packing.specs.Bytes.{wordsOf}
 use Rattle.crcc.specs.Crcc.{crc, crcWord, crccWords}
 use Rattle.word.specs.LineNumber.{lineOf, namedOf}
-use Rattle.window.specs.Tests.{wordOf, sumOf, nextLine, lineRead, repairs}
+use Rattle.window.specs.Tests.{wordOf, sumOf, nextLine, lineRead, repairCount}
 use Rattle.word.specs.Received.{repaired, wrongBits}
 use Rattle.window.specs.Words.{fixedByte, byteAt, pairAt, wordAt}
 use Rattle.window.proofs.Bytes.{word-below}
@@ -155,6 +155,6 @@ module _ (p : Shape) (w : List ℕ) where
   unfolding sumOf
   one-more i e q r = rw (e, q, r, add-one i)
 
-  pub all-summed : sumOf (streams p) (wrongOf p w) ≡ repairs (streams p) (wordAt p w)
-  unfolding repairs
+  pub all-summed : sumOf (streams p) (wrongOf p w) ≡ repairCount (streams p) (wordAt p w)
+  unfolding repairCount
   all-summed = refl

@@ -9,8 +9,8 @@ use Rattle.span.specs.declared.format.Format.{Format}
 use Rattle.span.specs.declared.format.Shape.{Shape}
 use Rattle.span.specs.Format.{isKnown, shapeOf, streams, symbolsIn}
 use Rattle.crcc.specs.declared.sums.Sums.{Sums}
-use Rattle.window.specs.Read.{placed, contentIn}
-use Rattle.window.specs.Tests.{lineRead, repairs}
+use Rattle.window.specs.Read.{placed, contentIn, repairsOf}
+use Rattle.window.specs.Tests.{lineRead, repairCount}
 use Rattle.window.specs.Words.{wordAt}
 use Rattle.judge.specs.declared.call.Service.{Service}
 use Rattle.judge.specs.Holds.{picture25, fill26, firstWrong}
@@ -26,7 +26,7 @@ serviceOf p w c =
       verdict = firstRow (serviceTests p w c);
       line = record { 0 = lineRead (streams p) (wordAt p w) };
       content = contentIn p w;
-      repairs = repairs (streams p) (wordAt p w);
+      repairs = repairsOf (repairCount (streams p) (wordAt p w));
     }
 
 abbrev pub noService : Service
@@ -35,7 +35,7 @@ noService =
       verdict = passed;
       line = record { 0 = 0 };
       content = record { sav1 = 0; sav2 = 0; eav1 = 0; eav2 = 0 };
-      repairs = 0;
+      repairs = repairsOf 0;
     }
 
 abbrev pub serviceIf : Format → List ℕ → Sums → Service

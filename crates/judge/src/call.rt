@@ -4,6 +4,7 @@ use crcc::sums::Sums;
 use line::stream::StreamLine;
 use span::content::ContentBytes;
 use span::format::Format;
+use window::delivery::Repairs;
 ghost use mathlib.Core.Path.{_≡_};
 ghost use Prim.Native.Nat.{_≤_};
 ghost use lib.ListN.{length};
@@ -26,7 +27,7 @@ pub struct Service {
     pub verdict: Verdict,
     pub line: StreamLine,
     pub content: ContentBytes,
-    pub repairs: u8,
+    pub repairs: Repairs,
 }
 
 // All of it, where the picture words of the streams leave these sums. The table is lent once, here.
@@ -43,7 +44,9 @@ pub fn service_of(f: Format, symbols: &[u16], c: Sums) -> Service
             verdict,
             line: line::stream::line_before(next),
             content,
-            repairs: crate::holds::wrong_in_all(&t, p, symbols),
+            repairs: Repairs {
+                count: crate::holds::wrong_in_all(&t, p, symbols),
+            },
         };
     }
     Service {
@@ -58,7 +61,7 @@ pub fn service_of(f: Format, symbols: &[u16], c: Sums) -> Service
             eav1: 0,
             eav2: 0,
         },
-        repairs: 0,
+        repairs: Repairs { count: 0 },
     }
 }
 

@@ -10,7 +10,7 @@ ghost use Prim.Native.Nat.{_*_, _/_, _%_, _≤_, _<_};
 ghost use Rattle.span.specs.Format.{streams, pairsIn};
 ghost use Rattle.window.specs.Read.{placed};
 ghost use Rattle.crcc.specs.Sums.{sumIn};
-ghost use Rattle.window.specs.Tests.{nextLine, repairs, holds21, holds22, holds23};
+ghost use Rattle.window.specs.Tests.{nextLine, repairCount, holds21, holds22, holds23};
 ghost use Rattle.window.specs.Words.{wordAt};
 ghost use Rattle.judge.specs.Given.{Given};
 ghost use Rattle.judge.specs.Holds.{Told, holds24By, holdsAt, firstWrong, crccBehind};
@@ -211,7 +211,7 @@ pub(crate) fn first_wrong(
 // How many bits were wrong in all timing words.
 pub(crate) fn wrong_in_all(t: &[u16; 1024], p: Shape, symbols: &[u16]) -> u8
     requires { ⌜ Given p (now t) (now symbols) ⌝ }
-    ensures { λ r. ⌜ r ≡ repairs (streams p) (wordAt p (now (symbols .entry))) ⌝ }
+    ensures { λ r. ⌜ r ≡ repairCount (streams p) (wordAt p (now (symbols .entry))) ⌝ }
 {
     let s = 2 * p.half;
     let mut sum = 0;

@@ -29,7 +29,7 @@ use Rattle.window.specs.declared.delivery.Delivery.{Delivery}
 use Rattle.crcc.specs.declared.sums.Sums.{Sums}
 use Rattle.window.specs.Read.{wordTests, contentIn, deliveryOf, pictureOf, readSpan, judgeOf, readOf, rowsLeft, rowsRead}
 use Rattle.window.specs.Scan.{byteOf, symbolAt, startOf, runningAt, holds20}
-use Rattle.window.specs.Tests.{lineRead, repairs, rows as rowsOf}
+use Rattle.window.specs.Tests.{lineRead, repairCount, rows as rowsOf}
 use Rattle.window.specs.Words.{wordAt}
 use Rattle.read.specs.Window.{IsWindow}
 use Rattle.read.proofs.Picturing.{length-rows}

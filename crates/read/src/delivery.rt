@@ -12,11 +12,12 @@ pub(crate) fn delivery(scanned: Scanned, service: Service) -> Delivery
     let after = scanned.after;
     let line = service.line;
     let content = service.content;
+    let repairs = service.repairs;
     Delivery {
         line,
         content,
         before,
         after,
-        repairs: service.repairs,
+        repairs,
     }
 }

@@ -58,7 +58,7 @@ valuesBack v =
       content = v .content;
       before = disparityFrom (v .«positive_before»);
       after = disparityFrom (v .«positive_after»);
-      repairs = v .repairs;
+      repairs = record { count = v .repairs };
     }
 
 pub values-back : (d : Delivery) → valuesBack (valuesOf d) ≡ d

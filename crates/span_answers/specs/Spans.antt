@@ -20,7 +20,7 @@ valuesOf d =
       content = d .content;
       «positive_before» = isPositive (d .before);
       «positive_after» = isPositive (d .after);
-      repairs = d .repairs;
+      repairs = d .repairs .count;
     }
 
 -- where there is none

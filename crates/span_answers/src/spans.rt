@@ -53,7 +53,7 @@ pub fn values_of(d: Delivery) -> Values
         content,
         positive_before: boundary::numbers::is_positive(before),
         positive_after: boundary::numbers::is_positive(after),
-        repairs: d.repairs as u32,
+        repairs: d.repairs.count as u32,
     }
 }
 

@@ -30,9 +30,9 @@ use Rattle.span.proofs.Lengths.{known-has-streams}
 use Rattle.span.proofs.Packing.{length-bytes, byte-at}
 use Rattle.window.specs.declared.delivery.Delivery.{Delivery}
 use Rattle.window.specs.Encoded.{charsOf, Encodes, wordIn, Meets, Restored, answered}
-use Rattle.window.specs.Read.{placed, wordTests, tests, contentIn, deliveryOf, pictureOf, readSpan}
+use Rattle.window.specs.Read.{placed, wordTests, tests, contentIn, deliveryOf, pictureOf, readSpan, repairsOf}
 use Rattle.window.specs.Scan.{meant, byteOf, symbolAt, startOf, runningAt, holds20}
-use Rattle.window.specs.Tests.{holds21, lineRead, repairs, rows}
+use Rattle.window.specs.Tests.{holds21, lineRead, repairCount, rows}
 use Rattle.window.specs.Words.{fixedByte, byteAt, pairAt, wordAt}
 use Rattle.window.proofs.Accepting.{Accepted, none-fails, passes}
 use Rattle.window.proofs.Bytes.{bytes-below, byte-sav, byte-eav, byte-else}
@@ -74,8 +74,8 @@ same-content p q r s = rw (p, q, r, s)
 same-delivery :
     {l l' n n' : ℕ} {c c' : ContentBytes} {b b' a a' : Disparity} → l ≡ l' → c ≡ c' → b ≡ b' → a ≡ a' → n ≡ n'
     → _≡_ {A = Delivery}
-    (record { line = record { 0 = l }; content = c; before = b; after = a; repairs = n })
-    (record { line = record { 0 = l' }; content = c'; before = b'; after = a'; repairs = n' })
+    (record { line = record { 0 = l }; content = c; before = b; after = a; repairs = repairsOf n })
+    (record { line = record { 0 = l' }; content = c'; before = b'; after = a'; repairs = repairsOf n' })
 same-delivery p q r s t = rw (p, q, r, s, t)
 
 module _ (f : Format) (known : isKnown f ≡ true) (w : List ℕ) (d : Disparity) (c : ContentBytes) (words : List ℕ)
@@ -328,7 +328,7 @@ module _ (f : Format) (known : isKnown f ≡ true) (w : List ℕ) (d : Disparity
         (encoded-content f known w d c words e)
         (encoded-start f known w d c words e)
         (encoded-after f known w d c words e)
-        (ap (repairs (streams (shapeOf f))) same)
+        (ap (repairCount (streams (shapeOf f))) same)
 
     -- and so is the reading of the window
     pub encoded-read : readSpan f w ≡ checked (wordTests f (wordIn words)) (answered f d c words)

@@ -25,7 +25,7 @@ use Rattle.word.specs.Timing.{timing}
 use Rattle.word.proofs.LineNumbers.{named-is-line, named-ln0, named-ln1}
 use Rattle.window.specs.Encoded.{Meets}
 use Rattle.window.specs.Read.{placed}
-use Rattle.window.specs.Tests.{same, mayBring, sumOf, wordOf, holds21, nextLine, lineRead, holds22, holds23, registerOf, holds24, holds25, holds26, repairs}
+use Rattle.window.specs.Tests.{same, mayBring, sumOf, wordOf, holds21, nextLine, lineRead, holds22, holds23, registerOf, holds24, holds25, holds26, repairCount}
 use Rattle.word.specs.Received.{hasH, repaired, vIn, wrongBits}
 use Rattle.window.proofs.Nearest.{repaired-is, whole-timing}
 use Rattle.window.proofs.Placing.{place-again, at-word, in-span}
@@ -161,9 +161,9 @@ module _ (f : Format) (word : ℕ → ℕ) (m : Meets f word) (t : ℕ) (l : t <
   eav-repaired = repaired-is (at 1927) (vOf next) true (eav-told f word t l (m .timing) .3) eav-v
 
   -- XYZ, where no bit is wrong
-  module _ (small : (k : ℕ) → word k < 4096) (none-wrong : repairs s word ≡ 0) where
+  module _ (small : (k : ℕ) → word k < 4096) (none-wrong : repairCount s word ≡ 0) where
     right : wrongBits (at 3) + wrongBits (at 1927) ≡ 0
-    unfolding repairs
+    unfolding repairCount
     right = parts-zero s (λ t. wrongBits (wordOf s word 3 t) + wrongBits (wordOf s word 1927 t)) none-wrong t l
 
     pub sav-xyz : at 3 ≡ timing (vOf (lineRead s word)) false

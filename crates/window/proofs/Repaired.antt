@@ -32,7 +32,7 @@ use Rattle.span.specs.Stream.{Asked, picture, register}
 use Rattle.span.proofs.Lengths.{known-has-streams}
 use Rattle.span.proofs.Places.{wordAt as sentAt, fill-word, sav-words, picture-word, eav-words, line-number-words, crcc-words}
 use Rattle.window.specs.Encoded.{wordIn, Meets, Restored, Sendable, IsXyz, Disturbed, wrongAt}
-use Rattle.window.specs.Tests.{sumOf, column, holds21, named, nextLine, lineRead, holds22, holds23, registerOf, holds24, holds25, holds26, repairs, rows}
+use Rattle.window.specs.Tests.{sumOf, column, holds21, named, nextLine, lineRead, holds22, holds23, registerOf, holds24, holds25, holds26, repairCount, rows}
 use Rattle.word.specs.Received.{vIn, wrongBits}
 use Rattle.window.proofs.Encoded.{restored-words}
 use Rattle.window.proofs.Nearest.{same-test, near-h, near-v, near-repaired, near-wrong}
@@ -199,9 +199,9 @@ module _ (f : Format) (a : Asked) (good : Sendable f a) (words : List ℕ) (dist
 
     -- each wrong bit is counted
     pub near-repairs :
-        repairs s word
+        repairCount s word
         ≡ sumOf s (λ t. wrongAt f a words (s * 3 + t) + wrongAt f a words (s * 1927 + t))
-    unfolding repairs
+    unfolding repairCount
     near-repairs =
         sum-same s (λ t. wrongBits (word (s * 3 + t)) + wrongBits (word (s * 1927 + t)))
         (λ t. wrongAt f a words (s * 3 + t) + wrongAt f a words (s * 1927 + t))

@@ -18,7 +18,7 @@ use Rattle.span.specs.Span.{wordsFromSav, wordsFromEav, spanWords, charsFromSav
 use Rattle.span.specs.Stream.{Asked, picture}
 use Rattle.span.proofs.Lengths.{length-words-sav, length-words}
 use Rattle.window.specs.Encoded.{charsOf, Encodes, wordIn, Meets, Sendable, Disturbed, wrongAt}
-use Rattle.window.specs.Read.{pictureOf, readSpan}
+use Rattle.window.specs.Read.{pictureOf, readSpan, repairsOf}
 use Rattle.window.specs.Tests.{sumOf}
 use Rattle.window.proofs.Repaired.{near-meets}
 use Rattle.window.proofs.Sent.{sent-twelve-bits}
@@ -73,7 +73,7 @@ module _ (f : Format) (a : Asked) where
     -- what is read is what was asked to be sent
     pub round-trip :
         readSpan f (spanSymbols d f a)
-        ≡ given (record { line = record { 0 = a .line }; content = content; before = d; after = spanAfter d f a; repairs = 0 })
+        ≡ given (record { line = record { 0 = a .line }; content = content; before = d; after = spanAfter d f a; repairs = repairsOf 0 })
     unfolding spanAfter
     round-trip =
         repaired-delivered f a good words (as-sent good) (spanSymbols d f a) d content sent-encodes (λ k h x. omega (arith, right-at k)) .0

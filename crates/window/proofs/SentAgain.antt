@@ -30,7 +30,7 @@ use Rattle.packing.proofs.Samples.{received-ten, received-twelve}
 use Rattle.window.specs.Encoded.{charsOf, AreContent, Meets, Sendable, sampleIn, askedFor, askedAgain}
 use Rattle.window.specs.Read.{contentIn}
 use Rattle.window.specs.Scan.{startOf}
-use Rattle.window.specs.Tests.{mayBring, wordOf, nextLine, lineRead, registerOf, repairs}
+use Rattle.window.specs.Tests.{mayBring, wordOf, nextLine, lineRead, registerOf, repairCount}
 use Rattle.window.specs.Words.{wordAt}
 use Rattle.window.proofs.Accepting.{Accepted}
 use Rattle.window.proofs.Bytes.{word-below}
@@ -59,7 +59,7 @@ module _ (f : Format) (known : isKnown f ≡ true) (n t x : ℕ) (may : mayBring
 -- ---- words
 
 module _ (f : Format) (known : isKnown f ≡ true) (word : ℕ → ℕ) (small : (k : ℕ) → word k < 4096) (m : Meets f word)
-    (none-wrong : repairs (streams (shapeOf f)) word ≡ 0)
+    (none-wrong : repairCount (streams (shapeOf f)) word ≡ 0)
     (blankAncillary : (j t : ℕ) → 1932 ≤ j → j < 1932 + shapeOf f .ancillary → t < streams (shapeOf f)
     → wordOf (streams (shapeOf f)) word j t ≡ blankWord f)
     (blankLine : isActive (lineRead (streams (shapeOf f)) word) ≡ false → (j t : ℕ) → 4 ≤ j → j < 1924 → t < streams (shapeOf f)
@@ -201,7 +201,7 @@ module _ (f : Format) (known : isKnown f ≡ true) (word : ℕ → ℕ) (small :
 -- ---- symbols
 
 module _ (f : Format) (w : List ℕ) (known : isKnown f ≡ true) (long : length w ≡ symbolsIn (shapeOf f)) (acc : Accepted f w)
-    (none-wrong : repairs (streams (shapeOf f)) (wordAt (shapeOf f) w) ≡ 0)
+    (none-wrong : repairCount (streams (shapeOf f)) (wordAt (shapeOf f) w) ≡ 0)
     (blankAncillary : (j t : ℕ) → 1932 ≤ j → j < 1932 + shapeOf f .ancillary → t < streams (shapeOf f)
     → wordOf (streams (shapeOf f)) (wordAt (shapeOf f) w) j t ≡ blankWord f)
     (blankLine : isActive (lineRead (streams (shapeOf f)) (wordAt (shapeOf f) w)) ≡ false → (j t : ℕ) → 4 ≤ j → j < 1924

@@ -21,7 +21,7 @@ use Rattle.span.specs.Stream.{Asked, picture}
 use Rattle.span.proofs.Lengths.{known-has-streams}
 use Rattle.span.proofs.Places.{wordAt as sentAt, sav-words, eav-words}
 use Rattle.window.specs.Encoded.{charsOf, AreContent, Encodes, wordIn, Restored, answered, Sendable, IsXyz, Disturbed, wrongAt}
-use Rattle.window.specs.Read.{placed, pictureOf, readSpan}
+use Rattle.window.specs.Read.{placed, pictureOf, readSpan, repairsOf}
 use Rattle.window.specs.Tests.{sumOf, holds21}
 use Rattle.window.proofs.Accepting.{fails-at, meets-given}
 use Rattle.window.proofs.Encoded.{encoded-read, encoded-picture}
@@ -80,7 +80,7 @@ module _ (f : Format) (a : Asked) (good : Sendable f a) (words : List ℕ) (dist
             content = c;
             before = d;
             after = afterRun d (charsOf (shapeOf f) c words);
-            repairs = sumOf s (λ t. wrongAt f a words (s * 3 + t) + wrongAt f a words (s * 1927 + t));
+            repairs = repairsOf (sumOf s (λ t. wrongAt f a words (s * 3 + t) + wrongAt f a words (s * 1927 + t)));
           }))
           × (pictureOf f w ≡ upto s (picture f a))
       repaired-delivered = (

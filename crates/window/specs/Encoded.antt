@@ -25,8 +25,8 @@ use Rattle.span.specs.Stream.{Asked}
 use Rattle.line.specs.Stream.{isLine, isActive}
 use Rattle.word.specs.Repair.{distance}
 use Rattle.window.specs.declared.delivery.Delivery.{Delivery}
-use Rattle.window.specs.Read.{placed, contentIn}
-use Rattle.window.specs.Tests.{wordOf, holds21, holds22, holds23, holds24, holds25, holds26, lineRead, repairs}
+use Rattle.window.specs.Read.{placed, contentIn, repairsOf}
+use Rattle.window.specs.Tests.{wordOf, holds21, holds22, holds23, holds24, holds25, holds26, lineRead, repairCount}
 use Rattle.window.specs.Words.{fixedByte, wordAt}
 
 -- the characters of a span's words, with the special characters and the content bytes put in
@@ -75,7 +75,7 @@ answered f d c words =
       content = c;
       before = d;
       after = afterRun d (charsOf p c words);
-      repairs = repairs (streams p) (wordIn words);
+      repairs = repairsOf (repairCount (streams p) (wordIn words));
     }
 
 -- ---- what is sent, and what arrives

@@ -13,8 +13,9 @@ use Rattle.span.specs.declared.format.Format.{Format}
 use Rattle.span.specs.declared.format.Shape.{Shape}
 use Rattle.span.specs.Format.{isKnown, shapeOf, streams, samplesIn, pairsIn, symbolsIn, eavAt}
 use Rattle.window.specs.declared.delivery.Delivery.{Delivery}
+use Rattle.window.specs.declared.delivery.Repairs.{Repairs}
 use Rattle.window.specs.Scan.{byteOf, symbolAt, startOf, runningAt, holds20}
-use Rattle.window.specs.Tests.{holds21, holds22, holds23, holds24, holds25, holds26, lineRead, repairs, rows}
+use Rattle.window.specs.Tests.{holds21, holds22, holds23, holds24, holds25, holds26, lineRead, repairCount, rows}
 use Rattle.window.specs.Words.{wordAt}
 
 -- a test of n places: it fails at the lowest at which it does not hold
@@ -52,6 +53,10 @@ contentIn p w =
       eav2 = byteOf (symbolAt w (eavAt p + 3));
     }
 
+-- the repairs of a span with so many wrong bits
+abbrev pub repairsOf : ℕ → Repairs
+repairsOf count = record { count = count }
+
 -- what is answered where all tests hold
 unfoldable pub deliveryOf : Format → List ℕ → Delivery
 deliveryOf f w =
@@ -61,7 +66,7 @@ deliveryOf f w =
       content = contentIn p w;
       before = startOf w;
       after = runningAt w (symbolsIn p);
-      repairs = repairs (streams p) (wordAt p w);
+      repairs = repairsOf (repairCount (streams p) (wordAt p w));
     }
 
 -- the picture words of a window, stream by stream

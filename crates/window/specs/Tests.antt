@@ -92,8 +92,8 @@ module _ (s : ℕ) (word : ℕ → ℕ) where
   holds26 f j t = cond (ltb j (ancillaryStart + shapeOf f .ancillary)) true (eqb (wordOf j t) fillWord)
 
   -- how many bits were wrong in all timing words
-  unfoldable pub repairs : ℕ
-  repairs = sumOf s (λ t. wrongBits (wordOf savXyz t) + wrongBits (wordOf eavXyz t))
+  unfoldable pub repairCount : ℕ
+  repairCount = sumOf s (λ t. wrongBits (wordOf savXyz t) + wrongBits (wordOf eavXyz t))
 
   -- the picture, stream by stream
   unfoldable pub rows : List ℕ

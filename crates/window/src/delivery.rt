@@ -3,12 +3,16 @@ use line::stream::StreamLine;
 use span::content::ContentBytes;
 use symbol::disparity::Disparity;
 
-// The line n whose SAV begins the span, the content bytes, the disparity before the span and after it, and the number of timing words
-// repaired: the sum of their distances.
+// What was wrong in the timing words and put right: in all of them together so many bits, which is the sum of the words' distances.
+pub struct Repairs {
+    pub count: u8,
+}
+
+// The line n whose SAV begins the span, the content bytes, the disparity before the span and after it, and the repairs.
 pub struct Delivery {
     pub line: StreamLine,
     pub content: ContentBytes,
     pub before: Disparity,
     pub after: Disparity,
-    pub repairs: u8,
+    pub repairs: Repairs,
 }
