@@ -22,13 +22,13 @@ use Rattle.span.specs.Format.{shapeOf, streams, pairsIn}
 use Rattle.span.specs.Span.{fillWord}
 use Rattle.span.proofs.Lengths.{known-has-streams}
 use Rattle.packing.specs.Sample.{allowedWord}
-use Rattle.rows.specs.Fill.{fillRight}
-use Rattle.rows.specs.Picture.{allAllowed}
-use Rattle.judge.specs.Call.{place25, place26}
-use Rattle.judge.specs.Holds.{picture25, fill26, wrongIn}
-use Rattle.judge.specs.Verdict.{firstRow}
-use Rattle.judge.proofs.Regions.{from-word, before-word}
-use Rattle.judge.proofs.Searching.{hit-in, miss-in, is-miss-in}
+use Rattle.window.specs.Fill.{fillRight}
+use Rattle.read_test25_26.specs.Picture.{allAllowed}
+use Rattle.read_test21_24.specs.Call.{place25, place26}
+use Rattle.read_test21_24.specs.Holds.{picture25, fill26, wrongIn}
+use Rattle.read_test21_24.specs.Verdict.{firstRow}
+use Rattle.read_test21_24.proofs.Regions.{from-word, before-word}
+use Rattle.read_test21_24.proofs.Searching.{hit-in, miss-in, is-miss-in}
 use Rattle.window.specs.Read.{placed, pictureOf}
 use Rattle.window.specs.Tests.{wordOf, column, rows, lineRead, holds25, holds26}
 use Rattle.window.specs.Words.{wordAt}

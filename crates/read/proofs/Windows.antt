@@ -17,14 +17,16 @@ use Rattle.span.specs.declared.format.Shape.{Shape}
 use Rattle.span.specs.Format.{isKnown, shapeOf, streams, samplesIn, symbolsIn, eavAt}
 use Rattle.span.proofs.Formats.{small}
 use Rattle.span.proofs.Lengths.{known-has-streams}
-use Rattle.rows.specs.Fill.{fillRight, fillIf}
-use Rattle.rows.specs.Picture.{sumsOf, sumsIf, rowsIf}
-use Rattle.judge.specs.declared.call.Service.{Service}
-use Rattle.judge.specs.declared.service.Verdict.{Verdict}
-use Rattle.judge.specs.Call.{place25, place26, serviceOf, serviceIf, placeIf}
-use Rattle.judge.specs.Verdict.{firstRow, serviceTests}
-use Rattle.scan.specs.declared.scan.Scanned.{Scanned}
-use Rattle.scan.specs.Run.{place20, scannedOf}
+use Rattle.read_test25_26.specs.Fill.{fillIf}
+use Rattle.window.specs.Fill.{fillRight}
+use Rattle.read_test25_26.specs.Picture.{sumsIf, rowsIf}
+use Rattle.window.specs.Columns.{sumsOf}
+use Rattle.read_test21_24.specs.declared.call.Service.{Service}
+use Rattle.read_test21_24.specs.declared.service.Verdict.{Verdict}
+use Rattle.read_test21_24.specs.Call.{place25, place26, serviceOf, serviceIf, placeIf}
+use Rattle.read_test21_24.specs.Verdict.{firstRow, serviceTests}
+use Rattle.read_test20.specs.declared.place.Scanned.{Scanned}
+use Rattle.read_test20.specs.Run.{place20, scannedOf}
 use Rattle.window.specs.declared.delivery.Delivery.{Delivery}
 use Rattle.crcc.specs.declared.sums.Sums.{Sums}
 use Rattle.window.specs.Read.{wordTests, contentIn, deliveryOf, pictureOf, readSpan, judgeOf, readOf, rowsLeft, rowsRead}

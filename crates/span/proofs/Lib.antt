@@ -11,6 +11,7 @@ pub mod OneToOne
 pub mod Packing
 pub mod Parts
 pub mod Places
+pub mod Readiness
 pub mod Samples
 pub mod Signals
 pub mod Synchronised

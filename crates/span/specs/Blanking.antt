@@ -1,6 +1,6 @@
 -- Filling a row with blanking samples (document 01, "Sending").
 -- Assumes nothing.
-use Prim.Native.Nat.{ℕ, _/_}
+use Prim.Native.Nat.{ℕ}
 use mathlib.Core.List.{List, [], _∷_}
 use lib.Dec.{eqb}
 use lib.ListN.{length}

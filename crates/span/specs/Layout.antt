@@ -1,6 +1,6 @@
 -- Where the parts of a span begin (document 01, "A span"; 004, 6.1 and table 4): SAV, picture, EAV, line number, CRCC, ancillary area.
 -- Assumes nothing.
-use Prim.Native.Nat.{ℕ, _+_, _*_}
+use Prim.Native.Nat.{ℕ}
 
 -- ---- in the words of one stream, the first of the SAV being word 0
 
@@ -29,3 +29,13 @@ savXyz = 3
 
 abbrev pub eavXyz : ℕ
 eavXyz = 1927
+
+-- ---- in the symbols of one pair of streams, three for two words
+abbrev pub pictureSymbol : ℕ
+pictureSymbol = 12
+
+abbrev pub eavSymbol : ℕ
+eavSymbol = 5772
+
+abbrev pub ancillarySymbol : ℕ
+ancillarySymbol = 5796

@@ -1,6 +1,7 @@
 pub mod Blanking
 pub mod Content
 pub mod Encoding
+pub mod Fit
 pub mod Format
 pub mod Image
 pub mod Layout

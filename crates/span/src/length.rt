@@ -22,7 +22,7 @@ pub fn span_lengths(f: Format) -> SpanLengths
     let p = crate::format::shape_of(f);
     SpanLengths {
         samples: 3840 * p.half,
-        symbols: 3 * (p.half * (1932 + p.ancillary) + p.fill),
+        symbols: 3 * (p.half * (crate::layout::ANCILLARY + p.ancillary) + p.fill),
     }
 }
 

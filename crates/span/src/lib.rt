@@ -2,6 +2,8 @@
 // (specs/) and the laws of what stands where (proofs/).
 pub mod blanking;
 pub mod content;
+pub mod fit;
 pub mod format;
+pub mod layout;
 pub mod length;
 pub mod sample;

@@ -5,11 +5,14 @@ pub mod Calls
 pub mod Characters
 pub mod Encoded
 pub mod Exact
+pub mod Filling
+pub mod Givens
 pub mod Inverted
 pub mod Line
 pub mod Meeting
 pub mod Nearest
 pub mod Placing
+pub mod Plain
 pub mod Refusals
 pub mod Repaired
 pub mod RoundTrip

@@ -2,12 +2,11 @@
 -- and `word k` is the word at interleaved place k; word j of stream t, both from 0, stands at s * j + t. Each test is stated at every j and
 -- t, and holds where it asks nothing.
 -- Assumes nothing.
-use Prim.Native.Nat.{ℕ, zero, suc, _+_, _-_, _*_, _/_, _%_}
+use Prim.Native.Nat.{ℕ, zero, suc, _+_, _-_, _*_}
 use mathlib.Core.Bool.{Bool, true, false, not, cond, _&&_}
 use mathlib.Core.List.{List, _∷_, _++_}
-use mathlib.Core.Option.{Option, none, some, Option·getD}
+use mathlib.Core.Option.{Option, Option·getD}
 use lib.Dec.{eqb, ltb}
-use lib.ListN.{getD}
 use Rattle.ground.specs.Range.{within}
 use Rattle.ground.specs.Search.{isSome}
 use Rattle.ground.specs.Written.{upto, table}

@@ -7,8 +7,8 @@ use native.Mathlib.Omega.{arith}
 use lib.ListN.{length}
 use borrow.Author.Needs.{needs}
 use Rattle.ground.specs.Answer.{refused}
-use Rattle.scan.specs.declared.scan.Scanned.{Scanned}
-use Rattle.scan.specs.Run.{place20}
+use Rattle.read_test20.specs.declared.place.Scanned.{Scanned}
+use Rattle.read_test20.specs.Run.{place20}
 use Rattle.span.specs.Format.{shapeOf}
 use Rattle.window.specs.Read.{pictureOf}
 use Rattle.read.proofs.Windows.{read-20, rows-zero, place-most, sums-are, rows-are, length-picture}
@@ -18,7 +18,7 @@ use Rattle.read.proofs.read.read_by_steps.Reads as reads
 use Rattle.read.proofs.read.read_by_steps.Lts as lts
 use Rattle.read.proofs.read.read_words.Reads as read-words-reads
 use Rattle.read.proofs.read.refuse.Reads as refuse-reads
-use Rattle.rows.proofs.picture.take_picture.Reads as take-picture-reads
+use Rattle.read_test25_26.proofs.picture.take_picture.Reads as take-picture-reads
 use Rattle.scan.proofs.scan.scan.Reads as scan-reads
 
 scan-requires : tie.Need-scan-requires

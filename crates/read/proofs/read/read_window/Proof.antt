@@ -7,7 +7,7 @@ use Rattle.read.proofs.read.read_window.Statement.{statement}
 use Rattle.read.proofs.read.read_window.Tie as tie
 use Rattle.read.proofs.read.read_window.Reads as reads
 use Rattle.read.proofs.read.read_window.Lts as lts
-use Rattle.one_pass.proofs.whole.take.Reads as take-reads
+use Rattle.read_test20.proofs.whole.take.Reads as take-reads
 use Rattle.read.proofs.read.read_by_steps.Reads as read-by-steps-reads
 use Rattle.read.proofs.read.read_words.Reads as read-words-reads
 

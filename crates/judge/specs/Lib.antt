@@ -1,4 +1,0 @@
-pub mod Call
-pub mod Given
-pub mod Holds
-pub mod Verdict

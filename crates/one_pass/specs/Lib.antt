@@ -1,4 +1,0 @@
-pub mod Blank
-pub mod Picture
-pub mod See
-pub mod Whole

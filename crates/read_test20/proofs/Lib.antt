@@ -1,0 +1,10 @@
+pub mod Blanks
+pub mod Gathering
+pub mod Getting
+pub mod Kept
+pub mod Runs
+pub mod Seeing
+pub mod Streams
+pub mod Taking
+pub mod Wholes
+pub mod Window

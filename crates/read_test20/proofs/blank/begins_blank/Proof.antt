@@ -1,0 +1,72 @@
+-- `read_test20::blank::begins_blank` meets its contract.
+-- Assumes nothing.
+use mathlib.Core.Path.{sym}
+use mathlib.Core.Bool.{true≢false}
+use borrow.Author.Tests.{eqb-true}
+use Rattle.read_test20.proofs.Blanks.{negative-blank, positive-blank}
+use borrow.Author.Needs.{needs}
+use Rattle.read_test20.proofs.blank.begins_blank.Statement.{statement}
+use Rattle.read_test20.proofs.blank.begins_blank.Tie as tie
+use Rattle.read_test20.proofs.blank.begins_blank.Reads as reads
+use Rattle.read_test20.proofs.blank.begins_blank.Lts as lts
+
+mul-first : tie.Need-mul-first
+mul-first c = search needs
+
+shared-slice-read-first : tie.Need-shared-slice-read-first
+shared-slice-read-first c = search needs
+
+add-second : tie.Need-add-second
+add-second c = search needs
+
+mul-second : tie.Need-mul-second
+mul-second c = search needs
+
+shared-slice-read-second : tie.Need-shared-slice-read-second
+shared-slice-read-second c = search needs
+
+add-third : tie.Need-add-third
+add-third c = search needs
+
+mul-third : tie.Need-mul-third
+mul-third c = search needs
+
+shared-slice-read-third : tie.Need-shared-slice-read-third
+shared-slice-read-third c = search needs
+
+returns : tie.Need-returns
+returns c = λ t. let a = c .before .before .before .before .before .before .args in negative-blank (a .symbols .now) (a .from) (a .turns) (c .before .before .if1 .taken) (c .before .if2 .taken) (c .if3 .taken) (eqb-true _ _ t)
+
+returns-2 : tie.Need-returns-2
+returns-2 c = λ t. absurd (true≢false (sym t))
+
+returns-3 : tie.Need-returns-3
+returns-3 c = λ t. absurd (true≢false (sym t))
+
+returns-4 : tie.Need-returns-4
+returns-4 c = λ t. let a = c .before .before .before .before .before .before .args in positive-blank (a .symbols .now) (a .from) (a .turns) (c .before .before .if1 .left) (c .before .if4 .taken) (c .if5 .taken) (eqb-true _ _ t)
+
+returns-5 : tie.Need-returns-5
+returns-5 c = λ t. absurd (true≢false (sym t))
+
+returns-6 : tie.Need-returns-6
+returns-6 c = λ t. absurd (true≢false (sym t))
+
+pub begins-blank-spec : {M : Type 1} → statement M
+begins-blank-spec =
+    tie.close
+    (tie.spec
+    mul-first
+    shared-slice-read-first
+    add-second
+    mul-second
+    shared-slice-read-second
+    add-third
+    mul-third
+    shared-slice-read-third
+    returns
+    returns-2
+    returns-3
+    returns-4
+    returns-5
+    returns-6)

@@ -1,0 +1,47 @@
+-- `read_test20::whole::run_of` meets its contract: blanking words, or bytes as they come.
+-- Assumes nothing.
+use mathlib.Core.Path.{_≡_, refl, sym, _∙_}
+use mathlib.Core.Bool.{true≢false}
+use Prim.Native.Nat.{_+_, _-_, _*_, _/_}
+use native.Mathlib.Omega.{arith}
+use borrow.Author.Needs.{needs}
+use Rattle.read_test20.specs.See.{maskBy}
+use Rattle.read_test20.proofs.Blanks.{blank-going}
+use Rattle.read_test20.proofs.Runs.{begin}
+use Rattle.read_test20.proofs.Seeing.{see-begin}
+use Rattle.read_test20.proofs.whole.run_of.Statement.{statement}
+use Rattle.read_test20.proofs.whole.run_of.Tie as tie
+
+are-blank-requires : tie.Need-are-blank-requires
+are-blank-requires c κs = (c .before .pre .1 .1 .0, c .before .pre .1 .1 .1 .0)
+
+returns : tie.Need-returns
+returns c =
+    let s = c .before .before .before in
+    let a = s .args in
+    let w = a .symbols .now in
+    let tied = s .pre .1 .1 .1 .1 .1 in
+    let b = c .before .are-blank .ensures (c .if1 .taken) in
+    let more : a .to ≡ a .from + 3 * ((a .to - a .from) / 3) = omega (arith, s .pre .1 .1 .0, s .pre .1 .1 .1 .1 .0) in (
+      λ _. record { fits = tied .fits; going = blank-going w _ (a .turns) _ b _ (begin w 0 255 (a .from) (maskBy (a .turns)) (tied .bit)) _ more },
+      (λ _. b, λ _. refl),
+    )
+
+see-run-requires : tie.Need-see-run-requires
+see-run-requires c κs =
+    let s = c .before .before .before in
+    let tied = s .pre .1 .1 .1 .1 .1 in
+    (s .pre .0, (s .pre .1 .0, (s .pre .1 .1 .0, (s .pre .1 .1 .1 .0, see-begin (s .args .symbols .now) _ _ (tied .fits) (tied .bit)))))
+
+passes-requires : tie.Need-passes-requires
+passes-requires c κs = search needs
+
+returns-2 : tie.Need-returns-2
+returns-2 c =
+    let k = c .before .see-run .ensures in (
+      λ t. record { fits = k .fits; going = k .clean (sym (c .passes .ensures) ∙ t) },
+      (λ t. absurd (true≢false (sym t)), λ all. c .passes .ensures ∙ k .kept all),
+    )
+
+pub run-of-spec : {M : Type 1} → statement M
+run-of-spec = tie.close (tie.spec are-blank-requires returns see-run-requires passes-requires returns-2)

@@ -1,0 +1,213 @@
+-- `read_test20::whole::take_window` meets its contract.
+-- Assumes nothing.
+use mathlib.Core.Path.{refl, sym, ap, _∙_}
+use mathlib.Core.Bool.{true≢false}
+use native.Mathlib.Omega.{arith}
+use borrow.Author.Needs.{needs}
+use borrow.Author.Tests.{not-true, not-false}
+use Rattle.read_test20.specs.declared.place.Scanned.{Scanned}
+use Rattle.read_test20.specs.Whole.{Tied}
+use Rattle.read_test20.proofs.Getting.{picture-is, sums-are}
+use Rattle.read_test20.proofs.Kept.{sav-stands, bytes-stand}
+use Rattle.read_test20.proofs.Wholes.{tied, goes-on, scanned-whole, reached-behind}
+use Rattle.read_test20.proofs.whole.take_window.Statement.{statement}
+use Rattle.read_test20.proofs.whole.take_window.Tie as tie
+use Rattle.read_test20.proofs.whole.take_window.Reads as reads
+use Rattle.read_test20.proofs.whole.take_window.Lts as lts
+use Rattle.read_test20.proofs.picture.take_picture.Reads as take-picture-reads
+use Rattle.read_test20.proofs.see.passes.Reads as passes-reads
+use Rattle.read_test20.proofs.see.see_run.Reads as see-run-reads
+use Rattle.read_test20.proofs.whole.behind_sav.Reads as behind-sav-reads
+use Rattle.read_test20.proofs.whole.disparity_by.Reads as disparity-by-reads
+use Rattle.read_test20.proofs.whole.end_of.Reads as end-of-reads
+use Rattle.read_test20.proofs.whole.wanting_behind.Reads as wanting-behind-reads
+use Rattle.read_test20.proofs.whole.wanting_somewhere.Reads as wanting-somewhere-reads
+use Rattle.row_crc.proofs.sums.sums_of_rows.Reads as sums-of-rows-reads
+
+behind-sav-requires : tie.Need-behind-sav-requires
+behind-sav-requires c κs = search needs
+
+wanting-somewhere-requires : tie.Need-wanting-somewhere-requires
+wanting-somewhere-requires c κs = let s = c .before .before .before .before in (s .pre .0 .table, s .pre .0 .small .half)
+
+returns : tie.Need-returns
+returns c =
+    let s = c .before .before .before .before .before in
+    let e = c .wanting-somewhere .ensures in (
+      s .pre .1 .1,
+      (
+        λ t. absurd (true≢false (sym t ∙ e .0)),
+        (
+          λ t. absurd (true≢false (sym t ∙ e .1)),
+          (
+            e .2,
+            λ all. absurd (c .before .before .behind-sav .ensures .1 (sav-stands (s .args .p) (s .args .symbols .now) all (omega (arith, s .pre .0 .half, s .pre .0 .long))) (c .before .if1 .taken)),
+          ),
+        ),
+      ),
+    )
+
+mul-see-run : tie.Need-mul-see-run
+mul-see-run c = search needs
+
+see-run-requires : tie.Need-see-run-requires
+see-run-requires c κs =
+    let s = c .before .before .before .before .before in
+    let w = s .args .symbols .now in
+    let sav = c .before .before .behind-sav .ensures .0 (c .before .if1 .left) in
+    let tie : Tied w 2 _ = record { fits = sav .fits; bit = sav .going .bit } in
+    (s .pre .0 .table, (s .pre .1 .0, (omega (arith, s .pre .0 .half), (omega (arith, s .pre .0 .long), goes-on (s .args .p) w tie))))
+
+passes-requires : tie.Need-passes-requires
+passes-requires c κs = search needs
+
+wanting-somewhere-requires-2 : tie.Need-wanting-somewhere-requires-2
+wanting-somewhere-requires-2 c κs = let s = c .before .before .before .before .before .before .before .before in (s .pre .0 .table, s .pre .0 .small .half)
+
+returns-2 : tie.Need-returns-2
+returns-2 c =
+    let s = c .before .before .before .before .before .before .before .before .before in
+    let h = s .pre .0 .half in
+    let e = c .wanting-somewhere2 .ensures in (
+      s .pre .1 .1,
+      (
+        λ t. absurd (true≢false (sym t ∙ e .0)),
+        (
+          λ t. absurd (true≢false (sym t ∙ e .1)),
+          (
+            e .2,
+            λ all. absurd (true≢false (sym (c .before .before .passes .ensures ∙ c .before .before .before .see-run .ensures .kept (bytes-stand (s .args .p) (s .args .symbols .now) all _ _ (omega arith) (omega (arith, h, s .pre .0 .long)) (λ i a b e. absurd (omega (arith, h))))) ∙ not-true _ (c .before .if2 .taken))),
+          ),
+        ),
+      ),
+    )
+
+take-picture-requires : tie.Need-take-picture-requires
+take-picture-requires c κs =
+    let s = c .before .before .before .before .before .before .before .before .before in
+    let w = s .args .symbols .now in
+    let right = sym (c .before .before .passes .ensures) ∙ not-false _ (c .before .if2 .left) in
+    let bytes = goes-on (s .args .p) w (tied (s .args .p) w (c .before .before .before .see-run .ensures) right refl) in
+    (s .pre .0 .table, (s .pre .1 .0, (s .pre .0 .half, (s .pre .0 .small .half, (omega (arith, s .pre .0 .long), (omega (arith, s .pre .1 .1), bytes))))))
+
+passes-requires-2 : tie.Need-passes-requires-2
+passes-requires-2 c κs = search needs
+
+wanting-behind-requires : tie.Need-wanting-behind-requires
+wanting-behind-requires c κs =
+    let s = c .before .before .before .before .before .before .before .before .before .before .before .before .before .before in
+    let right = sym (c .before .before .before .before .before .before .before .passes .ensures) ∙ not-false _ (c .before .before .before .before .before .before .if2 .left) in
+    let come = c .before .before .before .before .take-picture .ensures .1 .1 .0 in
+    (s .pre .0 .table, (s .pre .0 .small .half, (come .some, reached-behind (s .args .p) (s .args .symbols .now) (c .before .before .before .before .before .before .before .before .before .before .before .behind-sav .ensures .0 (c .before .before .before .before .before .before .before .before .before .before .if1 .left)) (c .before .before .before .before .before .before .before .before .see-run .ensures) right come (s .pre .0 .long))))
+
+same-length : tie.Need-same-length
+same-length c = search needs
+
+returns-3 : tie.Need-returns-3
+returns-3 c =
+    let s = c .before .before .before .before .before .before .before .before .before .before .before .before .before .before .before in
+    let e = c .before .before .before .before .before .take-picture .ensures in
+    let r = c .wanting-behind .ensures in (
+      omega (arith, e .0),
+      (
+        λ t. absurd (true≢false (sym t ∙ r .0)),
+        (
+          λ t. absurd (true≢false (sym t ∙ r .1)),
+          (
+            r .2,
+            λ all. absurd (true≢false (sym (c .before .before .passes2 .ensures ∙ e .1 .1 .1 (bytes-stand (s .args .p) (s .args .symbols .now) all _ _ (omega (arith, s .pre .0 .half)) (omega (arith, s .pre .0 .half, s .pre .0 .long)) (λ i a b q. absurd (omega arith)))) ∙ not-true _ (c .before .if3 .taken))),
+          ),
+        ),
+      ),
+    )
+
+end-of-requires : tie.Need-end-of-requires
+end-of-requires c κs =
+    let s = c .before .before .before .before .before .before .before .before .before .before .before .before .before .before in
+    let rights = sym (c .before .passes2 .ensures) ∙ not-false _ (c .if3 .left) in
+    let got = c .before .before .before .before .take-picture .ensures .1 .0 rights in
+    (s .pre .0, (s .pre .1 .0, tied (s .args .p) (s .args .symbols .now) (got .clean) rights (omega arith)))
+
+wanting-behind-requires-2 : tie.Need-wanting-behind-requires-2
+wanting-behind-requires-2 c κs =
+    let s = c .before .before .before .before .before .before .before .before .before .before .before .before .before .before .before .before .before in
+    let right = sym (c .before .before .before .before .before .before .before .before .before .before .passes .ensures) ∙ not-false _ (c .before .before .before .before .before .before .before .before .before .if2 .left) in
+    let come = c .before .before .before .before .before .before .before .take-picture .ensures .1 .1 .0 in
+    (s .pre .0 .table, (s .pre .0 .small .half, (come .some, reached-behind (s .args .p) (s .args .symbols .now) (c .before .before .before .before .before .before .before .before .before .before .before .before .before .before .behind-sav .ensures .0 (c .before .before .before .before .before .before .before .before .before .before .before .before .before .if1 .left)) (c .before .before .before .before .before .before .before .before .before .before .before .see-run .ensures) right come (s .pre .0 .long))))
+
+same-length-2 : tie.Need-same-length-2
+same-length-2 c = search needs
+
+returns-4 : tie.Need-returns-4
+returns-4 c =
+    let r = c .wanting-behind2 .ensures in (
+      omega (arith, c .before .before .before .before .before .before .before .before .take-picture .ensures .0),
+      (
+        λ t. absurd (true≢false (sym t ∙ r .0)),
+        (
+          λ t. absurd (true≢false (sym t ∙ r .1)),
+          (r .2, λ all. absurd (true≢false (sym (c .before .before .before .end-of .ensures .1 .1 all) ∙ not-true _ (c .before .if4 .taken)))),
+        ),
+      ),
+    )
+
+sums-of-rows-requires : tie.Need-sums-of-rows-requires
+sums-of-rows-requires c κs = search needs
+
+disparity-by-requires : tie.Need-disparity-by-requires
+disparity-by-requires c κs = search needs
+
+disparity-by-requires-2 : tie.Need-disparity-by-requires-2
+disparity-by-requires-2 c κs = search needs
+
+same-length-3 : tie.Need-same-length-3
+same-length-3 c = search needs
+
+returns-5 : tie.Need-returns-5
+returns-5 c =
+    let s = c .before .before .before .before .before .before .before .before .before .before .before .before .before .before .before .before .before .before .before .before .before in
+    let w = s .args .symbols .now in
+    let right = sym (c .before .before .before .before .before .before .before .before .before .before .before .before .before .before .passes .ensures) ∙ not-false _ (c .before .before .before .before .before .before .before .before .before .before .before .before .before .if2 .left) in
+    let rights = sym (c .before .before .before .before .before .before .before .before .passes2 .ensures) ∙ not-false _ (c .before .before .before .before .before .before .before .if3 .left) in
+    let got = c .before .before .before .before .before .before .before .before .before .before .before .take-picture .ensures .1 .0 rights in
+    let picture = picture-is (s .args .p) w (s .pre .0 .small .half) (s .pre .0 .half) (s .pre .1 .1) got in
+    let e = c .before .before .before .before .before .before .end-of .ensures in
+    let scanned = scanned-whole (s .args .p) w (c .before .before .before .before .before .before .before .before .before .before .before .before .before .before .before .before .before .before .behind-sav .ensures .0 (c .before .before .before .before .before .before .before .before .before .before .before .before .before .before .before .before .before .if1 .left)) (c .before .before .before .before .before .before .before .before .before .before .before .before .before .before .before .see-run .ensures) right (got .clean) rights (e .0 (not-false _ (c .before .before .before .before .if4 .left))) in (
+      omega (arith, c .before .before .before .before .before .before .before .before .before .before .before .take-picture .ensures .0),
+      (
+        λ t.
+            record {
+              scanned = rw (c .before .disparity-by .ensures, c .disparity-by2 .ensures) scanned;
+              sums = c .before .before .sums-of-rows .ensures ∙ sums-are (s .args .p) w picture (s .pre .0 .small .half) (s .pre .0 .half);
+              picture = picture;
+            },
+        (e .1 .0, (ap (λ (x : Scanned). x .place) scanned, e .1 .1)),
+      ),
+    )
+
+pub take-window-spec : {M : Type 1} → statement M
+take-window-spec =
+    tie.close
+    (tie.spec
+    behind-sav-requires
+    wanting-somewhere-requires
+    returns
+    mul-see-run
+    see-run-requires
+    passes-requires
+    wanting-somewhere-requires-2
+    returns-2
+    take-picture-requires
+    passes-requires-2
+    wanting-behind-requires
+    same-length
+    returns-3
+    end-of-requires
+    wanting-behind-requires-2
+    same-length-2
+    returns-4
+    sums-of-rows-requires
+    disparity-by-requires
+    disparity-by-requires-2
+    same-length-3
+    returns-5)

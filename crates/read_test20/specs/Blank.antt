@@ -1,0 +1,31 @@
+-- Symbols of blanking words: bytes 00 01 10 (hex) for two words of 100.
+-- Assumes nothing.
+use mathlib.Core.Path.{_≡_}
+use Prim.Native.Nat.{ℕ, _+_, _*_, _≤_, _<_}
+use mathlib.Core.List.{List}
+use Rattle.symbol.specs.Code.{symbolOf}
+use Rattle.decoder.specs.Mask.{ofMask}
+use Rattle.window.specs.Scan.{symbolAt}
+use Rattle.read_test20.specs.See.{maskBy}
+
+-- the symbols of two blanking words
+pub record Blank : Type 0 where
+  pub first : ℕ
+  pub second : ℕ
+  pub third : ℕ
+
+-- at the disparity of a bit
+abbrev pub blankBy : ℕ → Blank
+blankBy m =
+    let d = ofMask m in
+    record { first = symbolOf d 0x00; second = symbolOf d 0x01; third = symbolOf d 0x10 }
+
+-- each symbol from the fourth on is the one three before it
+pub record Repeats (w : List ℕ) (from to : ℕ) : Type 0 where
+  pub again : (i : ℕ) → from ≤ i → i + 3 < to → symbolAt w (i + 3) ≡ symbolAt w i
+
+-- three by three they are the symbols of two blanking words, at the disparity at which turns has been gathered
+pub record AreBlank (w : List ℕ) (from to turns : ℕ) : Type 0 where
+  pub first : (q : ℕ) → from + 3 * q < to → symbolAt w (from + 3 * q) ≡ blankBy (maskBy turns) .first
+  pub second : (q : ℕ) → from + 3 * q + 1 < to → symbolAt w (from + 3 * q + 1) ≡ blankBy (maskBy turns) .second
+  pub third : (q : ℕ) → from + 3 * q + 2 < to → symbolAt w (from + 3 * q + 2) ≡ blankBy (maskBy turns) .third

@@ -1,0 +1,72 @@
+-- What the loop over the picture keeps: rows of the words so far, and what is gathered of their symbols.
+-- Assumes nothing.
+use mathlib.Core.Path.{_≡_}
+use Prim.Native.Nat.{ℕ, _+_, _*_, _≤_}
+use mathlib.Core.List.{List}
+use lib.ListN.{set}
+use lib.Seq.{sets}
+use Rattle.packing.specs.declared.bytes.TwoWords.{TwoWords}
+use Rattle.window.specs.Given.{plainPair}
+use Rattle.read_test20.specs.declared.picture.Passed.{Passed}
+use Rattle.read_test20.specs.See.{seenThree, seenSix, Clean, maskBy}
+use Rattle.read_test20.specs.Run.{Going}
+use Rattle.ground.specs.Written.{table}
+use Rattle.span.specs.declared.format.Shape.{Shape}
+use Rattle.window.specs.Columns.{columnOf}
+
+-- word i of the picture, of streams 2u and 2u + 1 of so many pairs
+abbrev pub pairIn : ℕ → List ℕ → ℕ → ℕ → TwoWords
+pairIn half w u i = plainPair w (3 * (half * (4 + i) + u))
+
+-- two words put into the rows of two streams
+abbrev pub putPair : TwoWords → ℕ → List ℕ → List ℕ
+putPair x at rows = set (set rows at (x .a)) (1920 + at) (x .b)
+
+-- behind word j of two streams, and the rows with it
+abbrev pub placeTwo : List ℕ → ℕ → Passed → Passed
+placeTwo w j v =
+    let x = seenThree w (12 + 3 * j) (v .good) (v .turns) in
+    record { good = x .good; turns = x .turns }
+
+abbrev pub rowsTwo : List ℕ → ℕ → List ℕ → List ℕ
+rowsTwo w j rows = putPair (plainPair w (12 + 3 * j)) j rows
+
+-- behind word j of four
+abbrev pub placeFour : List ℕ → ℕ → Passed → Passed
+placeFour w j v =
+    let x = seenSix w (24 + 6 * j) (v .good) (v .turns) in
+    record { good = x .good; turns = x .turns }
+
+abbrev pub rowsFour : List ℕ → ℕ → List ℕ → List ℕ
+rowsFour w j rows = putPair (plainPair w (24 + 6 * j + 3)) (3840 + j) (putPair (plainPair w (24 + 6 * j)) j rows)
+
+-- words 0 to j - 1 of two streams, in rows of so many words
+pub record Taken (A B : ℕ → ℕ) (count low high : ℕ) (old : List ℕ) (j : ℕ) (rows : List ℕ) : Type 0 where
+  pub some : j ≤ count
+  pub apart : high ≡ low + count
+  pub put : rows ≡ sets (sets old low (table j A)) high (table j B)
+
+-- the first j words of streams 2u and 2u + 1 have been put into a buffer, from place `low` on
+abbrev pub PutPairs : ℕ → List ℕ → ℕ → ℕ → List ℕ → ℕ → List ℕ → Type 0
+PutPairs half w u low old j rows =
+    Taken (λ i. pairIn half w u i .a) (λ i. pairIn half w u i .b) 1920 low (low + 1920) old j rows
+
+-- the first j words of all streams have been taken: those of two into a buffer, and those of the other two, where there are four, into the
+-- buffer with these
+pub record Got (half : ℕ) (w old : List ℕ) (j : ℕ) (v : Passed) (rows : List ℕ) : Type 0 where
+  pub clean : Clean w (12 * half) (12 * half + 3 * half * j) (v .good) (v .turns)
+  pub low-rows : List ℕ
+  pub low : PutPairs half w 0 0 old j low-rows
+  pub two : half ≡ 1 → rows ≡ low-rows
+  pub four : half ≡ 2 → PutPairs half w 1 3840 low-rows j rows
+
+-- so many words of each stream are as they should be, and behind them this has been gathered
+pub record Come (half : ℕ) (w : List ℕ) (j turns : ℕ) : Type 0 where
+  pub some : j ≤ 1920
+  pub going : Going w 0 255 (12 * half) (12 * half + 3 * half * j) (maskBy turns)
+
+-- the rows of these two streams put into a buffer of rows of so many words
+abbrev pub putTwo : Shape → List ℕ → ℕ → ℕ → ℕ → List ℕ → List ℕ
+putTwo p w u first count buffer =
+    sets (sets buffer (2 * u * count) (columnOf p w first count (2 * u))) (2 * u * count + count)
+    (columnOf p w first count (2 * u + 1))

@@ -1,0 +1,68 @@
+-- What the parts of one pass say of a window, and what all of it says.
+-- Assumes nothing.
+use mathlib.Core.Path.{_≡_}
+use Prim.Native.Nat.{ℕ, _+_, _*_, _<_}
+use mathlib.Core.Bool.{Bool, true, cond, _&&_}
+use mathlib.Core.List.{List}
+use lib.Dec.{eqb}
+use lib.ListN.{length}
+use Rattle.decoder.specs.Mask.{maskOf, ofMask}
+use Rattle.window.specs.Columns.{sumsOf}
+use Rattle.span.specs.Fit.{ready}
+use Rattle.read_test20.specs.Run.{suits, Going, place20, scannedOf}
+use Rattle.span.specs.declared.format.Format.{Format}
+use Rattle.span.specs.declared.format.Shape.{Shape}
+use Rattle.span.specs.Format.{shapeOf, streams}
+use Rattle.window.specs.Scan.{startOf, runningAt, holds20}
+use Rattle.window.specs.Tests.{rows as rowsOf}
+use Rattle.window.specs.Words.{wordAt}
+use Rattle.read_test20.specs.declared.whole.Taken.{Taken}
+use Rattle.read_test20.specs.See.{maskBy}
+
+-- a special character at a place and behind it, legal there
+pub record Twice (w : List ℕ) (c at : ℕ) : Type 0 where
+  pub first : suits w c c at ≡ true
+  pub second : suits w c c (at + 1) ≡ true
+
+-- test 20 holds at every symbol
+pub record AllHold (p : Shape) (w : List ℕ) : Type 0 where
+  pub each : (j : ℕ) → j < length w → holds20 p w j ≡ true
+
+-- a window of a known format with its rows, at whose every symbol test 20 holds
+abbrev pub wholeIf : Format → List ℕ → ℕ → Bool
+wholeIf f w room = ready f (length w) room && eqb (place20 (shapeOf f) w) (length w)
+
+-- its place of test 20; 0 for what is none
+abbrev pub placeIf20 : Format → List ℕ → ℕ → ℕ
+placeIf20 f w room = cond (ready f (length w) room) (place20 (shapeOf f) w) 0
+
+-- what is gathered before symbol i tells the running disparity there
+pub record Tied (w : List ℕ) (i turns : ℕ) : Type 0 where
+  pub fits : turns < 16384
+  pub bit : maskBy turns ≡ maskOf (runningAt w i)
+
+-- K28.5 twice at the beginning
+pub record Begun (w : List ℕ) (turns : ℕ) : Type 0 where
+  pub fits : turns < 16384
+  pub start : startOf w ≡ ofMask (maskBy turns)
+  pub going : Going w 261 261 0 2 (maskBy turns)
+
+-- K29.7 twice
+pub record Stays (w : List ℕ) (at turns : ℕ) : Type 0 where
+  pub going : maskBy turns ≡ maskOf (runningAt w at) → Going w 266 266 at (at + 2) (maskBy turns)
+
+-- bytes from one place to another, and what has been gathered then
+pub record RunTo (w : List ℕ) (from to turns : ℕ) : Type 0 where
+  pub fits : turns < 16384
+  pub going : Going w 0 255 from to (maskBy turns)
+
+-- all that stands behind the picture
+pub record Ending (p : Shape) (w : List ℕ) (turns after : ℕ) : Type 0 where
+  pub eav : Going w 266 266 (5772 * p .half) (5772 * p .half + 2) (maskBy turns)
+  pub bytes : Going w 0 255 (5772 * p .half + 2) (length w) (maskBy after)
+
+-- a window for which test 20 holds: its disparities, the CRC of each stream over its picture words, and these words stream by stream
+pub record Wholly (p : Shape) (w : List ℕ) (r : Taken) (rows : List ℕ) : Type 0 where
+  pub scanned : record { place = length w; before = r .before; after = r .after } ≡ scannedOf p w
+  pub sums : r .sums ≡ sumsOf p w
+  pub picture : rows ≡ rowsOf (streams p) (wordAt p w)

@@ -1,0 +1,60 @@
+// Symbols that are those of blanking words one after the other.
+ghost use mathlib.Core.Path.{_≡_};
+ghost use mathlib.Core.Bool.{true};
+ghost use Prim.Native.Nat.{_+_, _≤_};
+ghost use lib.ListN.{length};
+ghost use Rattle.read_test20.specs.Blank.{Repeats, AreBlank};
+
+// Whether each symbol from the fourth on is the one three before it. Each is looked at, so that the loop takes many at a time.
+fn repeats(symbols: &[u16], from: usize, to: usize) -> bool
+    requires { ⌜ from ≤ to ⌝ }
+    requires { ⌜ to ≤ length (now symbols) ⌝ }
+    ensures { λ r. ⌜ (r ≡ true → Repeats (now (symbols .entry)) from to) ⌝ }
+{
+    let mut other = 0;
+    let mut i = from;
+    while i + 3 < to {
+        other = other | (symbols[i + 3] ^ symbols[i]);
+        i += 1;
+    }
+    other == 0
+}
+
+// The bytes 00 01 10 (hex) of two blanking words, at the disparity at which `turns` has been gathered; they do not turn it.
+fn begins_blank(symbols: &[u16], from: usize, turns: u32) -> bool
+    requires { ⌜ from + 3 ≤ length (now symbols) ⌝ }
+    ensures { λ r. ⌜ (r ≡ true → AreBlank (now (symbols .entry)) from (from + 3) turns) ⌝ }
+{
+    let first = symbols[from];
+    let second = symbols[from + 1];
+    let third = symbols[from + 2];
+    if turns / 2048 % 4 == 2 {
+        if first == 0x0B9 {
+            if second == 0x0AE {
+                return third == 0x0B6;
+            }
+        }
+        return false;
+    }
+    if first == 0x346 {
+        if second == 0x351 {
+            return third == 0x349;
+        }
+    }
+    false
+}
+
+// Whether those from one place to another are: the first three, and each behind them as the one three before it.
+pub(crate) fn are_blank(symbols: &[u16], from: usize, to: usize, turns: u32) -> bool
+    requires { ⌜ from ≤ to ⌝ }
+    requires { ⌜ to ≤ length (now symbols) ⌝ }
+    ensures { λ r. ⌜ (r ≡ true → AreBlank (now (symbols .entry)) from to turns) ⌝ }
+{
+    if to - from < 3 {
+        return false;
+    }
+    if begins_blank(symbols, from, turns) {
+        return repeats(symbols, from, to);
+    }
+    false
+}

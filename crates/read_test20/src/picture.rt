@@ -1,0 +1,232 @@
+// The picture words of a window, into rows stream by stream, while their symbols are seen. The CRCs are worked out from the rows afterwards
+// (crate `row_crc`), so that this loop has less to do.
+use crate::see::Six;
+use packing::bytes::TwoWords;
+ghost use mathlib.Core.Path.{_≡_};
+ghost use mathlib.Core.Bool.{true};
+ghost use Prim.Native.Nat.{ℕ, _+_, _-_, _*_, _%_, _≤_, _<_};
+ghost use mathlib.Core.List.{List};
+ghost use lib.ListN.{length};
+ghost use Rattle.decoder.specs.Decoder.{decodingTable};
+ghost use Rattle.read_test20.specs.See.{TenBits, AreBytes, Clean, passesBy};
+ghost use Rattle.read_test20.specs.Picture.{Got, Come, putPair};
+
+// Words of each stream in a piece. None is looked at behind one with a fault: what is no window is soon known to be none.
+const PIECE: usize = 120;
+
+// What is gathered behind so many words of each stream.
+pub(crate) struct Passed {
+    pub(crate) good: u32,
+    pub(crate) turns: u32,
+}
+
+// What is gathered behind the picture, or behind as many words of each stream as were as they should be.
+pub(crate) struct Pictured {
+    // Of all words that were looked at: whether each was.
+    pub(crate) good: u32,
+    // Behind so many words, up to which each was.
+    pub(crate) turns: u32,
+    pub(crate) words: usize,
+}
+
+// Two words into the rows of two streams.
+fn put_pair(w: TwoWords, at: usize, rows: &mut [u16])
+    requires { ⌜ 1920 + at < length (now rows) ⌝ }
+    ensures size { λ _. ⌜ length (now (rows .exit)) ≡ length (now (rows .entry)) ⌝ }
+    ensures rows { λ _. ⌜ now (rows .exit) ≡ putPair w at (now (rows .entry)) ⌝ }
+{
+    rows[at] = w.a;
+    rows[1920 + at] = w.b;
+}
+
+// Four words of each of two streams from j on. All of their symbols are seen before anything is put: the compiler does not know that rows and
+// symbols lie apart, and would look at each symbol only behind the stores before it.
+fn turn_two(t: &[u16; 1024], symbols: &[u16], j: usize, v: Passed, rows: &mut [u16]) -> Passed
+    requires { ⌜ now t ≡ decodingTable ⌝ }
+    requires { ⌜ TenBits (now symbols) ⌝ }
+    requires { ⌜ j + 4 ≤ 1920 ⌝ }
+    requires { ⌜ 5772 ≤ length (now symbols) ⌝ }
+    requires { ⌜ length (now rows) ≡ 3840 ⌝ }
+    ensures size { λ _. ⌜ length (now (rows .exit)) ≡ 3840 ⌝ }
+    ensures got { λ r. ⌜ ((old : List ℕ) → Got 1 (now (symbols .entry)) old j v (now (rows .entry)) → Got 1 (now (symbols .entry)) old (j + 4) r (now (rows .exit))) ⌝ }
+{
+    let a = crate::see::see_three(t, symbols, 12 + 3 * j, v.good, v.turns);
+    let b = crate::see::see_three(t, symbols, 12 + 3 * (j + 1), a.good, a.turns);
+    let c = crate::see::see_three(t, symbols, 12 + 3 * (j + 2), b.good, b.turns);
+    let d = crate::see::see_three(t, symbols, 12 + 3 * (j + 3), c.good, c.turns);
+    let wa = a.words;
+    let wb = b.words;
+    let wc = c.words;
+    let wd = d.words;
+    put_pair(wa, j, rows);
+    put_pair(wb, j + 1, rows);
+    put_pair(wc, j + 2, rows);
+    put_pair(wd, j + 3, rows);
+    Passed {
+        good: d.good,
+        turns: d.turns,
+    }
+}
+
+// Words from one to another of two streams, four in a turn.
+fn take_two(
+    t: &[u16; 1024],
+    symbols: &[u16],
+    from: usize,
+    to: usize,
+    v: Passed,
+    rows: &mut [u16],
+) -> Passed
+    requires { ⌜ now t ≡ decodingTable ⌝ }
+    requires { ⌜ TenBits (now symbols) ⌝ }
+    requires { ⌜ from ≤ to ⌝ }
+    requires { ⌜ to ≤ 1920 ⌝ }
+    requires { ⌜ (to - from) % 4 ≡ 0 ⌝ }
+    requires { ⌜ 5772 ≤ length (now symbols) ⌝ }
+    requires { ⌜ length (now rows) ≡ 3840 ⌝ }
+    ensures size { λ _. ⌜ length (now (rows .exit)) ≡ 3840 ⌝ }
+    ensures got { λ r. ⌜ ((old : List ℕ) → Got 1 (now (symbols .entry)) old from v (now (rows .entry)) → Got 1 (now (symbols .entry)) old to r (now (rows .exit))) ⌝ }
+{
+    let mut p = v;
+    let mut j = from;
+    while j < to {
+        p = turn_two(t, symbols, j, p, rows);
+        j += 4;
+    }
+    p
+}
+
+// Word j of four streams: put behind those of two, in the same order.
+fn put_six(x: Six, j: usize, rows: &mut [u16])
+    requires { ⌜ j < 1920 ⌝ }
+    requires { ⌜ length (now rows) ≡ 7680 ⌝ }
+    ensures size { λ _. ⌜ length (now (rows .exit)) ≡ 7680 ⌝ }
+    ensures rows { λ _. ⌜ now (rows .exit) ≡ putPair (x .high) (3840 + j) (putPair (x .low) j (now (rows .entry))) ⌝ }
+{
+    let low = x.low;
+    let high = x.high;
+    put_pair(low, j, rows);
+    put_pair(high, 3840 + j, rows);
+}
+
+// Four words of each of four streams from j on, all of their symbols first.
+fn turn_four(t: &[u16; 1024], symbols: &[u16], j: usize, v: Passed, rows: &mut [u16]) -> Passed
+    requires { ⌜ now t ≡ decodingTable ⌝ }
+    requires { ⌜ TenBits (now symbols) ⌝ }
+    requires { ⌜ j + 4 ≤ 1920 ⌝ }
+    requires { ⌜ 11544 ≤ length (now symbols) ⌝ }
+    requires { ⌜ length (now rows) ≡ 7680 ⌝ }
+    ensures size { λ _. ⌜ length (now (rows .exit)) ≡ 7680 ⌝ }
+    ensures got { λ r. ⌜ ((old : List ℕ) → Got 2 (now (symbols .entry)) old j v (now (rows .entry)) → Got 2 (now (symbols .entry)) old (j + 4) r (now (rows .exit))) ⌝ }
+{
+    let a = crate::see::see_six(t, symbols, 24 + 6 * j, v.good, v.turns);
+    let b = crate::see::see_six(t, symbols, 24 + 6 * (j + 1), a.good, a.turns);
+    let c = crate::see::see_six(t, symbols, 24 + 6 * (j + 2), b.good, b.turns);
+    let d = crate::see::see_six(t, symbols, 24 + 6 * (j + 3), c.good, c.turns);
+    put_six(a, j, rows);
+    put_six(b, j + 1, rows);
+    put_six(c, j + 2, rows);
+    put_six(d, j + 3, rows);
+    Passed {
+        good: d.good,
+        turns: d.turns,
+    }
+}
+
+// Words from one to another of four streams, four in a turn.
+fn take_four(
+    t: &[u16; 1024],
+    symbols: &[u16],
+    from: usize,
+    to: usize,
+    v: Passed,
+    rows: &mut [u16],
+) -> Passed
+    requires { ⌜ now t ≡ decodingTable ⌝ }
+    requires { ⌜ TenBits (now symbols) ⌝ }
+    requires { ⌜ from ≤ to ⌝ }
+    requires { ⌜ to ≤ 1920 ⌝ }
+    requires { ⌜ (to - from) % 4 ≡ 0 ⌝ }
+    requires { ⌜ 11544 ≤ length (now symbols) ⌝ }
+    requires { ⌜ length (now rows) ≡ 7680 ⌝ }
+    ensures size { λ _. ⌜ length (now (rows .exit)) ≡ 7680 ⌝ }
+    ensures got { λ r. ⌜ ((old : List ℕ) → Got 2 (now (symbols .entry)) old from v (now (rows .entry)) → Got 2 (now (symbols .entry)) old to r (now (rows .exit))) ⌝ }
+{
+    let mut p = v;
+    let mut j = from;
+    while j < to {
+        p = turn_four(t, symbols, j, p, rows);
+        j += 4;
+    }
+    p
+}
+
+// Words from one to another of all streams.
+fn take_piece(
+    t: &[u16; 1024],
+    half: usize,
+    symbols: &[u16],
+    from: usize,
+    to: usize,
+    v: Passed,
+    rows: &mut [u16],
+) -> Passed
+    requires { ⌜ now t ≡ decodingTable ⌝ }
+    requires { ⌜ TenBits (now symbols) ⌝ }
+    requires { ⌜ 1 ≤ half ⌝ }
+    requires { ⌜ half ≤ 2 ⌝ }
+    requires { ⌜ from ≤ to ⌝ }
+    requires { ⌜ to ≤ 1920 ⌝ }
+    requires { ⌜ (to - from) % 4 ≡ 0 ⌝ }
+    requires { ⌜ 5772 * half ≤ length (now symbols) ⌝ }
+    requires { ⌜ length (now rows) ≡ 3840 * half ⌝ }
+    ensures size { λ _. ⌜ length (now (rows .exit)) ≡ 3840 * half ⌝ }
+    ensures got { λ r. ⌜ ((old : List ℕ) → Got half (now (symbols .entry)) old from v (now (rows .entry)) → Got half (now (symbols .entry)) old to r (now (rows .exit))) ⌝ }
+{
+    if half == 1 {
+        return take_two(t, symbols, from, to, v, rows);
+    }
+    take_four(t, symbols, from, to, v, rows)
+}
+
+// The picture words of all streams, piece by piece, as far as their symbols are as they should be.
+pub(crate) fn take_picture(
+    t: &[u16; 1024],
+    half: usize,
+    symbols: &[u16],
+    turns: u32,
+    rows: &mut [u16],
+) -> Pictured
+    requires { ⌜ now t ≡ decodingTable ⌝ }
+    requires { ⌜ TenBits (now symbols) ⌝ }
+    requires { ⌜ 1 ≤ half ⌝ }
+    requires { ⌜ half ≤ 2 ⌝ }
+    requires { ⌜ 5772 * half ≤ length (now symbols) ⌝ }
+    requires { ⌜ length (now rows) ≡ 3840 * half ⌝ }
+    requires { ⌜ Clean (now symbols) (12 * half) (12 * half) 65535 turns ⌝ }
+    ensures size { λ _. ⌜ length (now (rows .exit)) ≡ 3840 * half ⌝ }
+    ensures got { λ r. ⌜ (passesBy (r .good) ≡ true → Got half (now (symbols .entry)) (now (rows .entry)) 1920 (record { good = r .good; turns = r .turns }) (now (rows .exit))) ⌝ }
+    ensures come { λ r. ⌜ Come half (now (symbols .entry)) (r .words) (r .turns) ⌝ }
+    ensures kept { λ r. ⌜ (AreBytes (now (symbols .entry)) (12 * half) (5772 * half) → passesBy (r .good) ≡ true) ⌝ }
+{
+    let mut p = Passed { good: 65535, turns };
+    let mut j = 0;
+    while j < 1920 {
+        let next = take_piece(t, half, symbols, j, j + PIECE, p, rows);
+        if crate::see::passes(next.good) {
+            p = next;
+            j += PIECE;
+        } else {
+            return Pictured {
+                good: next.good,
+                turns: p.turns,
+                words: j,
+            };
+        }
+    }
+    Pictured {
+        good: p.good,
+        turns: p.turns,
+        words: 1920,
+    }
+}

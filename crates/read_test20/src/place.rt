@@ -1,0 +1,99 @@
+// The place of test 20 in a window that one pass finds wanting: symbol by symbol, from a place up to which all is as it should be.
+use span::format::Shape;
+use symbol::disparity::Disparity;
+ghost use mathlib.Core.Path.{_≡_};
+ghost use Prim.Native.Nat.{_≤_};
+ghost use Rattle.decoder.specs.Decoder.{decodingTable};
+ghost use Rattle.window.specs.Scan.{startOf, fits};
+ghost use Rattle.read_test20.specs.Run.{holdsBy, Reached, place20};
+
+// The numbers of the special characters at which SAV and EAV begin.
+const K28_5: u16 = 261;
+
+const K29_7: u16 = 266;
+
+pub struct Scanned {
+    // The first symbol at which test 20 does not hold; the number of symbols where it holds at all.
+    pub place: usize,
+    // The disparity before the window, and before that symbol.
+    pub before: Disparity,
+    pub after: Disparity,
+}
+
+// The disparity whose K28.5 is symbol 0.
+fn start_of(symbols: &[u16]) -> Disparity
+    ensures { λ r. ⌜ r ≡ startOf (now (symbols .entry)) ⌝ }
+{
+    if 0 < symbols.len() {
+        if symbols[0] == 0x17C {
+            return Disparity::Negative;
+        }
+    }
+    Disparity::Positive
+}
+
+// Whether a character is of the kind that stands at symbol i.
+fn fits_at(p: Shape, i: usize, c: u16) -> bool
+    requires { ⌜ p .half ≤ 2 ⌝ }
+    ensures { λ r. ⌜ r ≡ fits p i c ⌝ }
+{
+    if i < 2 {
+        return c == K28_5;
+    }
+    let eav = span::layout::EAV_SYMBOL * p.half;
+    if i < eav {
+        return c < 256;
+    }
+    if i < eav + 2 {
+        return c == K29_7;
+    }
+    c < 256
+}
+
+// Whether an entry is legal at the disparity of a bit, with such a character.
+fn holds(p: Shape, i: usize, mask: u16, e: u16) -> bool
+    requires { ⌜ p .half ≤ 2 ⌝ }
+    ensures { λ r. ⌜ r ≡ holdsBy p i mask e ⌝ }
+{
+    if decoder::mask::legal_by(mask, e) {
+        return fits_at(p, i, e % 512);
+    }
+    false
+}
+
+// The place, where test 20 holds at every symbol before `from` and the bit of the disparity there is given.
+pub(crate) fn first_wrong(
+    t: &[u16; 1024],
+    p: Shape,
+    symbols: &[u16],
+    from: usize,
+    mask: u16,
+) -> usize
+    requires { ⌜ now t ≡ decodingTable ⌝ }
+    requires { ⌜ p .half ≤ 2 ⌝ }
+    requires { ⌜ Reached p (now symbols) from mask ⌝ }
+    ensures { λ r. ⌜ r ≡ place20 p (now (symbols .entry)) ⌝ }
+{
+    let mut m = mask;
+    let mut i = from;
+    while i < symbols.len() {
+        let e = decoder::table::entry(t, symbols[i]);
+        if holds(p, i, m, e) {
+            m = decoder::mask::after_by(m, e);
+            i += 1;
+        } else {
+            return i;
+        }
+    }
+    i
+}
+
+// The same from the beginning.
+pub(crate) fn first_wrong_of_all(t: &[u16; 1024], p: Shape, symbols: &[u16]) -> usize
+    requires { ⌜ now t ≡ decodingTable ⌝ }
+    requires { ⌜ p .half ≤ 2 ⌝ }
+    ensures { λ r. ⌜ r ≡ place20 p (now (symbols .entry)) ⌝ }
+{
+    let before = start_of(symbols);
+    first_wrong(t, p, symbols, 0, decoder::mask::mask_of(before))
+}

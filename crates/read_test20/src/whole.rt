@@ -1,0 +1,284 @@
+// A window whose symbols are all as they should be (document 01, refusal 20): its rows, the CRC of each stream, and its disparities. Where
+// one is not, its place.
+use crcc::sums::Sums;
+use span::format::Format;
+use span::format::Shape;
+use symbol::disparity::Disparity;
+ghost use mathlib.Core.Path.{_≡_};
+ghost use mathlib.Core.Bool.{true, false};
+ghost use Prim.Native.Nat.{_+_, _-_, _*_, _%_, _≤_};
+ghost use lib.ListN.{length};
+ghost use Rattle.decoder.specs.Mask.{maskOf, ofMask};
+ghost use Rattle.window.specs.Fill.{fillRight};
+ghost use Rattle.window.specs.Given.{Given};
+ghost use Rattle.read_test20.specs.Run.{Going, Reached, place20};
+ghost use Rattle.span.specs.Format.{shapeOf, samplesIn};
+ghost use Rattle.window.specs.Scan.{runningAt};
+ghost use Rattle.read_test20.specs.Blank.{AreBlank};
+ghost use Rattle.decoder.specs.Decoder.{decodingTable};
+ghost use Rattle.read_test20.specs.See.{TenBits, AreBytes, maskBy};
+ghost use Rattle.read_test20.specs.Whole.{Twice, AllHold, wholeIf, placeIf20, Begun, Stays, Tied, RunTo, Ending, Wholly};
+
+pub struct Taken {
+    // Whether the window is as it should be: then all that follows is right, and the rows are.
+    pub whole: bool,
+    // The first symbol that is not; the number of symbols where all are.
+    pub place: usize,
+    // Whether no fill word is other than 100; where this is false, nothing is known.
+    pub filled: bool,
+    // The disparity before the window, and after it.
+    pub before: Disparity,
+    pub after: Disparity,
+    // The CRC of each stream over its picture words.
+    pub sums: Sums,
+}
+
+// Whether each symbol has ten bits. Each is looked at, so that the loop takes many at a time.
+fn are_ten_bits(symbols: &[u16]) -> bool
+    ensures sound { λ r. ⌜ (r ≡ true → TenBits (now (symbols .entry))) ⌝ }
+    ensures kept { λ r. ⌜ (TenBits (now (symbols .entry)) → r ≡ true) ⌝ }
+{
+    let mut all = 0;
+    let mut i = 0;
+    while i < symbols.len() {
+        all = all | symbols[i];
+        i += 1;
+    }
+    all < 1024
+}
+
+// The disparity at which `turns` has been gathered.
+fn disparity_by(turns: u32) -> Disparity
+    ensures { λ r. ⌜ r ≡ ofMask (maskBy turns) ⌝ }
+{
+    if turns / 2048 % 4 == 2 {
+        return Disparity::Negative;
+    }
+    Disparity::Positive
+}
+
+// K28.5 twice: what is gathered behind it; 0 where something else stands there.
+fn behind_sav(symbols: &[u16]) -> u32
+    requires { ⌜ 2 ≤ length (now symbols) ⌝ }
+    ensures sound { λ r. ⌜ ((r ≡ 0 → ⊥) → Begun (now (symbols .entry)) r) ⌝ }
+    ensures kept { λ r. ⌜ (Twice (now (symbols .entry)) 261 0 → r ≡ 0 → ⊥) ⌝ }
+{
+    if symbols[0] == 0x17C {
+        if symbols[1] == 0x283 {
+            return 4096;
+        }
+        return 0;
+    }
+    if symbols[0] == 0x283 {
+        if symbols[1] == 0x17C {
+            return 2048;
+        }
+    }
+    0
+}
+
+// Whether K29.7 stands twice from a place on, at the disparity at which `turns` has been gathered, which it does not turn.
+fn is_eav(symbols: &[u16], at: usize, turns: u32) -> bool
+    requires { ⌜ at + 2 ≤ length (now symbols) ⌝ }
+    ensures sound { λ r. ⌜ (r ≡ true → Stays (now (symbols .entry)) at turns) ⌝ }
+    ensures kept { λ r. ⌜ (maskBy turns ≡ maskOf (runningAt (now (symbols .entry)) at) → Twice (now (symbols .entry)) 266 at → r ≡ true) ⌝ }
+{
+    if turns / 2048 % 4 == 2 {
+        if symbols[at] == 0x05D {
+            return symbols[at + 1] == 0x05D;
+        }
+        return false;
+    }
+    if symbols[at] == 0x3A2 {
+        return symbols[at + 1] == 0x3A2;
+    }
+    false
+}
+
+// What stands behind the picture: whether it is as it should be, whether the fill is known to be, and what is gathered behind it.
+struct Ended {
+    whole: bool,
+    filled: bool,
+    turns: u32,
+}
+
+// A run of words: mostly blanking words, else any bytes.
+fn run_of(t: &[u16; 1024], symbols: &[u16], from: usize, to: usize, turns: u32) -> Ended
+    requires { ⌜ now t ≡ decodingTable ⌝ }
+    requires { ⌜ TenBits (now symbols) ⌝ }
+    requires { ⌜ from ≤ to ⌝ }
+    requires { ⌜ to ≤ length (now symbols) ⌝ }
+    requires { ⌜ (to - from) % 3 ≡ 0 ⌝ }
+    requires { ⌜ Tied (now symbols) from turns ⌝ }
+    ensures whole { λ r. ⌜ (r .whole ≡ true → RunTo (now (symbols .entry)) from to (r .turns)) ⌝ }
+    ensures filled { λ r. ⌜ (r .filled ≡ true → AreBlank (now (symbols .entry)) from to turns) ⌝ }
+    ensures kept { λ r. ⌜ (AreBytes (now (symbols .entry)) from to → r .whole ≡ true) ⌝ }
+{
+    if crate::blank::are_blank(symbols, from, to, turns) {
+        return Ended {
+            whole: true,
+            filled: true,
+            turns,
+        };
+    }
+    let k = crate::see::see_run(t, symbols, from, to, turns);
+    Ended {
+        whole: crate::see::passes(k.good),
+        filled: false,
+        turns: k.turns,
+    }
+}
+
+fn unended() -> Ended
+    ensures { λ r. ⌜ (r .whole ≡ false) × (r .filled ≡ false) ⌝ }
+{
+    Ended {
+        whole: false,
+        filled: false,
+        turns: 0,
+    }
+}
+
+// The ancillary area, and then the fill.
+fn tail_of(t: &[u16; 1024], p: Shape, symbols: &[u16], turns: u32) -> Ended
+    requires { ⌜ Given p (now t) (now symbols) ⌝ }
+    requires { ⌜ TenBits (now symbols) ⌝ }
+    requires { ⌜ Tied (now symbols) (5796 * p .half) turns ⌝ }
+    ensures whole { λ r. ⌜ (r .whole ≡ true → Going (now (symbols .entry)) 0 255 (5796 * p .half) (length (now (symbols .entry))) (maskBy (r .turns))) ⌝ }
+    ensures filled { λ r. ⌜ (r .filled ≡ true → fillRight p (now (symbols .entry)) ≡ true) ⌝ }
+    ensures kept { λ r. ⌜ (AreBytes (now (symbols .entry)) (5796 * p .half) (length (now (symbols .entry))) → r .whole ≡ true) ⌝ }
+{
+    let from = span::layout::ANCILLARY_SYMBOL * p.half;
+    let fill = symbols.len() - 3 * p.fill;
+    let area = run_of(t, symbols, from, fill, turns);
+    if !area.whole {
+        return unended();
+    }
+    run_of(t, symbols, fill, symbols.len(), area.turns)
+}
+
+// The EAV, the line number and the CRCC, and what stands behind them.
+fn end_of(t: &[u16; 1024], p: Shape, symbols: &[u16], turns: u32) -> Ended
+    requires { ⌜ Given p (now t) (now symbols) ⌝ }
+    requires { ⌜ TenBits (now symbols) ⌝ }
+    requires { ⌜ Tied (now symbols) (5772 * p .half) turns ⌝ }
+    ensures whole { λ r. ⌜ (r .whole ≡ true → Ending p (now (symbols .entry)) turns (r .turns)) ⌝ }
+    ensures filled { λ r. ⌜ (r .filled ≡ true → fillRight p (now (symbols .entry)) ≡ true) ⌝ }
+    ensures kept { λ r. ⌜ (AllHold p (now (symbols .entry)) → r .whole ≡ true) ⌝ }
+{
+    let eav = span::layout::EAV_SYMBOL * p.half;
+    let behind = eav + 24 * p.half;
+    if !is_eav(symbols, eav, turns) {
+        return unended();
+    }
+    let k = crate::see::see_run(t, symbols, eav + 2, behind, turns);
+    if !crate::see::passes(k.good) {
+        return unended();
+    }
+    tail_of(t, p, symbols, k.turns)
+}
+
+// The bit of the disparity at which `turns` has been gathered.
+fn mask_by(turns: u32) -> u16
+    ensures { λ r. ⌜ r ≡ maskBy turns ⌝ }
+{
+    (1536 - turns / 2048 % 4 * 512) as u16
+}
+
+// Of a window with a symbol that is not as it should be, its place and no more.
+fn wanting(place: usize) -> Taken
+    ensures { λ r. ⌜ (r .whole ≡ false) × (r .filled ≡ false) × (r .place ≡ place) ⌝ }
+{
+    Taken {
+        whole: false,
+        place,
+        filled: false,
+        before: Disparity::Negative,
+        after: Disparity::Negative,
+        sums: Sums {
+            first: 0,
+            second: 0,
+            third: 0,
+            fourth: 0,
+        },
+    }
+}
+
+// The same, looked for from the beginning.
+fn wanting_somewhere(t: &[u16; 1024], p: Shape, symbols: &[u16]) -> Taken
+    requires { ⌜ now t ≡ decodingTable ⌝ }
+    requires { ⌜ p .half ≤ 2 ⌝ }
+    ensures { λ r. ⌜ (r .whole ≡ false) × (r .filled ≡ false) × (r .place ≡ place20 p (now (symbols .entry))) ⌝ }
+{
+    wanting(crate::place::first_wrong_of_all(t, p, symbols))
+}
+
+// The same, where so many picture words of each stream are as they should be and `turns` has been gathered behind them.
+fn wanting_behind(t: &[u16; 1024], p: Shape, symbols: &[u16], words: usize, turns: u32) -> Taken
+    requires { ⌜ now t ≡ decodingTable ⌝ }
+    requires { ⌜ p .half ≤ 2 ⌝ }
+    requires { ⌜ words ≤ 1920 ⌝ }
+    requires { ⌜ Reached p (now symbols) (12 * p .half + 3 * p .half * words) (maskBy turns) ⌝ }
+    ensures { λ r. ⌜ (r .whole ≡ false) × (r .filled ≡ false) × (r .place ≡ place20 p (now (symbols .entry))) ⌝ }
+{
+    let clean = span::layout::PICTURE_SYMBOL * p.half + 3 * p.half * words;
+    wanting(crate::place::first_wrong(t, p, symbols, clean, mask_by(turns)))
+}
+
+// A window of a known format whose symbols have ten bits.
+fn take_window(t: &[u16; 1024], p: Shape, symbols: &[u16], rows: &mut [u16]) -> Taken
+    requires { ⌜ Given p (now t) (now symbols) ⌝ }
+    requires { ⌜ TenBits (now symbols) ⌝ }
+    requires { ⌜ length (now rows) ≡ samplesIn p ⌝ }
+    ensures size { λ _. ⌜ length (now (rows .exit)) ≡ samplesIn p ⌝ }
+    ensures whole { λ r. ⌜ (r .whole ≡ true → Wholly p (now (symbols .entry)) r (now (rows .exit))) ⌝ }
+    ensures filled { λ r. ⌜ (r .filled ≡ true → fillRight p (now (symbols .entry)) ≡ true) ⌝ }
+    ensures place { λ r. ⌜ r .place ≡ place20 p (now (symbols .entry)) ⌝ }
+    ensures kept { λ r. ⌜ (AllHold p (now (symbols .entry)) → r .whole ≡ true) ⌝ }
+{
+    let first = behind_sav(symbols);
+    if first == 0 {
+        return wanting_somewhere(t, p, symbols);
+    }
+    let head = crate::see::see_run(t, symbols, 2, span::layout::PICTURE_SYMBOL * p.half, first);
+    if !crate::see::passes(head.good) {
+        return wanting_somewhere(t, p, symbols);
+    }
+    let v = crate::picture::take_picture(t, p.half, symbols, head.turns, rows);
+    if !crate::see::passes(v.good) {
+        return wanting_behind(t, p, symbols, v.words, v.turns);
+    }
+    let e = end_of(t, p, symbols, v.turns);
+    if !e.whole {
+        return wanting_behind(t, p, symbols, v.words, v.turns);
+    }
+    // Only of a window that is as it should be: nothing else pays for its CRCs.
+    let sums = row_crc::sums::sums_of_rows(rows);
+    Taken {
+        whole: e.whole,
+        place: symbols.len(),
+        filled: e.filled,
+        before: disparity_by(first),
+        after: disparity_by(e.turns),
+        sums,
+    }
+}
+
+// A window with rows of its format's length; of anything else nothing is said. The table is lent once, here.
+pub fn take(f: Format, symbols: &[u16], rows: &mut [u16]) -> Taken
+    ensures size { λ _. ⌜ length (now (rows .exit)) ≡ length (now (rows .entry)) ⌝ }
+    ensures taken { λ r. ⌜ (r .whole ≡ true → Wholly (shapeOf f) (now (symbols .entry)) r (now (rows .exit))) ⌝ }
+    ensures filled { λ r. ⌜ (r .filled ≡ true → fillRight (shapeOf f) (now (symbols .entry)) ≡ true) ⌝ }
+    ensures whole { λ r. ⌜ r .whole ≡ wholeIf f (now (symbols .entry)) (length (now (rows .entry))) ⌝ }
+    ensures place { λ r. ⌜ r .place ≡ placeIf20 f (now (symbols .entry)) (length (now (rows .entry))) ⌝ }
+{
+    if !span::fit::is_ready(f, symbols.len(), rows.len()) {
+        return wanting(0);
+    }
+    let t = decoder::table::decoding_table();
+    let p = span::format::shape_of(f);
+    if !are_ten_bits(symbols) {
+        return wanting_somewhere(&t, p, symbols);
+    }
+    take_window(&t, p, symbols, rows)
+}

@@ -1,0 +1,72 @@
+-- The tests by their numbers, at one place and over a run of places.
+-- Assumes nothing.
+use Prim.Native.Nat.{ℕ, _+_, _-_}
+use mathlib.Core.Path.{_≡_}
+use mathlib.Core.Bool.{Bool, true, not, cond}
+use mathlib.Core.List.{List, _∷_, _++_}
+use mathlib.Core.Option.{Option, Option·getD}
+use lib.Dec.{eqb}
+use Rattle.ground.specs.Search.{firstFrom}
+use Rattle.line.specs.declared.stream.StreamLine.{StreamLine}
+use Rattle.span.specs.declared.format.Format.{Format}
+use Rattle.span.specs.declared.format.Shape.{Shape}
+use Rattle.span.specs.Format.{streams}
+use Rattle.span.specs.Span.{fillWord}
+use Rattle.crcc.specs.declared.crcc.CrccWords.{CrccWords}
+use Rattle.crcc.specs.Crcc.{crc, crccWords}
+use Rattle.packing.specs.Sample.{allowedWord}
+use Rattle.crcc.specs.declared.sums.Sums.{Sums}
+use Rattle.window.specs.Read.{placed}
+use Rattle.crcc.specs.Sums.{sumIn}
+use Rattle.window.specs.Tests.{wordOf, column, nextLine, holds21, holds22, holds23}
+use Rattle.word.specs.Received.{repaired}
+use Rattle.window.specs.Words.{wordAt}
+use Rattle.window.specs.Given.{Given}
+
+-- what is known besides: the line that stream 1 names
+pub record Told (p : Shape) (t w : List ℕ) (next : StreamLine) : Type 0 where
+  pub given : Given p t w
+  pub named : next .0 ≡ nextLine (streams p) (wordAt p w)
+
+-- test 25 or 26 of a word, where it is asked
+abbrev pub picture25 : Format → ℕ → (ℕ → ℕ) → ℕ → ℕ → Bool
+picture25 f s word j t = allowedWord (f .depth) (wordOf s word j t)
+
+abbrev pub fill26 : ℕ → (ℕ → ℕ) → ℕ → ℕ → Bool
+fill26 s word j t = eqb (wordOf s word j t) fillWord
+
+-- the CRCC words of stream t, whose picture leaves c
+unfoldable pub crccBehind : Shape → List ℕ → ℕ → ℕ → CrccWords
+crccBehind p w t c =
+    let s = streams p in
+    crccWords
+    (crc c (column s (wordAt p w) 1924 3 t ++ (repaired (wordOf s (wordAt p w) 1927 t) ∷ column s (wordAt p w) 1928 2 t)))
+
+-- test 24 where the pictures of the streams leave these sums; it is test 24 where they are the sums of the window (law `sums-right`)
+unfoldable pub holds24By : Shape → List ℕ → Sums → ℕ → ℕ → Bool
+holds24By p w c j t =
+    let word = wordOf (streams p) (wordAt p w) j t in
+    cond (eqb j 1930) (eqb word (crccBehind p w t (sumIn c t) .crcc0))
+    (cond (eqb j 1931) (eqb word (crccBehind p w t (sumIn c t) .crcc1)) true)
+
+-- the test with a number
+unfoldable pub holdsOf : ℕ → Format → Shape → List ℕ → Sums → ℕ → ℕ → Bool
+holdsOf number f p w c =
+    let s = streams p in
+    let word = wordAt p w in
+    cond (eqb number 21) (holds21 s word)
+    (cond (eqb number 22) (holds22 s word)
+    (cond (eqb number 23) (holds23 s word)
+    (cond (eqb number 24) (holds24By p w c) (cond (eqb number 25) (picture25 f s word) (fill26 s word)))))
+
+-- at interleaved place k of a window
+abbrev pub holdsAt : ℕ → Format → Shape → List ℕ → Sums → ℕ → Bool
+holdsAt number f p w c = placed (streams p) (holdsOf number f p w c)
+
+-- the lowest place from one to another at which a test does not hold, if there is one
+unfoldable pub wrongIn : (ℕ → Bool) → ℕ → ℕ → Option ℕ
+wrongIn holds from to = firstFrom from (to - from) (λ k. not (holds k))
+
+-- the same as a number: the other place where there is none
+abbrev pub firstWrong : (ℕ → Bool) → ℕ → ℕ → ℕ
+firstWrong holds from to = Option·getD (wrongIn holds from to) to

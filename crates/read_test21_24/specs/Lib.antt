@@ -1,0 +1,3 @@
+pub mod Call
+pub mod Holds
+pub mod Verdict

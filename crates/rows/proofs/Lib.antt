@@ -1,6 +1,0 @@
-pub mod Allowing
-pub mod Filling
-pub mod Plain
-pub mod Readiness
-pub mod Streams
-pub mod Taking

@@ -1,3 +1,0 @@
-pub mod Fill
-pub mod Given
-pub mod Picture

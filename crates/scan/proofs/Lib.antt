@@ -1,3 +1,0 @@
-pub mod Gathering
-pub mod Runs
-pub mod Window

@@ -1,0 +1,11 @@
+-- Whether symbols and rows have the lengths of a known format.
+-- Assumes nothing.
+use Prim.Native.Nat.{ℕ}
+use mathlib.Core.Bool.{Bool, _&&_}
+use lib.Dec.{eqb}
+use Rattle.span.specs.declared.format.Format.{Format}
+use Rattle.span.specs.Format.{isKnown, shapeOf, samplesIn, symbolsIn}
+
+-- a known format with so many symbols and so many words of rows
+abbrev pub ready : Format → ℕ → ℕ → Bool
+ready f symbols rows = isKnown f && (eqb symbols (symbolsIn (shapeOf f)) && eqb rows (samplesIn (shapeOf f)))

@@ -1,0 +1,101 @@
+-- The words of a window that are read out of its symbols as they stand: those of which none is replaced.
+-- Assumes nothing.
+use mathlib.Core.Path.{_≡_, ap, _∙_}
+use mathlib.Core.Bool.{true, false}
+use mathlib.Core.List.{List}
+use Prim.Native.Nat.{ℕ, _+_, _*_, _/_, _%_, _≤_, _<_}
+use native.Mathlib.Nat.{mul-le-mul-left}
+use native.Mathlib.Omega.{arith}
+use lib.Dec.{ltb}
+use lib.ListN.{length}
+use borrow.Author.Tests.{ltb-true, ltb-false}
+use Rattle.ground.proofs.Cases.{on-test}
+use Rattle.span.specs.declared.format.Shape.{Shape}
+use Rattle.span.specs.Format.{streams, eavAt}
+use Rattle.packing.specs.declared.bytes.TwoWords.{TwoWords}
+use Rattle.packing.specs.Bytes.{wordsOf}
+use Rattle.window.specs.Scan.{byteOf, symbolAt}
+use Rattle.window.specs.Words.{pairAt, wordAt}
+use Rattle.window.proofs.Bytes.{byte-else}
+use Rattle.window.specs.Given.{Given, plainPair}
+
+-- ---- three symbols
+
+pub pair-is : {x y z : ℕ} (w : List ℕ) (o : ℕ) → x ≡ byteOf (symbolAt w o) → y ≡ byteOf (symbolAt w (o + 1)) → z ≡ byteOf (symbolAt w (o + 2))
+    → wordsOf (record { first = x; second = y; third = z }) ≡ plainPair w o
+unfolding plainPair
+pair-is w o e f g = rw (e, f, g)
+
+-- ---- which pairs are plain
+
+-- pair q lies behind the replaced bytes of the SAV, and before those of the EAV or behind them
+pub record Behind (p : Shape) (q : ℕ) : Type 0 where
+  pub sav : 2 ≤ q
+  pub eav : eavAt p ≤ 3 * q + 2 → eavAt p + 4 ≤ 3 * q
+
+-- word j of streams 2u and 2u + 1, where it is none of a timing code
+module _ (p : Shape) (j u : ℕ) (h : u < p .half) where
+  pub in-pair : 4 ≤ j → (1924 ≤ j → 1928 ≤ j) → Behind p (p .half * j + u)
+  in-pair behind apart =
+      let m : p .half * 4 ≤ p .half * j = mul-le-mul-left (p .half) behind in
+      record { sav = omega arith; eav = λ a. on-test (ltb j 1924) (before a) after }
+    where
+      before : eavAt p ≤ 3 * (p .half * j + u) + 2 → ltb j 1924 ≡ true → eavAt p + 4 ≤ 3 * (p .half * j + u)
+      before a t =
+          let b : j ≤ 1923 = omega (arith, ltb-true j 1924 t) in
+          let m : p .half * j ≤ p .half * 1923 = mul-le-mul-left (p .half) b in
+          omega arith
+
+      after : ltb j 1924 ≡ false → eavAt p + 4 ≤ 3 * (p .half * j + u)
+      after t =
+          let m : p .half * 1928 ≤ p .half * j = mul-le-mul-left (p .half) (apart (ltb-false j 1924 t)) in
+          omega arith
+
+-- its three symbols are symbols of the window
+pub in-window : {p : Shape} {t w : List ℕ} → Given p t w → (j u : ℕ) → u < p .half → j < 1932 + p .ancillary → 3 * (p .half * j + u) + 3 ≤ length w
+in-window {p} g j u h l =
+    let m : p .half * (j + 1) ≤ p .half * (1932 + p .ancillary) = mul-le-mul-left (p .half) (omega arith) in
+    omega (arith, g .long)
+
+-- ---- what they are
+
+module _ (p : Shape) (w : List ℕ) where
+  pub pair-plain : (q : ℕ) → Behind p q → pairAt p w q ≡ plainPair w (3 * q)
+  unfolding pairAt plainPair
+  pair-plain q b =
+      rw (
+        byte-else p w (3 * q) (omega arith) (λ a. omega (arith, b .eav (omega arith))),
+        byte-else p w (3 * q + 1) (omega arith) (λ a. omega (arith, b .eav (omega arith))),
+        byte-else p w (3 * q + 2) (omega arith) (λ a. omega (arith, b .eav (omega arith))),
+      )
+
+  -- the two words of a pair that was read there
+  module _ {x : TwoWords} (q : ℕ) (is : x ≡ plainPair w (3 * q)) (b : Behind p q) where
+    same-pair : x ≡ pairAt p w q
+    same-pair = rw (pair-plain q b) is
+
+    pub word-a : x .a ≡ wordAt p w (2 * q)
+    unfolding wordAt
+    word-a =
+        let even : 2 * q % 2 ≡ 0 = omega arith in
+        let same : 2 * q / 2 ≡ q = omega arith in
+        rw (even, same) (ap (λ (l : TwoWords). l .a) same-pair)
+
+    pub word-b : x .b ≡ wordAt p w (2 * q + 1)
+    unfolding wordAt
+    word-b =
+        let odd : (2 * q + 1) % 2 ≡ 1 = omega arith in
+        let same : (2 * q + 1) / 2 ≡ q = omega arith in
+        rw (odd, same) (ap (λ (l : TwoWords). l .b) same-pair)
+
+  -- word j of streams 2u and 2u + 1
+  module _ {x : TwoWords} (j u : ℕ) (is : x ≡ plainPair w (3 * (p .half * j + u))) (b : Behind p (p .half * j + u)) where
+    pub stream-a : x .a ≡ wordAt p w (streams p * j + 2 * u)
+    stream-a =
+        let e : 2 * (p .half * j + u) ≡ streams p * j + 2 * u = omega arith in
+        word-a (p .half * j + u) is b ∙ ap (wordAt p w) e
+
+    pub stream-b : x .b ≡ wordAt p w (streams p * j + (2 * u + 1))
+    stream-b =
+        let e : 2 * (p .half * j + u) + 1 ≡ streams p * j + (2 * u + 1) = omega arith in
+        word-b (p .half * j + u) is b ∙ ap (wordAt p w) e

@@ -1,0 +1,16 @@
+-- The fill of a window: whether each word is 100.
+-- Assumes nothing.
+use Prim.Native.Nat.{ℕ, _+_, _*_}
+use mathlib.Core.Bool.{Bool, not}
+use mathlib.Core.List.{List}
+use lib.Dec.{eqb}
+use Rattle.ground.specs.Search.{firstFrom, isSome}
+use Rattle.span.specs.declared.format.Shape.{Shape}
+use Rattle.span.specs.Format.{streams}
+use Rattle.span.specs.Span.{fillWord}
+use Rattle.window.specs.Words.{wordAt}
+
+-- no fill word is another
+unfoldable pub fillRight : Shape → List ℕ → Bool
+fillRight p w =
+    not (isSome (firstFrom (streams p * (1932 + p .ancillary)) (2 * p .fill) (λ k. not (eqb (wordAt p w k) fillWord))))

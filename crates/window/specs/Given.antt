@@ -1,0 +1,23 @@
+-- What loops over a window are given: the decoding table, a known shape and a window of its length; and its words where none is replaced.
+-- Assumes nothing.
+use Prim.Native.Nat.{ℕ, _+_, _≤_}
+use mathlib.Core.Path.{_≡_}
+use mathlib.Core.List.{List}
+use lib.ListN.{length}
+use Rattle.decoder.specs.Decoder.{decodingTable}
+use Rattle.span.specs.declared.format.Shape.{Shape}
+use Rattle.span.specs.Format.{symbolsIn, Small}
+use Rattle.packing.specs.declared.bytes.TwoWords.{TwoWords}
+use Rattle.packing.specs.Bytes.{wordsOf}
+use Rattle.window.specs.Scan.{symbolAt, byteOf}
+
+pub record Given (p : Shape) (t w : List ℕ) : Type 0 where
+  pub table : t ≡ decodingTable
+  pub half : 1 ≤ p .half
+  pub small : Small p
+  pub long : length w ≡ symbolsIn p
+
+-- the two words of three symbols from o on, none of them replaced
+unfoldable pub plainPair : List ℕ → ℕ → TwoWords
+plainPair w o =
+    wordsOf (record { first = byteOf (symbolAt w o); second = byteOf (symbolAt w (o + 1)); third = byteOf (symbolAt w (o + 2)) })
