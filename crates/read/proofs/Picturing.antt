@@ -23,12 +23,12 @@ use Rattle.span.specs.Span.{fillWord}
 use Rattle.span.proofs.Lengths.{known-has-streams}
 use Rattle.packing.specs.Sample.{allowedWord}
 use Rattle.window.specs.Fill.{fillRight}
-use Rattle.read_test25_26.specs.Picture.{allAllowed}
-use Rattle.read_test21_24.specs.Call.{place25, place26}
-use Rattle.read_test21_24.specs.Holds.{picture25, fill26, wrongIn}
-use Rattle.read_test21_24.specs.Verdict.{firstRow}
-use Rattle.read_test21_24.proofs.Regions.{from-word, before-word}
-use Rattle.read_test21_24.proofs.Searching.{hit-in, miss-in, is-miss-in}
+use Rattle.read_test21_26.specs.Picture.{allAllowed}
+use Rattle.read_test21_26.specs.Call.{place25, place26}
+use Rattle.read_test21_26.specs.Holds.{picture25, fill26, wrongIn}
+use Rattle.read_test21_26.specs.Verdict.{firstRow}
+use Rattle.read_test21_26.proofs.Regions.{from-word, before-word}
+use Rattle.read_test21_26.proofs.Searching.{hit-in, miss-in, is-miss-in}
 use Rattle.window.specs.Read.{placed, pictureOf}
 use Rattle.window.specs.Tests.{wordOf, column, rows, lineRead, holds25, holds26}
 use Rattle.window.specs.Words.{wordAt}

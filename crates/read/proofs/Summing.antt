@@ -14,8 +14,8 @@ use Rattle.crcc.specs.declared.crcc.CrccWords.{CrccWords}
 use Rattle.crcc.specs.Crcc.{crc, crccWords}
 use Rattle.crcc.proofs.Crc.{crc-append}
 use Rattle.window.specs.Columns.{columnOf, sumsOf}
-use Rattle.read_test21_24.specs.Holds.{crccBehind, holds24By}
-use Rattle.read_test21_24.specs.Verdict.{serviceTests}
+use Rattle.read_test21_26.specs.Holds.{crccBehind, holds24By}
+use Rattle.read_test21_26.specs.Verdict.{serviceTests}
 use Rattle.window.specs.Read.{lowest, placed, wordTests}
 use Rattle.crcc.specs.Sums.{sumIn}
 use Rattle.window.specs.Tests.{wordOf, column, registerOf, holds21, holds22, holds23, holds24}

@@ -4,7 +4,7 @@ use mathlib.Core.Path.{_≡_, refl, sym, ap, _∙_}
 use mathlib.Core.Bool.{Bool, true, false, not}
 use mathlib.Core.List.{List}
 use mathlib.Core.Option.{Option, none, some, Option·getD}
-use Prim.Native.Nat.{ℕ, _+_, _*_, _≤_, _<_}
+use Prim.Native.Nat.{ℕ, _≤_, _<_}
 use native.Mathlib.Omega.{arith}
 use lib.Dec.{eqb}
 use lib.ListN.{length, take, replicate}
@@ -14,24 +14,24 @@ use Rattle.ground.specs.Search.{firstBelow}
 use Rattle.ground.proofs.Searches.{hit}
 use Rattle.span.specs.declared.format.Format.{Format}
 use Rattle.span.specs.declared.format.Shape.{Shape}
-use Rattle.span.specs.Format.{isKnown, shapeOf, streams, samplesIn, symbolsIn, eavAt}
+use Rattle.span.specs.Format.{isKnown, shapeOf, streams, samplesIn, symbolsIn}
 use Rattle.span.proofs.Formats.{small}
 use Rattle.span.proofs.Lengths.{known-has-streams}
-use Rattle.read_test25_26.specs.Fill.{fillIf}
+use Rattle.read_test21_26.specs.Fill.{fillIf}
 use Rattle.window.specs.Fill.{fillRight}
-use Rattle.read_test25_26.specs.Picture.{sumsIf, rowsIf}
+use Rattle.read_test21_26.specs.Picture.{sumsIf, rowsIf}
 use Rattle.window.specs.Columns.{sumsOf}
-use Rattle.read_test21_24.specs.declared.call.Service.{Service}
-use Rattle.read_test21_24.specs.declared.service.Verdict.{Verdict}
-use Rattle.read_test21_24.specs.Call.{place25, place26, serviceOf, serviceIf, placeIf}
-use Rattle.read_test21_24.specs.Verdict.{firstRow, serviceTests}
+use Rattle.read_test21_26.specs.declared.call.Service.{Service}
+use Rattle.read_test21_26.specs.declared.service.Verdict.{Verdict}
+use Rattle.read_test21_26.specs.Call.{place25, place26, serviceOf, serviceIf, placeIf}
+use Rattle.read_test21_26.specs.Verdict.{firstRow, serviceTests}
 use Rattle.read_test20.specs.declared.place.Scanned.{Scanned}
 use Rattle.read_test20.specs.Run.{place20, scannedOf}
 use Rattle.window.specs.declared.delivery.Delivery.{Delivery}
 use Rattle.crcc.specs.declared.sums.Sums.{Sums}
-use Rattle.window.specs.Read.{wordTests, contentIn, deliveryOf, pictureOf, readSpan, judgeOf, readOf, rowsLeft, rowsRead}
-use Rattle.window.specs.Scan.{byteOf, symbolAt, startOf, runningAt, holds20}
-use Rattle.window.specs.Tests.{lineRead, repairCount, rows as rowsOf}
+use Rattle.window.specs.Read.{wordTests, deliveryOf, pictureOf, readSpan, judgeOf, readOf, rowsLeft, rowsRead}
+use Rattle.window.specs.Scan.{startOf, runningAt, holds20}
+use Rattle.window.specs.Tests.{rows as rowsOf}
 use Rattle.window.specs.Words.{wordAt}
 use Rattle.read.specs.Window.{IsWindow}
 use Rattle.read.proofs.Picturing.{length-rows}

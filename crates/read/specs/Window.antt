@@ -7,7 +7,7 @@ use mathlib.Core.List.{List}
 use lib.ListN.{length, drop}
 use Rattle.ground.specs.Answer.{Row}
 use Rattle.line.specs.Stream.{isActive}
-use Rattle.read_test25_26.specs.Picture.{allAllowed}
+use Rattle.read_test21_26.specs.Picture.{allAllowed}
 use Rattle.span.specs.declared.format.Format.{Format}
 use Rattle.span.specs.Format.{isKnown, shapeOf, symbolsIn}
 use Rattle.window.specs.Read.{wordTests}

@@ -1,5 +1,5 @@
 // What a span delivers, the rows apart.
-use read_test21_24::call::Service;
+use read_test21_26::call::Service;
 use scan::scan::Scanned;
 use window::delivery::Delivery;
 ghost use mathlib.Core.Path.{_≡_};

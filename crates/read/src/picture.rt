@@ -1,10 +1,10 @@
 // Tests 25 and 26. The lowest place is looked for only where there is one.
 use line::stream::StreamLine;
-use read_test21_24::service::Verdict;
+use read_test21_26::service::Verdict;
 use span::format::Format;
 ghost use mathlib.Core.Path.{_≡_};
 ghost use mathlib.Core.Bool.{true};
-ghost use Rattle.read_test21_24.specs.Verdict.{firstRow};
+ghost use Rattle.read_test21_26.specs.Verdict.{firstRow};
 ghost use Rattle.window.specs.Fill.{fillRight};
 ghost use Rattle.span.specs.Format.{shapeOf, streams};
 ghost use Rattle.window.specs.Read.{pictureOf};
@@ -17,7 +17,7 @@ fn picture_is_right(f: Format, line: StreamLine, rows: &[u16]) -> bool
     ensures { λ r. ⌜ r ≡ rightPicture f (line .0) (now (rows .entry)) ⌝ }
 {
     if line::stream::is_active(line) {
-        return read_test25_26::picture::all_allowed(span::format::depth_of(f), rows);
+        return read_test21_26::picture::all_allowed(span::format::depth_of(f), rows);
     }
     true
 }
@@ -31,7 +31,7 @@ fn fill_is_right(f: Format, symbols: &[u16], filled: bool) -> bool
     if filled {
         return true;
     }
-    read_test25_26::fill::fill_is_right(f, symbols)
+    read_test21_26::fill::fill_is_right(f, symbols)
 }
 
 // The first of the two that does not hold.
@@ -57,11 +57,11 @@ pub(crate) fn judge_picture(
         }
         return Verdict {
             number: 26,
-            place: read_test21_24::call::lowest_place(26, f, symbols),
+            place: read_test21_26::call::lowest_place(26, f, symbols),
         };
     }
     Verdict {
         number: 25,
-        place: read_test21_24::call::lowest_place(25, f, symbols),
+        place: read_test21_26::call::lowest_place(25, f, symbols),
     }
 }

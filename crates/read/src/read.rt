@@ -1,8 +1,8 @@
 // The two calls (document 01, "Receiving and finding").
 use crate::answer::Read;
 use crcc::sums::Sums;
-use read_test21_24::call::Service;
-use read_test21_24::service::Verdict;
+use read_test21_26::call::Service;
+use read_test21_26::service::Verdict;
 use scan::scan::Scanned;
 use span::format::Format;
 ghost use mathlib.Core.Path.{_≡_};
@@ -11,8 +11,8 @@ ghost use Prim.Native.Nat.{ℕ, _≤_};
 ghost use mathlib.Core.List.{List};
 ghost use lib.ListN.{length, replicate};
 ghost use Rattle.ground.specs.Answer.{refused};
-ghost use Rattle.read_test21_24.specs.Call.{serviceOf};
-ghost use Rattle.read_test21_24.specs.Verdict.{firstRow};
+ghost use Rattle.read_test21_26.specs.Call.{serviceOf};
+ghost use Rattle.read_test21_26.specs.Verdict.{firstRow};
 ghost use Rattle.window.specs.Fill.{fillRight};
 ghost use Rattle.window.specs.Columns.{sumsOf};
 ghost use Rattle.read_test20.specs.Run.{scannedOf};
@@ -66,7 +66,7 @@ fn read_words(
     ensures answer { λ r. ⌜ paperRead r ≡ readSpan f (now (symbols .entry)) ⌝ }
     ensures rows { λ _. ⌜ ((room : List ℕ) → length room ≡ length (now (rows .entry)) → now (rows .exit) ≡ rowsLeft (readSpan f (now (symbols .entry))) room (pictureOf f (now (symbols .entry)))) ⌝ }
 {
-    let service = read_test21_24::call::service_of(f, symbols, c);
+    let service = read_test21_26::call::service_of(f, symbols, c);
     let verdict = judge_words(f, symbols, service, filled, rows);
     if verdict.number != 0 {
         return refuse(verdict.number, verdict.place, rows);
@@ -85,7 +85,7 @@ fn read_by_steps(f: Format, symbols: &[u16], rows: &mut [u16]) -> Read
     if scanned.place < symbols.len() {
         return refuse(20, scanned.place, rows);
     }
-    let c = read_test25_26::picture::take_picture(f, symbols, rows);
+    let c = read_test21_26::picture::take_picture(f, symbols, rows);
     read_words(f, symbols, scanned, c, false, rows)
 }
 

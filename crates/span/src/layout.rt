@@ -7,6 +7,9 @@ pub const EAV: usize = PICTURE + 1920;
 
 pub const LINE_NUMBER: usize = EAV + 4;
 
+// The second word of the line number.
+pub const LN1: usize = LINE_NUMBER + 1;
+
 pub const CRCC: usize = LINE_NUMBER + 2;
 
 pub const ANCILLARY: usize = CRCC + 2;

@@ -7,7 +7,7 @@ use Rattle.read.proofs.picture.fill_is_right.Statement.{statement}
 use Rattle.read.proofs.picture.fill_is_right.Tie as tie
 use Rattle.read.proofs.picture.fill_is_right.Reads as reads
 use Rattle.read.proofs.picture.fill_is_right.Lts as lts
-use Rattle.read_test25_26.proofs.fill.fill_is_right.Reads as fill-is-right-reads
+use Rattle.read_test21_26.proofs.fill.fill_is_right.Reads as fill-is-right-reads
 
 returns : tie.Need-returns
 returns c = sym (c .before .before .pre .1 (c .if1 .taken))

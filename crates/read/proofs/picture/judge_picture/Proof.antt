@@ -11,7 +11,7 @@ use Rattle.read.proofs.picture.judge_picture.Statement.{statement}
 use Rattle.read.proofs.picture.judge_picture.Tie as tie
 use Rattle.read.proofs.picture.judge_picture.Reads as reads
 use Rattle.read.proofs.picture.judge_picture.Lts as lts
-use Rattle.read_test21_24.proofs.call.lowest_place.Reads as lowest-place-reads
+use Rattle.read_test21_26.proofs.call.lowest_place.Reads as lowest-place-reads
 use Rattle.read.proofs.picture.fill_is_right.Reads as fill-is-right-reads
 use Rattle.read.proofs.picture.picture_is_right.Reads as picture-is-right-reads
 

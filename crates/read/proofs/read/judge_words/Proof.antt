@@ -3,9 +3,8 @@
 use mathlib.Core.Path.{_≡_, refl, sym, ap, _∙_}
 use native.Mathlib.Omega.{arith}
 use lib.ListN.{take, drop}
-use borrow.Author.Needs.{needs}
-use Rattle.read_test21_24.specs.declared.call.Service.{Service}
-use Rattle.read_test21_24.specs.declared.service.Verdict.{Verdict}
+use Rattle.read_test21_26.specs.declared.call.Service.{Service}
+use Rattle.read_test21_26.specs.declared.service.Verdict.{Verdict}
 use Rattle.span.specs.Format.{shapeOf}
 use Rattle.window.specs.Read.{wordTests}
 use Rattle.window.specs.Words.{wordAt}

@@ -18,7 +18,7 @@ use Rattle.read.proofs.read.read_by_steps.Reads as reads
 use Rattle.read.proofs.read.read_by_steps.Lts as lts
 use Rattle.read.proofs.read.read_words.Reads as read-words-reads
 use Rattle.read.proofs.read.refuse.Reads as refuse-reads
-use Rattle.read_test25_26.proofs.picture.take_picture.Reads as take-picture-reads
+use Rattle.read_test21_26.proofs.picture.take_picture.Reads as take-picture-reads
 use Rattle.scan.proofs.scan.scan.Reads as scan-reads
 
 scan-requires : tie.Need-scan-requires

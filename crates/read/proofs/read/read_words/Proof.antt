@@ -5,7 +5,7 @@ use Prim.Native.Nat.{_≤_}
 use native.Mathlib.Omega.{arith}
 use borrow.Author.Needs.{needs}
 use Rattle.ground.specs.Answer.{Answer, given}
-use Rattle.read_test21_24.specs.declared.service.Verdict.{Verdict}
+use Rattle.read_test21_26.specs.declared.service.Verdict.{Verdict}
 use Rattle.span.specs.Format.{shapeOf}
 use Rattle.window.specs.declared.delivery.Delivery.{Delivery}
 use Rattle.window.specs.Read.{pictureOf, wordTests, rowsLeft}
@@ -16,7 +16,7 @@ use Rattle.read.proofs.read.read_words.Statement.{statement}
 use Rattle.read.proofs.read.read_words.Tie as tie
 use Rattle.read.proofs.read.read_words.Reads as reads
 use Rattle.read.proofs.read.read_words.Lts as lts
-use Rattle.read_test21_24.proofs.call.service_of.Reads as service-of-reads
+use Rattle.read_test21_26.proofs.call.service_of.Reads as service-of-reads
 use Rattle.read.proofs.delivery.delivery.Reads as delivery-reads
 use Rattle.read.proofs.read.judge_words.Reads as judge-words-reads
 use Rattle.read.proofs.read.refuse.Reads as refuse-reads

@@ -1,0 +1,82 @@
+-- What is a window, what is given with one, and what the calls answer of it.
+-- Assumes nothing.
+use mathlib.Core.Path.{_≡_, sym, ap, _∙_}
+use mathlib.Core.Bool.{true, false}
+use mathlib.Core.List.{List}
+use Prim.Native.Nat.{ℕ, _+_, _*_}
+use native.Mathlib.Omega.{arith}
+use lib.Dec.{eqb}
+use lib.ListN.{length}
+use borrow.Author.Tests.{eqb-true}
+use Rattle.ground.proofs.Tests.{both-left, both-right}
+use Rattle.decoder.specs.Decoder.{decodingTable}
+use Rattle.line.specs.declared.stream.StreamLine.{StreamLine}
+use Rattle.line.specs.Stream.{lineBefore}
+use Rattle.span.specs.declared.content.ContentBytes.{ContentBytes}
+use Rattle.span.specs.declared.format.Format.{Format}
+use Rattle.span.specs.declared.format.Shape.{Shape}
+use Rattle.span.specs.Format.{isKnown, shapeOf, symbolsIn, streams, eavAt}
+use Rattle.span.proofs.Formats.{small}
+use Rattle.span.proofs.Lengths.{known-has-streams}
+use Rattle.crcc.specs.declared.sums.Sums.{Sums}
+use Rattle.window.specs.Read.{contentIn, repairsOf}
+use Rattle.window.specs.Scan.{byteOf, symbolAt}
+use Rattle.window.specs.Tests.{nextLine, lineRead, repairCount}
+use Rattle.window.specs.Words.{wordAt}
+use Rattle.read_test21_26.specs.Call.{isWindow, serviceOf, place25, place26}
+use Rattle.read_test21_26.specs.declared.service.Verdict.{Verdict}
+use Rattle.window.specs.Given.{Given}
+use Rattle.read_test21_26.specs.Holds.{holdsOf, holdsAt, firstWrong}
+use Rattle.read_test21_26.specs.Verdict.{firstRow, serviceTests}
+
+module _ (f : Format) (n : ℕ) where
+  pub known : isKnown f ≡ true → {symbols : ℕ} → symbols ≡ symbolsIn (shapeOf f) → eqb n symbols ≡ isWindow f n
+  known k e = rw (k, e)
+
+  pub not-known : isKnown f ≡ false → false ≡ isWindow f n
+  not-known k = rw k
+
+-- what functions over its words are given
+pub given : {p : Shape} {t w : List ℕ} (f : Format) → isWindow f (length w) ≡ true → p ≡ shapeOf f → t ≡ decodingTable → Given p t w
+given {p} {t} {w} f is e table =
+    let long = eqb (length w) (symbolsIn (shapeOf f)) in
+    record {
+      table = table;
+      half = rw e (known-has-streams f (both-left (isKnown f) long is));
+      small = small f e;
+      long = eqb-true _ _ (both-right (isKnown f) long is) ∙ ap symbolsIn (sym e);
+    }
+
+-- ---- the content bytes
+module _ (p : Shape) (w : List ℕ) {x1 x2 x3 x4 : ℕ} where
+  pub content-is : x1 ≡ byteOf (symbolAt w 2) → x2 ≡ byteOf (symbolAt w 3) → x3 ≡ byteOf (symbolAt w (5772 * p .half + 2))
+      → x4 ≡ byteOf (symbolAt w (5772 * p .half + 3)) → record { sav1 = x1; sav2 = x2; eav1 = x3; eav2 = x4 } ≡ contentIn p w
+  content-is e1 e2 e3 e4 = let at : 5772 * p .half ≡ eavAt p = omega arith in rw (e1, e2, e3, e4, at)
+
+-- ---- the answers, by the shape in hand
+module _ (f : Format) (w : List ℕ) {p : Shape} (e : p ≡ shapeOf f) where
+  pub service-is : {v : Verdict} {l : StreamLine} {n r : ℕ} {b : ContentBytes} (c : Sums) → v ≡ firstRow (serviceTests p w c)
+      → l .0 ≡ lineBefore n → n ≡ nextLine (streams p) (wordAt p w) → b ≡ contentIn p w → r ≡ repairCount (streams p) (wordAt p w)
+      → record { verdict = v; line = l; content = b; repairs = repairsOf r } ≡ serviceOf (shapeOf f) w c
+  unfolding lineRead
+  service-is {v} {l} {n} {r} {b} c ev el en eb er =
+      let line : l .0 ≡ lineRead (streams p) (wordAt p w) = el ∙ ap lineBefore en in
+      rw (← e) (rw (ev, eb, er, ← line))
+
+  module _ (c : Sums) {k : ℕ} where
+    pub is-place-25 : k ≡ firstWrong (holdsAt 25 f p w c) (4 * streams p) (1924 * streams p) → k ≡ place25 f w
+    unfolding place25 holdsOf
+    is-place-25 is = is ∙ ap (λ (q : Shape). firstWrong (holdsAt 25 f q w c) (4 * streams q) (1924 * streams q)) e
+
+    pub is-place-26 :
+        k
+        ≡ firstWrong (holdsAt 26 f p w c) (streams p * (1932 + p .ancillary))
+        (streams p * (1932 + p .ancillary) + 2 * p .fill)
+        → k ≡ place26 f w
+    unfolding place26 holdsOf
+    is-place-26 is =
+        is
+        ∙ ap
+        (λ (q : Shape).
+        firstWrong (holdsAt 26 f q w c) (streams q * (1932 + q .ancillary)) (streams q * (1932 + q .ancillary) + 2 * q .fill))
+        e

@@ -1,0 +1,10 @@
+pub mod Allowing
+pub mod Calls
+pub mod FillCalls
+pub mod InTurn
+pub mod Numbers
+pub mod Reading
+pub mod Regions
+pub mod Searching
+pub mod Sizes
+pub mod Tests

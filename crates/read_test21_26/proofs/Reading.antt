@@ -1,0 +1,160 @@
+-- The words of a window as the code reads them.
+-- Assumes nothing.
+use mathlib.Core.Path.{_≡_, refl, sym, ap, _∙_}
+use mathlib.Core.List.{List}
+use mathlib.Core.Option.{Option, none, some, Option·getD}
+use Prim.Native.Nat.{ℕ, zero, suc, _+_, _*_, _/_, _%_, _≤_, _<_}
+use native.Mathlib.Numerals.{add-one}
+use native.Mathlib.Omega.{arith}
+use borrow.Author.Tests.{lt-ltb, eq-eqb, ne-eqb}
+use Rattle.ground.specs.Answer.{Answer, refused, given}
+use Rattle.ground.specs.Written.{upto, table}
+use Rattle.line.specs.declared.stream.StreamLine.{StreamLine}
+use Rattle.line.specs.Stream.{lineBefore}
+use Rattle.span.specs.declared.format.Shape.{Shape}
+use Rattle.span.specs.Format.{streams}
+use Rattle.packing.specs.declared.bytes.TwoWords.{TwoWords}
+use Rattle.packing.specs.Bytes.{wordsOf}
+use Rattle.crcc.specs.Crcc.{crc, crcWord, crccWords}
+use Rattle.word.specs.LineNumber.{lineOf, namedOf}
+use Rattle.window.specs.Tests.{wordOf, sumOf, nextLine, lineRead, repairCount}
+use Rattle.word.specs.Received.{repaired, wrongBits}
+use Rattle.window.specs.Words.{fixedByte, byteAt, pairAt, wordAt}
+use Rattle.window.proofs.Bytes.{word-below}
+use Rattle.window.proofs.Encoded.{fixed-two, fixed-four}
+use Rattle.window.proofs.Placing.{four, word-of-place, stream-of-place, place-again}
+use Rattle.read_test21_26.specs.Holds.{crccBehind}
+
+-- ---- bytes
+
+pub fixed-zero : (half i : ℕ) → half ≡ 1 → i ≡ 3 → 0x00 ≡ fixedByte (2 * half) i
+fixed-zero half i e q = rw (e, q) (sym (fixed-two .3))
+
+pub fixed-ones : (half i : ℕ) → 1 ≤ half → half ≤ 2 → i < 4 → (half ≡ 1 → i ≡ 3 → ⊥) → 0xFF ≡ fixedByte (2 * half) i
+fixed-ones zero i a b h x = absurd (omega arith)
+fixed-ones (suc zero) i a b h x =
+    four (λ (i : ℕ). (i ≡ 3 → ⊥) → 0xFF ≡ fixedByte 2 i)
+    (λ _. sym (fixed-two .0)) (λ _. sym (fixed-two .1)) (λ _. sym (fixed-two .2)) (λ y. absurd (y refl)) i h (x refl)
+fixed-ones (suc (suc zero)) i a b h x =
+    four (λ (i : ℕ). 0xFF ≡ fixedByte 4 i)
+    (sym (fixed-four .0)) (sym (fixed-four .1)) (sym (fixed-four .2)) (sym (fixed-four .3)) i h
+fixed-ones (suc (suc (suc half))) i a b h x = absurd (omega arith)
+
+-- ---- words
+
+module _ (p : Shape) (w : List ℕ) (k : ℕ) {x y z : ℕ} (first : x ≡ byteAt p w (3 * (k / 2)))
+    (second : y ≡ byteAt p w (3 * (k / 2) + 1)) (third : z ≡ byteAt p w (3 * (k / 2) + 2)) where
+  pub word-even : {u : TwoWords} → u ≡ wordsOf (record { first = x; second = y; third = z }) → k % 2 ≡ 0 → u .a ≡ wordAt p w k
+  unfolding wordAt pairAt
+  word-even e q = rw (e, first, second, third, eq-eqb (k % 2) 0 q)
+
+  pub word-odd : {u : TwoWords} → u ≡ wordsOf (record { first = x; second = y; third = z }) → (k % 2 ≡ 0 → ⊥) → u .b ≡ wordAt p w k
+  unfolding wordAt pairAt
+  word-odd e q = rw (e, first, second, third, ne-eqb (k % 2) 0 q)
+
+-- interleaved place k is that of word k / s of stream k % s
+module _ (p : Shape) (w : List ℕ) (k : ℕ) {x : ℕ} (some-streams : 1 ≤ p .half) (is : x ≡ wordAt p w k) where
+  abbrev placed-word : ℕ
+  placed-word = wordOf (streams p) (wordAt p w) (k / streams p) (k % streams p)
+
+  pub here : x ≡ placed-word
+  here = is ∙ ap (wordAt p w) (sym (place-again (streams p) (omega arith) k))
+
+  pub here-below : x % 4096 ≡ placed-word
+  here-below =
+      let small : x < 4096 = rw is (word-below p w k) in
+      let low : x % 4096 ≡ x = omega arith in
+      low ∙ here
+
+-- ---- the line named
+
+module _ (a b : ℕ) (small : a < 4096) (smaller : b < 4096) where
+  abbrev by-line : Option ℕ → Answer StreamLine
+  by-line none = refused 22 0
+  by-line (some m) = given (record { 0 = m })
+
+  named-is : (o : Option ℕ) → lineOf a b ≡ o → namedOf a b ≡ by-line o
+  named-is none e = simp (lt-ltb a 4096 small, lt-ltb b 4096 smaller, e)
+  named-is (some m) e = simp (lt-ltb a 4096 small, lt-ltb b 4096 smaller, e)
+
+  pub line-told : (l : StreamLine) → given l ≡ namedOf a b → l .0 ≡ Option·getD (lineOf a b) 0
+  line-told l q = go (lineOf a b) refl
+    where
+      go : (o : Option ℕ) → lineOf a b ≡ o → l .0 ≡ Option·getD (lineOf a b) 0
+      go none e = let z : _≡_ {A = ℕ} 0 1 = cc (q ∙ named-is none e) in absurd (omega arith)
+      go (some m) e =
+          let same : l ≡ record { 0 = m } = cc (q ∙ named-is (some m) e) in ap (λ (x : StreamLine). x .0) same ∙ sym (rw e)
+
+  pub no-line-told : (number : ℕ) → refused number 0 ≡ namedOf a b → 0 ≡ Option·getD (lineOf a b) 0
+  no-line-told number q = go (lineOf a b) refl
+    where
+      go : (o : Option ℕ) → lineOf a b ≡ o → 0 ≡ Option·getD (lineOf a b) 0
+      go none e = rw e
+      go (some m) e = let z : _≡_ {A = ℕ} 0 1 = cc (q ∙ named-is (some m) e) in absurd (omega arith)
+
+-- the two words of stream 1
+module _ (p : Shape) (w : List ℕ) {a b : ℕ} (first : a ≡ wordAt p w (1928 * streams p)) (second : b ≡ wordAt p w (1929 * streams p)) where
+  pub next-is : Option·getD (lineOf a b) 0 ≡ nextLine (streams p) (wordAt p w)
+  unfolding nextLine
+  next-is =
+      let e : 1928 * streams p ≡ streams p * 1928 + 0 = omega arith in
+      let q : 1929 * streams p ≡ streams p * 1929 + 0 = omega arith in
+      rw (first, second, e, q)
+
+-- ---- the CRCC
+
+module _ (p : Shape) (w : List ℕ) (i : ℕ) where
+  -- the CRC over six words more
+  pub six : (c : ℕ)
+      → crccWords
+      (crcWord (crcWord (crcWord (crcWord (crcWord (crcWord c
+      (wordOf (streams p) (wordAt p w) 1924 i)) (wordOf (streams p) (wordAt p w) 1925 i)) (wordOf (streams p) (wordAt p w) 1926 i))
+      (repaired (wordOf (streams p) (wordAt p w) 1927 i))) (wordOf (streams p) (wordAt p w) 1928 i)) (wordOf (streams p) (wordAt p w) 1929 i))
+      ≡ crccBehind p w i c
+  unfolding crccBehind table upto crc
+  six c = refl
+
+-- ---- places
+
+module _ (s : ℕ) (some-streams : 1 ≤ s) (k : ℕ) where
+  -- word k / s stands at or before k
+  pub word-before : s * (k / s) ≤ k
+  word-before = omega (arith, place-again s some-streams k)
+
+  -- the first word of a group of s
+  pub first-word : (j : ℕ) → k ≡ j * s → k / s ≡ j
+  first-word j e =
+      let q : k ≡ s * j + 0 = omega arith in ap (λ (x : ℕ). x / s) q ∙ word-of-place s some-streams j 0 some-streams
+
+  pub first-stream : (j : ℕ) → k ≡ j * s → k % s ≡ 0
+  first-stream j e =
+      let q : k ≡ s * j + 0 = omega arith in ap (λ (x : ℕ). x % s) q ∙ stream-of-place s some-streams j 0 some-streams
+
+  pub not-first : (j : ℕ) → (k ≡ j * s → ⊥) → k / s ≡ j → k % s ≡ 0 → ⊥
+  not-first j x e q =
+      x (let z : s * j + 0 ≡ k = rw (e, q) at (place-again s some-streams k) in omega arith)
+
+-- the line read is the one before the line named
+pub line-is : (s : ℕ) (word : ℕ → ℕ) → lineBefore (nextLine s word) ≡ lineRead s word
+unfolding lineRead
+line-is s word = refl
+
+-- ---- wrong bits
+
+-- those of word 3 and word 1927 of stream t
+abbrev pub wrongOf : Shape → List ℕ → ℕ → ℕ
+wrongOf p w t = wrongBits (wordOf (streams p) (wordAt p w) 3 t) + wrongBits (wordOf (streams p) (wordAt p w) 1927 t)
+
+module _ (p : Shape) (w : List ℕ) where
+  pub none-summed : 0 ≡ sumOf 0 (wrongOf p w)
+  unfolding sumOf
+  none-summed = refl
+
+  pub one-more : (i : ℕ) {x y sum : ℕ} → x ≡ wrongBits (wordOf (streams p) (wordAt p w) 3 i)
+      → y ≡ wrongBits (wordOf (streams p) (wordAt p w) 1927 i) → sum ≡ sumOf i (wrongOf p w) → sum + (x + y) ≡ sumOf (i + 1) (wrongOf p w)
+  unfolding sumOf
+  one-more i e q r = rw (e, q, r, add-one i)
+
+  pub all-summed : sumOf (streams p) (wrongOf p w) ≡ repairCount (streams p) (wordAt p w)
+  unfolding repairCount
+  all-summed = refl

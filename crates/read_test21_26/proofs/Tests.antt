@@ -1,0 +1,117 @@
+-- Each test at the words where it asks something, and where it asks nothing.
+-- Assumes nothing.
+use mathlib.Core.Path.{_≡_, refl}
+use mathlib.Core.Bool.{Bool, true, false, not, _&&_, Bool·beq}
+use mathlib.Core.List.{List}
+use mathlib.Core.Option.{Option, none, some, Option·getD}
+use Prim.Native.Nat.{ℕ, _-_, _≤_, _<_}
+use native.Mathlib.Omega.{arith}
+use lib.Dec.{eqb}
+use borrow.Author.Tests.{lt-ltb, le-ltb, eq-eqb, ne-eqb, eqb-true}
+use Rattle.ground.specs.Search.{isSome}
+use Rattle.ground.proofs.Cases.{on-test}
+use Rattle.ground.proofs.Ranges.{is-within, not-within, from-low}
+use Rattle.ground.proofs.Searches.{hit}
+use Rattle.ground.proofs.Tests.{both-left}
+use Rattle.line.specs.Stream.{isLine, vOf}
+use Rattle.span.specs.declared.format.Shape.{Shape}
+use Rattle.span.specs.Format.{streams}
+use Rattle.word.specs.LineNumber.{ln0, ln1, names, lineOf}
+use Rattle.crcc.specs.declared.sums.Sums.{Sums}
+use Rattle.crcc.specs.Sums.{sumIn}
+use Rattle.window.specs.Tests.{same, wordOf, named, nextLine, lineRead, holds21, holds22, holds23}
+use Rattle.word.specs.Received.{isTiming, vIn}
+use Rattle.window.specs.Words.{wordAt}
+use Rattle.read_test21_26.specs.Holds.{crccBehind, holds24By}
+
+-- two bits compared
+pub same-is : (a b : Bool) → Bool·beq a b ≡ same a b
+same-is true true = refl
+same-is true false = refl
+same-is false true = refl
+same-is false false = refl
+
+module _ (s : ℕ) (word : ℕ → ℕ) (j t : ℕ) where
+  -- ---- 21
+  pub sav-21 : j < 4 → holds21 s word j t ≡ isTiming false j (wordOf s word j t)
+  unfolding holds21
+  sav-21 h = rw (lt-ltb j 4 h)
+
+  pub eav-21 : 1924 ≤ j → j < 1928 → holds21 s word j t ≡ isTiming true (j - 1924) (wordOf s word j t)
+  unfolding holds21
+  eav-21 h l =
+      let far : 4 ≤ j = omega arith in
+      let last : j ≤ 1927 = omega arith in
+      rw (le-ltb j 4 far, is-within 1924 1927 j h last)
+
+  pub else-21 : 4 ≤ j → (1924 ≤ j → 1928 ≤ j) → holds21 s word j t ≡ true
+  unfolding holds21
+  else-21 h l = rw (le-ltb j 4 h, not-within 1924 1927 j (λ a b. omega (arith, l a)))
+
+  -- ---- 22
+  pub first-22 : j ≡ 1928 → t ≡ 0 → holds22 s word j t ≡ isSome (named s word)
+  unfolding holds22
+  first-22 e q = rw (is-within 1928 1929 j (omega arith) (omega arith), eq-eqb j 1928 e, eq-eqb t 0 q)
+
+  pub other-22 : 1928 ≤ j → j < 1930 → (j ≡ 1928 → t ≡ 0 → ⊥) → holds22 s word j t ≡ eqb (wordOf s word j t) (wordOf s word j 0)
+  unfolding holds22
+  other-22 h l x =
+      rw (is-within 1928 1929 j h (omega arith), apart)
+    where
+      apart : (eqb j 1928 && eqb t 0) ≡ false
+      apart =
+          on-test (eqb j 1928)
+          (λ a. rw (a, ne-eqb t 0 (λ q. x (eqb-true j 1928 a) q))) (λ a. rw a)
+
+  pub else-22 : (1928 ≤ j → 1930 ≤ j) → holds22 s word j t ≡ true
+  unfolding holds22
+  else-22 l = rw (not-within 1928 1929 j (λ a b. omega (arith, l a)))
+
+  -- ---- 23
+  pub sav-23 : j ≡ 3 → holds23 s word j t ≡ same (vIn (wordOf s word j t)) (vOf (lineRead s word))
+  unfolding holds23
+  sav-23 e = rw (eq-eqb j 3 e)
+
+  pub eav-23 : j ≡ 1927 → holds23 s word j t ≡ same (vIn (wordOf s word j t)) (vOf (nextLine s word))
+  unfolding holds23
+  eav-23 e =
+      let far : j ≡ 3 → ⊥ = λ q. omega arith in
+      rw (ne-eqb j 3 far, eq-eqb j 1927 e)
+
+  pub else-23 : (j ≡ 3 → ⊥) → (j ≡ 1927 → ⊥) → holds23 s word j t ≡ true
+  unfolding holds23
+  else-23 x y = rw (ne-eqb j 3 x, ne-eqb j 1927 y)
+
+-- ---- 24
+module _ (p : Shape) (w : List ℕ) (c : Sums) (j t : ℕ) where
+  pub first-24 : j ≡ 1930 → holds24By p w c j t ≡ eqb (wordOf (streams p) (wordAt p w) j t) (crccBehind p w t (sumIn c t) .crcc0)
+  unfolding holds24By
+  first-24 e = rw (eq-eqb j 1930 e)
+
+  pub second-24 : j ≡ 1931 → holds24By p w c j t ≡ eqb (wordOf (streams p) (wordAt p w) j t) (crccBehind p w t (sumIn c t) .crcc1)
+  unfolding holds24By
+  second-24 e =
+      let far : j ≡ 1930 → ⊥ = λ q. omega arith in
+      rw (ne-eqb j 1930 far, eq-eqb j 1931 e)
+
+  pub else-24 : (j ≡ 1930 → ⊥) → (j ≡ 1931 → ⊥) → holds24By p w c j t ≡ true
+  unfolding holds24By
+  else-24 x y = rw (ne-eqb j 1930 x, ne-eqb j 1931 y)
+
+-- ---- the line named
+
+-- a line has a number from 1 on, so 0 says that none is named
+named-line : (a b m : ℕ) → lineOf a b ≡ some m → 1 ≤ m
+unfolding lineOf
+named-line a b m e =
+    from-low 1 1125 m (both-left (isLine m) (eqb (ln0 m) a && eqb (ln1 m) b) (hit (names a b) 1126 m e .holds))
+
+pub some-line : (s : ℕ) (word : ℕ → ℕ) → not (eqb (nextLine s word) 0) ≡ isSome (named s word)
+unfolding nextLine
+some-line s word = go (named s word) refl
+  where
+    go : (o : Option ℕ) → named s word ≡ o → not (eqb (Option·getD (named s word) 0) 0) ≡ isSome (named s word)
+    go none e = rw e
+    go (some m) e =
+        let some-number : m ≡ 0 → ⊥ = λ q. omega (arith, named-line (wordOf s word 1928 0) (wordOf s word 1929 0) m e) in
+        rw (e, ne-eqb m 0 some-number)

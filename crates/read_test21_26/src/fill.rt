@@ -1,0 +1,40 @@
+// The fill words behind the streams (004, 7.1).
+use span::format::Format;
+use span::format::Shape;
+ghost use mathlib.Core.Path.{_≡_};
+ghost use Rattle.read_test21_26.specs.Fill.{fillIf};
+ghost use Rattle.window.specs.Fill.{fillRight};
+ghost use Rattle.window.specs.Given.{Given};
+
+// Test 26: whether no fill word of a window is another.
+fn is_right(t: &[u16; 1024], p: Shape, symbols: &[u16]) -> bool
+    requires { ⌜ Given p (now t) (now symbols) ⌝ }
+    ensures { λ r. ⌜ r ≡ fillRight p (now (symbols .entry)) ⌝ }
+{
+    let fill = span::blanking::fill_word();
+    let mut q = p.half * (span::layout::ANCILLARY + p.ancillary);
+    let end = q + p.fill;
+    while q < end {
+        let w = crate::pairs::pair_from(t, symbols, 3 * q);
+        if w.a != fill {
+            return false;
+        }
+        if w.b != fill {
+            return false;
+        }
+        q += 1;
+    }
+    true
+}
+
+// The same of anything that may be a window: only a window has fill.
+pub fn fill_is_right(f: Format, symbols: &[u16]) -> bool
+    ensures { λ r. ⌜ r ≡ fillIf f (now (symbols .entry)) ⌝ }
+{
+    let lengths = span::length::span_lengths(f);
+    if span::fit::is_ready(f, symbols.len(), lengths.samples) {
+        let t = decoder::table::decoding_table();
+        return is_right(&t, span::format::shape_of(f), symbols);
+    }
+    false
+}

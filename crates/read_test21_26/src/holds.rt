@@ -1,0 +1,236 @@
+// The tests at one interleaved place, and the lowest place at which one does not hold.
+use crcc::crcc::CrccWords;
+use crcc::sums::Sums;
+use line::stream::StreamLine;
+use span::format::Format;
+use span::format::Shape;
+use word::line_number::Named;
+ghost use mathlib.Core.Path.{_≡_};
+ghost use Prim.Native.Nat.{_*_, _/_, _%_, _≤_, _<_};
+ghost use Rattle.span.specs.Format.{streams, pairsIn};
+ghost use Rattle.window.specs.Read.{placed};
+ghost use Rattle.crcc.specs.Sums.{sumIn};
+ghost use Rattle.window.specs.Tests.{nextLine, repairCount, holds21, holds22, holds23};
+ghost use Rattle.window.specs.Words.{wordAt};
+ghost use Rattle.window.specs.Given.{Given};
+ghost use Rattle.read_test21_26.specs.Holds.{Told, holds24By, holdsAt, firstWrong, crccBehind};
+
+// The line that the two words of stream 1 name; 0 where they name none. This and `read_line_words` rule out the fault by which a recital
+// was lost: both words are one stream's and one span's, and name a line only if both are what is sent for it.
+pub(crate) fn next_line(t: &[u16; 1024], p: Shape, symbols: &[u16]) -> StreamLine
+    requires { ⌜ Given p (now t) (now symbols) ⌝ }
+    ensures { λ r. ⌜ r .0 ≡ nextLine (streams p) (wordAt p (now (symbols .entry))) ⌝ }
+{
+    let s = 2 * p.half;
+    let ln0 = crate::words::word_at(t, p, symbols, span::layout::LINE_NUMBER * s);
+    let ln1 = crate::words::word_at(t, p, symbols, span::layout::LN1 * s);
+    match word::line_number::read_line_words(ln0, ln1) {
+        Named::Line(l) => l,
+        Named::Above4095 => line::stream::stream_line(0),
+        Named::Nameless => line::stream::stream_line(0),
+    }
+}
+
+// 21: a timing word.
+fn timing_holds(t: &[u16; 1024], p: Shape, symbols: &[u16], k: usize) -> bool
+    requires { ⌜ Given p (now t) (now symbols) ⌝ }
+    requires { ⌜ k < 2 * pairsIn p ⌝ }
+    ensures { λ r. ⌜ r ≡ placed (streams p) (holds21 (streams p) (wordAt p (now (symbols .entry)))) k ⌝ }
+{
+    let j = k / (2 * p.half);
+    let w = crate::words::word_at(t, p, symbols, k);
+    if j < span::layout::PICTURE {
+        return word::received::is_timing(false, j, w);
+    }
+    if span::layout::EAV <= j {
+        if j < span::layout::LINE_NUMBER {
+            return word::received::is_timing(true, j - span::layout::EAV, w);
+        }
+    }
+    true
+}
+
+// 22: a line number word.
+fn line_holds(t: &[u16; 1024], p: Shape, symbols: &[u16], next: StreamLine, k: usize) -> bool
+    requires { ⌜ Given p (now t) (now symbols) ⌝ }
+    requires { ⌜ k < 2 * pairsIn p ⌝ }
+    requires { ⌜ next .0 ≡ nextLine (streams p) (wordAt p (now symbols)) ⌝ }
+    ensures { λ r. ⌜ r ≡ placed (streams p) (holds22 (streams p) (wordAt p (now (symbols .entry)))) k ⌝ }
+{
+    let s = 2 * p.half;
+    let j = k / s;
+    if k == span::layout::LINE_NUMBER * s {
+        return line::stream::number_of(next) != 0;
+    }
+    if span::layout::LINE_NUMBER <= j {
+        if j < span::layout::CRCC {
+            let w = crate::words::word_at(t, p, symbols, k);
+            return w == crate::words::word_at(t, p, symbols, s * j);
+        }
+    }
+    true
+}
+
+// 23: V.
+fn v_holds(t: &[u16; 1024], p: Shape, symbols: &[u16], next: StreamLine, k: usize) -> bool
+    requires { ⌜ Given p (now t) (now symbols) ⌝ }
+    requires { ⌜ k < 2 * pairsIn p ⌝ }
+    requires { ⌜ next .0 ≡ nextLine (streams p) (wordAt p (now symbols)) ⌝ }
+    ensures { λ r. ⌜ r ≡ placed (streams p) (holds23 (streams p) (wordAt p (now (symbols .entry)))) k ⌝ }
+{
+    let j = k / (2 * p.half);
+    let w = crate::words::word_at(t, p, symbols, k);
+    if j == span::layout::SAV_XYZ {
+        return word::received::v_in(w) == line::stream::v_of(line::stream::line_before(next));
+    }
+    if j == span::layout::EAV_XYZ {
+        return word::received::v_in(w) == line::stream::v_of(next);
+    }
+    true
+}
+
+// The CRC of stream i of which the picture leaves c: it runs on over the EAV, XYZ repaired, and the line number.
+fn crcc_behind(t: &[u16; 1024], p: Shape, symbols: &[u16], i: usize, c: u32) -> CrccWords
+    requires { ⌜ Given p (now t) (now symbols) ⌝ }
+    requires { ⌜ i < streams p ⌝ }
+    ensures { λ r. ⌜ r ≡ crccBehind p (now (symbols .entry)) i c ⌝ }
+{
+    let s = 2 * p.half;
+    let at = span::layout::EAV * s + i;
+    let c1 = crcc::crcc::crc_word(c, crate::words::word_at(t, p, symbols, at));
+    let c2 = crcc::crcc::crc_word(c1, crate::words::word_at(t, p, symbols, at + s));
+    let c3 = crcc::crcc::crc_word(c2, crate::words::word_at(t, p, symbols, at + 2 * s));
+    let xyz = crate::words::word_at(t, p, symbols, at + 3 * s);
+    let c4 = crcc::crcc::crc_word(c3, word::received::repaired_word(xyz));
+    let c5 = crcc::crcc::crc_word(c4, crate::words::word_at(t, p, symbols, at + 4 * s));
+    crcc::crcc::crcc_words(crcc::crcc::crc_word(
+        c5,
+        crate::words::word_at(t, p, symbols, at + 5 * s),
+    ))
+}
+
+// The CRC of stream i.
+fn sum_of(c: Sums, i: usize) -> u32
+    ensures { λ r. ⌜ r ≡ sumIn c i ⌝ }
+{
+    if i == 0 {
+        return c.first;
+    }
+    if i == 1 {
+        return c.second;
+    }
+    if i == 2 {
+        return c.third;
+    }
+    c.fourth
+}
+
+// 24: a CRCC word.
+fn crcc_holds(t: &[u16; 1024], p: Shape, symbols: &[u16], c: Sums, k: usize) -> bool
+    requires { ⌜ Given p (now t) (now symbols) ⌝ }
+    requires { ⌜ k < 2 * pairsIn p ⌝ }
+    ensures { λ r. ⌜ r ≡ placed (streams p) (holds24By p (now (symbols .entry)) c) k ⌝ }
+{
+    let s = 2 * p.half;
+    let j = k / s;
+    if span::layout::CRCC <= j {
+        if j < span::layout::ANCILLARY {
+            let w = crate::words::word_at(t, p, symbols, k);
+            let sent = crcc_behind(t, p, symbols, k % s, sum_of(c, k % s));
+            if j == span::layout::CRCC {
+                return w == sent.crcc0;
+            }
+            return w == sent.crcc1;
+        }
+    }
+    true
+}
+
+// Whether a test holds at place k.
+fn holds(
+    number: u8,
+    f: Format,
+    t: &[u16; 1024],
+    p: Shape,
+    symbols: &[u16],
+    next: StreamLine,
+    c: Sums,
+    k: usize,
+) -> bool
+    requires { ⌜ Told p (now t) (now symbols) next ⌝ }
+    requires { ⌜ k < 2 * pairsIn p ⌝ }
+    ensures { λ r. ⌜ r ≡ holdsAt number f p (now (symbols .entry)) c k ⌝ }
+{
+    if number == 21 {
+        return timing_holds(t, p, symbols, k);
+    }
+    if number == 22 {
+        return line_holds(t, p, symbols, next, k);
+    }
+    if number == 23 {
+        return v_holds(t, p, symbols, next, k);
+    }
+    if number == 24 {
+        return crcc_holds(t, p, symbols, c, k);
+    }
+    let w = crate::words::word_at(t, p, symbols, k);
+    if number == 25 {
+        return packing::sample::allowed_word(span::format::depth_of(f), w);
+    }
+    w == span::blanking::fill_word()
+}
+
+// The lowest place at which it does not hold, from one place to another; the other where it holds at all.
+pub(crate) fn first_wrong(
+    number: u8,
+    f: Format,
+    t: &[u16; 1024],
+    p: Shape,
+    symbols: &[u16],
+    next: StreamLine,
+    c: Sums,
+    from: usize,
+    to: usize,
+) -> usize
+    requires { ⌜ Told p (now t) (now symbols) next ⌝ }
+    requires { ⌜ from ≤ to ⌝ }
+    requires { ⌜ to ≤ 2 * pairsIn p ⌝ }
+    ensures { λ r. ⌜ r ≡ firstWrong (holdsAt number f p (now (symbols .entry)) c) from to ⌝ }
+{
+    let mut k = from;
+    while k < to {
+        if holds(number, f, t, p, symbols, next, c, k) {
+            k += 1;
+        } else {
+            return k;
+        }
+    }
+    to
+}
+
+// How many bits were wrong in all timing words.
+pub(crate) fn wrong_in_all(t: &[u16; 1024], p: Shape, symbols: &[u16]) -> u8
+    requires { ⌜ Given p (now t) (now symbols) ⌝ }
+    ensures { λ r. ⌜ r ≡ repairCount (streams p) (wordAt p (now (symbols .entry))) ⌝ }
+{
+    let s = 2 * p.half;
+    let mut sum = 0;
+    let mut i = 0;
+    while i < s {
+        let sav = word::received::wrong_bits(crate::words::word_at(
+            t,
+            p,
+            symbols,
+            span::layout::SAV_XYZ * s + i,
+        ));
+        let eav = word::received::wrong_bits(crate::words::word_at(
+            t,
+            p,
+            symbols,
+            span::layout::EAV_XYZ * s + i,
+        ));
+        sum = sum + (sav + eav);
+        i += 1;
+    }
+    sum
+}

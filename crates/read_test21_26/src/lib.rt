@@ -1,0 +1,8 @@
+// Tests 21 to 26 of a window, and what its words say. Each test has its lowest place; that all of 25 and 26 hold is asked first, many words at a time.
+pub mod call;
+pub mod fill;
+mod holds;
+mod pairs;
+pub mod picture;
+pub mod service;
+mod words;

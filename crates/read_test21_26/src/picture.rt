@@ -1,0 +1,40 @@
+// The picture words of a window, taken out of its interleaved pairs stream by stream while the CRC of each stream runs over them.
+use crcc::sums::Sums;
+use span::format::Format;
+use span::format::Shape;
+ghost use mathlib.Core.Path.{_≡_};
+ghost use Prim.Native.Nat.{_+_, _<_};
+ghost use Rattle.read_test21_26.specs.Picture.{allAllowed, wrongOf};
+
+// 1 where a word may not be that of a sample.
+fn wrong_word(depth: u8, w: u16) -> u16
+    ensures { λ r. ⌜ r ≡ wrongOf depth w ⌝ }
+{
+    if packing::sample::allowed_word(depth, w) {
+        return 0;
+    }
+    1
+}
+
+// Whether all may. Each is looked at, so that the loop has one way out and takes many at a time.
+fn each_allowed(depth: u8, rows: &[u16]) -> bool
+    ensures { λ r. ⌜ r ≡ allAllowed depth (now (rows .entry)) ⌝ }
+{
+    let mut found = 0;
+    let mut i = 0;
+    while i < rows.len() {
+        found = found | wrong_word(depth, rows[i]);
+        i += 1;
+    }
+    found == 0
+}
+
+// The same, by a depth that the compiler knows in either call, so that no turn asks for it.
+pub fn all_allowed(depth: u8, rows: &[u16]) -> bool
+    ensures { λ r. ⌜ r ≡ allAllowed depth (now (rows .entry)) ⌝ }
+{
+    if depth == 10 {
+        return each_allowed(10, rows);
+    }
+    each_allowed(12, rows)
+}

@@ -1,0 +1,79 @@
+// The words of a window, the replaced bytes of its timing codes at their fixed values (document 01, "A span").
+use packing::bytes::ThreeBytes;
+use span::content::ContentBytes;
+use span::format::Shape;
+ghost use mathlib.Core.Path.{_≡_};
+ghost use Prim.Native.Nat.{_*_, _≤_, _<_};
+ghost use lib.ListN.{length};
+ghost use Rattle.span.specs.Format.{pairsIn};
+ghost use Rattle.window.specs.Read.{contentIn};
+ghost use Rattle.window.specs.Words.{fixedByte, byteAt, wordAt};
+ghost use Rattle.window.specs.Given.{Given};
+
+// Byte i of a timing code that is replaced when it is sent: FF of the words FFF, and with two streams, where the third word is 000
+// already, 00 at the end.
+fn fixed_byte(half: usize, i: usize) -> u8
+    requires { ⌜ 1 ≤ half ⌝ }
+    requires { ⌜ half ≤ 2 ⌝ }
+    requires { ⌜ i < 4 ⌝ }
+    ensures { λ r. ⌜ r ≡ fixedByte (2 * half) i ⌝ }
+{
+    if half == 1 {
+        if i == 3 {
+            return 0x00;
+        }
+    }
+    0xFF
+}
+
+// Byte i of a window.
+fn byte_at(t: &[u16; 1024], p: Shape, symbols: &[u16], i: usize) -> u8
+    requires { ⌜ Given p (now t) (now symbols) ⌝ }
+    requires { ⌜ i < length (now symbols) ⌝ }
+    ensures { λ r. ⌜ r ≡ byteAt p (now (symbols .entry)) i ⌝ }
+{
+    let eav = span::layout::EAV_SYMBOL * p.half;
+    if i < 4 {
+        return fixed_byte(p.half, i);
+    }
+    if i < eav {
+        return decoder::table::byte_of(t, symbols[i]);
+    }
+    if i < eav + 4 {
+        return fixed_byte(p.half, i - eav);
+    }
+    decoder::table::byte_of(t, symbols[i])
+}
+
+// Interleaved word k of a window.
+pub(crate) fn word_at(t: &[u16; 1024], p: Shape, symbols: &[u16], k: usize) -> u16
+    requires { ⌜ Given p (now t) (now symbols) ⌝ }
+    requires { ⌜ k < 2 * pairsIn p ⌝ }
+    ensures word { λ r. ⌜ r ≡ wordAt p (now (symbols .entry)) k ⌝ }
+    ensures small { λ r. ⌜ r < 4096 ⌝ }
+{
+    let q = k / 2;
+    let w = packing::bytes::unpack(ThreeBytes {
+        first: byte_at(t, p, symbols, 3 * q),
+        second: byte_at(t, p, symbols, 3 * q + 1),
+        third: byte_at(t, p, symbols, 3 * q + 2),
+    });
+    if k % 2 == 0 {
+        return w.a;
+    }
+    w.b
+}
+
+// The content bytes behind the special characters of SAV and EAV.
+pub(crate) fn content_in(t: &[u16; 1024], p: Shape, symbols: &[u16]) -> ContentBytes
+    requires { ⌜ Given p (now t) (now symbols) ⌝ }
+    ensures { λ r. ⌜ r ≡ contentIn p (now (symbols .entry)) ⌝ }
+{
+    let eav = span::layout::EAV_SYMBOL * p.half;
+    ContentBytes {
+        sav1: decoder::table::byte_of(t, symbols[2]),
+        sav2: decoder::table::byte_of(t, symbols[3]),
+        eav1: decoder::table::byte_of(t, symbols[eav + 2]),
+        eav2: decoder::table::byte_of(t, symbols[eav + 3]),
+    }
+}

@@ -1,2 +1,0 @@
-pub mod Fill
-pub mod Picture
