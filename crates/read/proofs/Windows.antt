@@ -1,10 +1,12 @@
 -- What the parts answer of a window, and what its reading answers.
 -- Assumes nothing.
 use mathlib.Core.Path.{_≡_, refl, sym, ap, _∙_}
-use mathlib.Core.Bool.{Bool, true, false, not}
+use mathlib.Core.Bool.{Bool, true, false, not, true≢false}
+use mathlib.Core.Logic.{⊎-elim}
 use mathlib.Core.List.{List}
 use mathlib.Core.Option.{Option, none, some, Option·getD}
 use Prim.Native.Nat.{ℕ, _≤_, _<_}
+use native.Mathlib.Nat.{eq-or-lt-of-le}
 use native.Mathlib.Omega.{arith}
 use lib.Dec.{eqb}
 use lib.ListN.{length, take, replicate}
@@ -19,7 +21,6 @@ use Rattle.span.proofs.Formats.{small}
 use Rattle.span.proofs.Lengths.{known-has-streams}
 use Rattle.read_test21_26.specs.Fill.{fillIf}
 use Rattle.window.specs.Fill.{fillRight}
-use Rattle.read_test21_26.specs.Picture.{sumsIf, rowsIf}
 use Rattle.window.specs.Columns.{sumsOf}
 use Rattle.read_test21_26.specs.declared.call.Service.{Service}
 use Rattle.read_test21_26.specs.declared.service.Verdict.{Verdict}
@@ -37,6 +38,17 @@ use Rattle.read.specs.Window.{IsWindow}
 use Rattle.read.proofs.Picturing.{length-rows}
 use Rattle.read.proofs.Summing.{sums-right}
 use Rattle.read.proofs.Verdicts.{given-by, refused-by}
+use Rattle.read_test20.specs.Whole.{wholeIf, placeIf20}
+
+-- the place of test 20 is no further than the end
+pub place-most : (p : Shape) (w : List ℕ) → place20 p w ≤ length w
+unfolding place20
+place-most p w = go (firstBelow (length w) (λ i. not (holds20 p w i))) refl
+  where
+    go : (o : Option ℕ) → firstBelow (length w) (λ i. not (holds20 p w i)) ≡ o
+        → Option·getD (firstBelow (length w) (λ i. not (holds20 p w i))) (length w) ≤ length w
+    go none e = rw e (omega arith)
+    go (some k) e = rw e (omega (arith, hit (λ i. not (holds20 p w i)) (length w) k e .below))
 
 module _ (f : Format) (w : List ℕ) (is : IsWindow f w) where
   abbrev word : ℕ → ℕ
@@ -46,15 +58,9 @@ module _ (f : Format) (w : List ℕ) (is : IsWindow f w) where
   long = eq-eqb (length w) (symbolsIn (shapeOf f)) (is .long)
 
   -- ---- the parts
-  pub rows-are : {l : List ℕ} (entry : List ℕ) → length entry ≡ samplesIn (shapeOf f) → l ≡ rowsIf f w entry → l ≡ pictureOf f w
-  rows-are entry n e = e ∙ rw (is .known, long, eq-eqb (length entry) (samplesIn (shapeOf f)) n)
-
   pub is-picture : {l : List ℕ} → l ≡ rowsOf (streams (shapeOf f)) word → l ≡ pictureOf f w
   unfolding pictureOf
   is-picture e = e
-
-  pub sums-are : {c : Sums} (n : ℕ) → n ≡ samplesIn (shapeOf f) → c ≡ sumsIf f w n → c ≡ sumsOf (shapeOf f) w
-  sums-are n e sums = sums ∙ rw (is .known, long, eq-eqb n (samplesIn (shapeOf f)) e)
 
   pub service-is : {r : Service} {c : Sums} → c ≡ sumsOf (shapeOf f) w → r ≡ serviceIf f w c
       → r ≡ serviceOf (shapeOf f) w (sumsOf (shapeOf f) w)
@@ -102,6 +108,16 @@ module _ (f : Format) (w : List ℕ) (is : IsWindow f w) where
       go none q = let z : length w < length w = rw q at h in absurd (omega arith)
       go (some k) q = rw q
 
+  -- one pass says that it does not hold at all, and where
+  pub fails-20 : (room : ℕ) → room ≡ samplesIn (shapeOf f) → wholeIf f w room ≡ false → place20 (shapeOf f) w < length w
+  fails-20 room e t =
+      let other : place20 (shapeOf f) w ≡ length w → ⊥ =
+      λ q. true≢false (sym (rw (is .known, long, eq-eqb room (samplesIn (shapeOf f)) e, eq-eqb (place20 (shapeOf f) w) (length w) q) refl) ∙ t) in
+      ⊎-elim (λ q. absurd (other q)) (λ q. q) (eq-or-lt-of-le (place-most (shapeOf f) w))
+
+  pub place-20 : (room : ℕ) → room ≡ samplesIn (shapeOf f) → placeIf20 f w room ≡ place20 (shapeOf f) w
+  place-20 room e = rw (is .known, long, eq-eqb room (samplesIn (shapeOf f)) e)
+
   -- ---- the reading
   pub read-20 : place20 (shapeOf f) w < length w → readSpan f w ≡ refused 20 (place20 (shapeOf f) w)
   unfolding readSpan
@@ -135,16 +151,6 @@ module _ (f : Format) (w : List ℕ) (room : ℕ) where
   pub no-window : isKnown f ≡ true → (length w ≡ symbolsIn (shapeOf f) → ⊥) → (readOf f w room ≡ refused 3 0) × (judgeOf f w ≡ refused 3 0)
   no-window k x =
       let n = ne-eqb (length w) (symbolsIn (shapeOf f)) x in (rw (k, n), rw (k, n))
-
--- the place of test 20 is no further than the end
-pub place-most : (p : Shape) (w : List ℕ) → place20 p w ≤ length w
-unfolding place20
-place-most p w = go (firstBelow (length w) (λ i. not (holds20 p w i))) refl
-  where
-    go : (o : Option ℕ) → firstBelow (length w) (λ i. not (holds20 p w i)) ≡ o
-        → Option·getD (firstBelow (length w) (λ i. not (holds20 p w i))) (length w) ≤ length w
-    go none e = rw e (omega arith)
-    go (some k) e = rw e (omega (arith, hit (λ i. not (holds20 p w i)) (length w) k e .below))
 
 -- ---- the rows afterwards
 module _ {number place : ℕ} (f : Format) (w entry made : List ℕ) (e : readSpan f w ≡ refused number place) where

@@ -1,6 +1,6 @@
 // What a span delivers, the rows apart.
+use read_test20::place::Scanned;
 use read_test21_26::call::Service;
-use scan::scan::Scanned;
 use window::delivery::Delivery;
 ghost use mathlib.Core.Path.{_≡_};
 

@@ -1,9 +1,9 @@
 // The two calls (document 01, "Receiving and finding").
 use crate::answer::Read;
 use crcc::sums::Sums;
+use read_test20::place::Scanned;
 use read_test21_26::call::Service;
 use read_test21_26::service::Verdict;
-use scan::scan::Scanned;
 use span::format::Format;
 ghost use mathlib.Core.Path.{_≡_};
 ghost use mathlib.Core.Bool.{true};
@@ -74,21 +74,6 @@ fn read_words(
     Read::Delivered(crate::delivery::delivery(scanned, service))
 }
 
-// A window that one pass does not take for whole: test 20 first, for its place, and the picture behind it.
-fn read_by_steps(f: Format, symbols: &[u16], rows: &mut [u16]) -> Read
-    requires { ⌜ IsWindow f (now symbols) ⌝ }
-    requires { ⌜ length (now rows) ≡ samplesIn (shapeOf f) ⌝ }
-    ensures answer { λ r. ⌜ paperRead r ≡ readSpan f (now (symbols .entry)) ⌝ }
-    ensures rows { λ _. ⌜ ((room : List ℕ) → length room ≡ length (now (rows .entry)) → now (rows .exit) ≡ rowsLeft (readSpan f (now (symbols .entry))) room (pictureOf f (now (symbols .entry)))) ⌝ }
-{
-    let scanned = scan::scan::scan(f, symbols);
-    if scanned.place < symbols.len() {
-        return refuse(20, scanned.place, rows);
-    }
-    let c = read_test21_26::picture::take_picture(f, symbols, rows);
-    read_words(f, symbols, scanned, c, false, rows)
-}
-
 // A window, into rows of its format's length.
 fn read_window(f: Format, symbols: &[u16], rows: &mut [u16]) -> Read
     requires { ⌜ IsWindow f (now symbols) ⌝ }
@@ -108,7 +93,7 @@ fn read_window(f: Format, symbols: &[u16], rows: &mut [u16]) -> Read
         };
         return read_words(f, symbols, scanned, c, taken.filled, rows);
     }
-    read_by_steps(f, symbols, rows)
+    refuse(20, taken.place, rows)
 }
 
 // Reads exactly one span, into s x 1920 words stream by stream.
