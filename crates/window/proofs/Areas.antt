@@ -1,18 +1,20 @@
 -- Which words each test judges, in the paper's own numbers: at every other word it holds. So no word of the ancillary area is judged, and
 -- no picture word of a blanking line.
 -- Assumes nothing.
-use mathlib.Core.Path.{_≡_, refl}
+use mathlib.Core.Path.{_≡_, refl, ap}
 use mathlib.Core.Bool.{Bool, true, false, cond, true≢false}
 use mathlib.Core.Logic.{_⊎_, inl, inr, ⊎-elim}
 use mathlib.Core.Option.{none}
 use Prim.Native.Nat.{ℕ, _+_, _≤_, _<_}
-use lib.Dec.{ltb}
+use lib.Dec.{eqb, ltb}
 use borrow.Author.Tests.{eq-eqb, eqb-true, ltb-true, ltb-false}
 use Rattle.ground.specs.Range.{within}
+use Rattle.ground.specs.Search.{isSome}
 use Rattle.ground.proofs.Ranges.{from-low, to-high}
 use Rattle.line.specs.Stream.{isActive}
 use Rattle.span.specs.declared.format.Format.{Format}
 use Rattle.span.specs.Format.{shapeOf}
+use Rattle.span.specs.Span.{fillWord}
 use Rattle.word.specs.LineNumber.{lineOf}
 use Rattle.window.specs.Tests.{mayBring, wordOf, holds21, lineRead, holds22, holds23, holds24, holds25, holds26}
 
@@ -70,13 +72,15 @@ module _ (s : ℕ) (word : ℕ → ℕ) (j t : ℕ) where
   -- the fill
   pub judged-26 : (f : Format) → holds26 s word f j t ≡ false → 1932 + shapeOf f .ancillary ≤ j
   unfolding holds26
-  judged-26 f e = ltb-false _ _ (unless _ _ e)
+  judged-26 f e =
+      let ahead = ltb j (1932 + shapeOf f .ancillary) in
+      ltb-false _ _ (unless ahead (eqb (wordOf s word j t) fillWord) e)
 
 -- whether stream 1 names a line is asked at its LN0, and not at its LN1
 module _ (s : ℕ) (word : ℕ → ℕ) where
   pub nameless : lineOf (wordOf s word 1928 0) (wordOf s word 1929 0) ≡ none → holds22 s word 1928 0 ≡ false
   unfolding holds22 within
-  nameless e = rw e
+  nameless e = ap isSome e
 
   pub asked-once : holds22 s word 1929 0 ≡ true
   unfolding holds22 within

@@ -2,7 +2,7 @@
 -- numbers.
 -- Assumes nothing.
 use mathlib.Core.Path.{_≡_, refl, sym, ap, _∙_}
-use mathlib.Core.Bool.{true, false}
+use mathlib.Core.Bool.{Bool, true, false, cond}
 use mathlib.Core.List.{List}
 use mathlib.Core.Logic.{_⊎_, inl, inr, ⊎-elim}
 use Prim.Native.Nat.{ℕ, zero, suc, _≤_}
@@ -114,7 +114,8 @@ module _ (f : Format) (w entry : List ℕ) where
         pub rows-after-refusal : {number place : ℕ} → readSpan f w ≡ refused number place → rowsRead f w entry ≡ replicate (length entry) 0
         rows-after-refusal {number} {place} e =
             let from : 20 ≤ number = numbers f w number place e .0 in
-            left (refused number place) (read f w (length entry) known long room ∙ e) ∙ simp (le-ltb number 20 from)
+            left (refused number place) (read f w (length entry) known long room ∙ e)
+            ∙ ap (λ (low : Bool). cond low entry (replicate (length entry) 0)) (le-ltb number _ (omega (arith, from)))
 
         -- and a span that is delivered its picture
         pub rows-delivered : {r : Delivery} → readSpan f w ≡ given r → rowsRead f w entry ≡ pictureOf f w

@@ -1,5 +1,7 @@
 -- `boundary::numbers::format_from` meets its contract: both numbers.
 -- Assumes nothing.
+use mathlib.Core.Path.{_∙_, ap₂}
+use Rattle.boundary.specs.Numbers.{formatFrom}
 use borrow.Author.Needs.{needs}
 use Rattle.boundary.proofs.numbers.format_from.Statement.{statement}
 use Rattle.boundary.proofs.numbers.format_from.Tie as tie
@@ -14,7 +16,8 @@ format-of-requires : tie.Need-format-of-requires
 format-of-requires c κs = search needs
 
 returns : tie.Need-returns
-returns c = cc
+returns c =
+    c .format-of .ensures ∙ ap₂ formatFrom (c .before .before .at-most-255 .ensures) (c .before .at-most-2552 .ensures)
 
 pub format-from-spec : {M : Type 1} → statement M
 format-from-spec =

@@ -8,7 +8,7 @@ is-positive-requires : tie.Need-is-positive-requires
 is-positive-requires c κs = search needs
 
 returns : tie.Need-returns
-returns c = cc
+returns c = rw (c .is-positive .ensures)
 
 pub decoded-spec : {M : Type 1} → statement M
 decoded-spec = tie.close (tie.spec is-positive-requires returns)

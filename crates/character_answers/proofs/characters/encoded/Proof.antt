@@ -11,7 +11,7 @@ is-positive-requires : tie.Need-is-positive-requires
 is-positive-requires c κs = search needs
 
 returns : tie.Need-returns
-returns c = cc
+returns c = rw (c .is-positive .ensures)
 
 pub encoded-spec : {M : Type 1} → statement M
 encoded-spec = tie.close (tie.spec cast-t3 is-positive-requires returns)

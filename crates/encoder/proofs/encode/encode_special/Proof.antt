@@ -1,6 +1,7 @@
 -- `encoder::encode::encode_special` meets its contract: a special character's number is below 268.
 -- Assumes nothing.
 use mathlib.Core.Path.{_∙_, ap}
+use native.Mathlib.Omega.{arith}
 use Rattle.symbol.proofs.Specials.{known}
 use Rattle.encoder.specs.Encode.{encoded}
 use borrow.Author.Needs.{needs}
@@ -11,7 +12,7 @@ number-requires : tie.Need-number-requires
 number-requires c κs = search needs
 
 encode-character-requires : tie.Need-encode-character-requires
-encode-character-requires c κs = rw (c .number .ensures) (known (c .before .args .k) .high)
+encode-character-requires c κs = omega (arith, c .number .ensures, known (c .before .args .k) .high)
 
 returns : tie.Need-returns
 returns c = c .encode-character .ensures ∙ ap (encoded (c .before .before .args .d)) (c .before .number .ensures)

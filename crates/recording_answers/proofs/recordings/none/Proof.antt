@@ -8,7 +8,7 @@ no-values-requires : tie.Need-no-values-requires
 no-values-requires c κs = search needs
 
 returns : tie.Need-returns
-returns c = cc
+returns c = rw (c .no-values .ensures)
 
 pub none-spec : {M : Type 1} → statement M
 none-spec = tie.close (tie.spec no-values-requires returns)

@@ -8,7 +8,7 @@ values-of-requires : tie.Need-values-of-requires
 values-of-requires c κs = search needs
 
 returns : tie.Need-returns
-returns c = cc
+returns c = rw (c .values-of .ensures)
 
 pub delivered-spec : {M : Type 1} → statement M
 delivered-spec = tie.close (tie.spec values-of-requires returns)

@@ -8,7 +8,7 @@ no-values-requires : tie.Need-no-values-requires
 no-values-requires c κs = search needs
 
 returns : tie.Need-returns
-returns c = cc
+returns c = rw (c .no-values .ensures)
 
 pub read-refused-spec : {M : Type 1} → statement M
 read-refused-spec = tie.close (tie.spec no-values-requires returns)

@@ -20,7 +20,12 @@ cast-t9 : tie.Need-cast-t9
 cast-t9 c = search needs
 
 returns : tie.Need-returns
-returns c = cc
+returns c =
+    rw (
+      c .before .before .before .number-of .ensures,
+      c .before .before .is-positive .ensures,
+      c .before .is-positive2 .ensures,
+    )
 
 pub values-of-spec : {M : Type 1} → statement M
 values-of-spec =

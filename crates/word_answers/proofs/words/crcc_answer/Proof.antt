@@ -29,7 +29,7 @@ enum-told : tie.Need-enum-told
 enum-told c = search needs
 
 returns : tie.Need-returns
-returns c = by-case told (cc) (c .before .before .before .before .r .given .1)
+returns c = by-case told (rw (c .before .before .crcc-words .ensures)) (c .before .before .before .before .r .given .1)
 
 returns-2 : tie.Need-returns-2
 returns-2 c = by-case told refl (c .enum-told .given .1)

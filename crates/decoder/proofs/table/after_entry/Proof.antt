@@ -1,0 +1,14 @@
+-- `decoder::table::after_entry` meets its contract: bit 11 of the entry says whether the disparity turns.
+-- Assumes nothing.
+use borrow.Author.Needs.{needs}
+use Rattle.decoder.proofs.table.after_entry.Statement.{statement}
+use Rattle.decoder.proofs.table.after_entry.Tie as tie
+
+turned-if-requires : tie.Need-turned-if-requires
+turned-if-requires c κs = search needs
+
+returns : tie.Need-returns
+returns c = c .turned-if .ensures
+
+pub after-entry-spec : {M : Type 1} → statement M
+after-entry-spec = tie.close (tie.spec turned-if-requires returns)
