@@ -1,5 +1,5 @@
-//! The clauses that comments cite: `004, 6.4 and table 9`, `document 01, "A span"`, `ANSI INCITS 230`. A clause of 004 that a comment begins with, as
-//! in `6.8: the blanking word`, needs no `004` before it.
+//! The clauses that comments cite: `004, 6.4 and table 9`, `document 01, "A span"`, `ANSI INCITS 230`. A clause of 004 that a comment begins
+//! with, as in `6.8: the blanking word`, needs no `004` before it.
 
 const PAPERS: [&str; 4] = ["004", "document 01", "ANSI INCITS 230", "IEEE 802.3"];
 

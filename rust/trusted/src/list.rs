@@ -8,6 +8,19 @@ use std::fmt::Write;
 
 pub const PATH: &str = "docs/TRUSTED.md";
 
+const INTRODUCTION: &str = "# What a reviewer must believe
+
+The check shows that the code keeps its contracts. That the contracts say what document 01 and the standard say, somebody has to read. This
+is the list of what there is to read for that: the contracts at which the reading begins, and the definitions and types that they are made of.
+What is not listed need not be believed: `specs/Inside/` and `proofs/` are how it is shown. Names of the toolchain's own libraries are not
+followed.
+
+`rust/trusted` makes this list from the text: it begins at the roots named below (`rust/trusted/src/roots.rs`) and follows every name.
+`./test` fails where the list is another, where a root comes to a definition in `specs/Inside/`, and where one outside of it is reached from
+no root.
+
+";
+
 const PARTS: [(Part, &str); 2] =
     [(Part::Calls, "what the calls, the demands and the values reach"), (Part::Programs, "what only the programs' contracts reach")];
 
@@ -59,16 +72,8 @@ impl List<'_> {
 
     fn introduction(&self, out: &mut String) -> std::fmt::Result {
         let [definitions, types] = self.totals(None);
-        let contracts: usize = self.reached.begun.iter().filter(|b| !b.what.starts_with("all")).map(|b| b.lines).sum();
-        writeln!(out, "# What a reviewer must believe\n")?;
-        writeln!(out, "The check shows that the code keeps its contracts. That the contracts say what document 01 and the standard say, somebody has to read. This is")?;
-        writeln!(out, "the list of what there is to read for that, and nothing that is not listed has to be believed: the contracts at which the reading begins, and")?;
-        writeln!(
-            out,
-            "the definitions and types that they are made of. What stands in `specs/Inside/`, and in `proofs/`, is how it is shown.\n"
-        )?;
-        writeln!(out, "`rust/trusted` makes this list from the text: it begins at the roots named below (`rust/trusted/src/roots.rs`) and follows every name. `./test`")?;
-        writeln!(out, "fails where the list is another, where a root comes to a definition in `specs/Inside/`, and where one outside of it is reached from no root.\n")?;
+        let contracts: usize = self.reached.contracts.values().sum();
+        out.push_str(INTRODUCTION);
         let (count, all) = (definitions.number + types.number, definitions.lines + types.lines);
         writeln!(out, "In all {all} lines, comments among them: {count} definitions and types; and {contracts} lines of contracts.\n")
     }

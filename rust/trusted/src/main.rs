@@ -1,7 +1,11 @@
-//! What a reviewer must believe: follows the definitions of specs/ from the contracts and demands that somebody outside asks for (`roots`), and holds the
-//! project to it. `trusted ROOT` fails where a root comes to a definition in specs/Inside/, where a definition outside of it is reached from no
-//! root, and where docs/TRUSTED.md is not the list that comes out. With `--write` it writes that list; with `--statistics` it prints its numbers
-//! alone, and with `--unreached` the definitions that belong into Inside/, each as path, first line of its comment, first line, last line and name.
+//! What a reviewer must believe: follows the definitions of specs/ from the contracts and demands that somebody outside asks for (`roots`), and
+//! holds the project to it. `trusted ROOT` fails where a root comes to a definition in specs/Inside/, where a definition outside of it is
+//! reached from no root, and where docs/TRUSTED.md is not the list that comes out.
+//!
+//! With `--write` it writes that list. With `--statistics` it prints its numbers alone, and with `--unreached` the definitions that belong into
+//! Inside/: path, first line of the comment, first line, last line and name of each.
+//!
+//! `words` and `names` read antt, `specs` and `source` the two kinds of files, `project` puts them together, `reach` follows, `list` writes.
 
 mod citations;
 mod list;
@@ -49,14 +53,20 @@ fn judged(list: &List, root: &Path, write: bool) -> Result<Vec<String>, String> 
 }
 
 fn run(root: &Path, option: Option<&str>) -> Result<Vec<String>, String> {
-    let mut project = Project::read(root)?;
-    let reached = Reached::from(&mut project, ROOTS);
+    let project = Project::read(root)?;
+    let reached = Reached::from(&project, ROOTS);
     let list = List { project: &project, reached: &reached };
     match option {
         None => judged(&list, root, false),
         Some("--write") => judged(&list, root, true),
-        Some("--statistics") => Ok(statistics(&list)).map(|()| Vec::new()),
-        Some("--unreached") => Ok(unreached(&list)).map(|()| Vec::new()),
+        Some("--statistics") => {
+            statistics(&list);
+            Ok(Vec::new())
+        }
+        Some("--unreached") => {
+            unreached(&list);
+            Ok(Vec::new())
+        }
         Some(other) => Err(format!("{other}: no such option")),
     }
 }

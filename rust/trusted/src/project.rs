@@ -3,19 +3,25 @@
 use crate::names::Reader;
 use crate::source::{self, Function, Source, Type};
 use crate::specs::{self, Definition, Kind, Spec, Use};
-use crate::words::words;
+use crate::words::{words, Word};
 use std::collections::HashMap;
 use std::fs;
 use std::path::{Path, PathBuf};
 
-/// A definition of specs/, or a type of src/ that definitions name.
+/// A definition of specs/, or a type of src/.
 pub struct Node {
     pub name: String,
     pub file: usize,
     /// The first line of its comment, its own first line, its last.
     pub lines: [usize; 3],
+    /// How many lines there are to read, comments among them.
     pub size: usize,
     pub refers: Vec<usize>,
+}
+
+pub enum Text {
+    Spec(Spec),
+    Source(Source),
 }
 
 pub struct File {
@@ -28,18 +34,17 @@ pub struct File {
     pub nodes: Vec<usize>,
 }
 
-pub enum Text {
-    Spec(Spec),
-    Source(Source),
-}
-
 impl File {
-    pub fn is_inside(&self) -> bool {
-        self.module.starts_with("Inside.")
-    }
-
-    pub fn is_laws(&self) -> bool {
-        self.path.ends_with("/Laws.antt")
+    /// `crates/one/specs/Inside/Code.antt` is module `Inside.Code` of crate one.
+    fn parse(path: &str, text: &str) -> Option<File> {
+        let mut parts = path.splitn(4, '/').skip(1);
+        let (krate, folder, inner) = (parts.next()?, parts.next()?, parts.next()?);
+        let module = inner.rsplit_once('.')?.0.replace('/', ".");
+        let text = match folder {
+            "specs" => Text::Spec(specs::parse(text)),
+            _ => Text::Source(source::parse(text)),
+        };
+        Some(File { krate: krate.to_string(), path: path.to_string(), module, text, nodes: Vec::new() })
     }
 
     pub fn spec(&self) -> Option<&Spec> {
@@ -55,25 +60,59 @@ impl File {
             Text::Spec(_) => None,
         }
     }
+
+    pub fn is_inside(&self) -> bool {
+        self.spec().is_some() && self.module.starts_with("Inside.")
+    }
+
+    pub fn is_laws(&self) -> bool {
+        self.path.ends_with("/Laws.antt")
+    }
+
+    /// The module by which `use` lines name it: a type of src/format.rt is in `declared.format`.
+    fn used_as(&self) -> String {
+        match self.text {
+            Text::Spec(_) => self.module.clone(),
+            Text::Source(_) => format!("declared.{}", self.module),
+        }
+    }
 }
 
-/// Crate, module, name. A type of src/format.rt is in module `declared.format`.
-type Key = (String, String, String);
+/// Crate, module, name.
+pub type Key = (String, String, String);
 
-#[derive(Default)]
-pub struct Project {
-    /// In the order of crates.txt.
-    pub crates: Vec<String>,
-    pub files: Vec<File>,
-    pub nodes: Vec<Node>,
-    /// What a name stands for, and whether patterns may have it.
-    index: HashMap<Key, (usize, bool)>,
-    pub faults: Vec<String>,
+fn key(krate: &str, module: &str, name: &str) -> Key {
+    (krate.to_string(), module.to_string(), name.to_string())
+}
+
+/// What a name stands for, and whether it may stand in a pattern without being bound there.
+#[derive(Clone, Copy)]
+struct Meant {
+    node: usize,
+    constructs: bool,
 }
 
 /// What the names of one file stand for.
-type Scope = HashMap<String, (usize, bool)>;
+type Scope = HashMap<String, Meant>;
 
+/// A name between the blanks of an operator, `⊕` of `_⊕_`, stands for it too.
+fn spelt(name: &str) -> Vec<String> {
+    let is_operator = name.contains('_') && !name.contains('«');
+    let parts = name.split('_').filter(|part| is_operator && !part.is_empty());
+    std::iter::once(name).chain(parts).map(String::from).collect()
+}
+
+#[derive(Default)]
+pub struct Project {
+    /// In the order of crates.txt, which is the order of reading.
+    pub crates: Vec<String>,
+    pub files: Vec<File>,
+    pub nodes: Vec<Node>,
+    index: HashMap<Key, Meant>,
+    pub faults: Vec<String>,
+}
+
+/// The files below a folder that end so, by name.
 fn below(folder: &Path, ending: &str) -> Vec<PathBuf> {
     let entries = fs::read_dir(folder).into_iter().flatten().flatten();
     let mut paths: Vec<PathBuf> = entries.map(|entry| entry.path()).collect();
@@ -85,187 +124,139 @@ fn below(folder: &Path, ending: &str) -> Vec<PathBuf> {
     paths.into_iter().flat_map(each).filter(|path| path.to_string_lossy().ends_with(ending)).collect()
 }
 
-/// `a/B.antt` below a folder is module `a.B`.
-fn module(folder: &Path, path: &Path) -> String {
-    let inner = path.strip_prefix(folder).expect("a file of the folder").with_extension("");
-    inner.iter().map(|part| part.to_string_lossy()).collect::<Vec<_>>().join(".")
-}
-
-/// A name between two blanks of an operator, `⊕` of `_⊕_`, stands for it too.
-fn called(name: &str) -> Vec<String> {
-    let parts = name.split('_').filter(|part| name.contains('_') && !name.contains('«') && !part.is_empty());
-    std::iter::once(name).chain(parts).map(String::from).collect()
-}
-
 impl Project {
     pub fn read(root: &Path) -> Result<Project, String> {
-        let mut project = Project::default();
-        let list = fs::read_to_string(root.join("crates.txt")).map_err(|e| format!("crates.txt: {e}"))?;
+        let text = |path: &Path| fs::read_to_string(path).map_err(|e| format!("{}: {e}", path.display()));
+        let list = text(&root.join("crates.txt"))?;
         let lines = list.lines().map(|line| line.split('#').next().unwrap_or(""));
-        project.crates = lines.filter_map(|line| line.split_once(':')).map(|(name, _)| name.trim().to_string()).collect();
-        for krate in project.crates.clone() {
-            project.read_crate(root, &krate)?;
-        }
-        for file in 0..project.files.len() {
-            project.connect(file);
-        }
-        Ok(project)
-    }
-
-    fn read_crate(&mut self, root: &Path, krate: &str) -> Result<(), String> {
-        for (part, ending) in [("specs", ".antt"), ("src", ".rt")] {
-            let folder = root.join("crates").join(krate).join(part);
-            for path in below(&folder, ending) {
-                let text = fs::read_to_string(&path).map_err(|e| format!("{}: {e}", path.display()))?;
-                let told = path.strip_prefix(root).unwrap_or(&path).to_string_lossy().to_string();
-                self.add(krate, told, module(&folder, &path), &text, part == "specs");
+        let crates: Vec<String> = lines.filter_map(|line| line.split_once(':')).map(|(name, _)| name.trim().to_string()).collect();
+        let mut files = Vec::new();
+        for krate in &crates {
+            let folder = root.join("crates").join(krate);
+            for path in below(&folder.join("specs"), ".antt").into_iter().chain(below(&folder.join("src"), ".rt")) {
+                let told = path.strip_prefix(root).unwrap_or(&path).to_string_lossy().replace('\\', "/");
+                files.push((told, text(&path)?));
             }
         }
-        Ok(())
+        Ok(Project::of(crates, &files))
     }
 
-    pub fn add(&mut self, krate: &str, path: String, module: String, text: &str, is_spec: bool) {
-        let text = match is_spec {
-            true => Text::Spec(specs::parse(text)),
-            false => Text::Source(source::parse(text)),
-        };
-        let file = File { krate: krate.to_string(), path, module, text, nodes: Vec::new() };
-        self.files.push(file);
-        self.enter(self.files.len() - 1);
+    /// Files as path and text.
+    pub fn of(crates: Vec<String>, files: &[(String, String)]) -> Project {
+        let files = files.iter().filter_map(|(path, text)| File::parse(path, text)).collect();
+        let mut project = Project { crates, files, ..Project::default() };
+        (0..project.files.len()).for_each(|file| project.enter(file));
+        (0..project.files.len()).for_each(|file| project.connect(file));
+        project
     }
 
     /// Enters what a file defines.
     fn enter(&mut self, file: usize) {
-        let at = &self.files[file];
-        let mut entered: Vec<(Node, String, Vec<String>)> = Vec::new();
         let node = |name: &str, lines, size| Node { name: name.to_string(), file, lines, size, refers: Vec::new() };
-        match &at.text {
-            Text::Spec(spec) => spec.definitions.iter().for_each(|d| {
-                entered.push((node(&d.name, [d.top, d.from, d.to], d.size), at.module.clone(), d.constructors.clone()));
-            }),
-            Text::Source(source) => source.types.iter().for_each(|t| {
-                entered.push((node(&t.name, [t.from, t.from, t.to], t.size), format!("declared.{}", at.module), Vec::new()));
-            }),
-        }
-        let krate = at.krate.clone();
-        for (node, module, constructors) in entered {
-            let (id, is_type) = (self.nodes.len(), module.starts_with("declared."));
-            self.index.insert((krate.clone(), module.clone(), node.name.clone()), (id, is_type));
-            for name in constructors {
-                self.index.insert((krate.clone(), module.clone(), name), (id, true));
+        let at = &mut self.files[file];
+        let (krate, module) = (at.krate.clone(), at.used_as());
+        let nodes: Vec<(Node, &[String])> = match &at.text {
+            Text::Spec(spec) => {
+                spec.definitions.iter().map(|d| (node(&d.name, [d.top, d.from, d.to], d.size), &d.constructors[..])).collect()
             }
-            self.nodes.push(node);
-            self.files[file].nodes.push(id);
+            Text::Source(source) => source.types.iter().map(|t| (node(&t.name, [t.from, t.from, t.to], t.size), &[][..])).collect(),
+        };
+        for (new, constructors) in nodes {
+            let id = self.nodes.len();
+            let is_type = matches!(at.text, Text::Source(_));
+            self.index.insert(key(&krate, &module, &new.name), Meant { node: id, constructs: is_type });
+            self.index.extend(constructors.iter().map(|name| (key(&krate, &module, name), Meant { node: id, constructs: true })));
+            self.nodes.push(new);
+            at.nodes.push(id);
         }
     }
 
-    /// What a `use` line brings.
-    fn brought(&mut self, path: &str, used: &Use, scope: &mut Scope) {
-        if !self.crates.contains(&used.krate) {
-            return;
-        }
+    /// What one name of a `use` line stands for. Of a type's variants it is the type.
+    fn meant(&self, used: &Use, name: &str) -> Option<Meant> {
         let module = used.module.trim_end_matches(".the-variants");
-        for (there, here) in &used.names {
-            let (module, name) = match module.starts_with("declared.") {
-                true => module.rsplit_once('.').expect("a dot behind `declared`"),
-                false => (module, there.as_str()),
-            };
-            match self.index.get(&(used.krate.clone(), module.to_string(), name.to_string())) {
-                Some(found) => scope.extend(called(here).into_iter().map(|part| (part, *found))),
-                None => self.faults.push(format!("{path}: uses `{name}` of {}, {module}, where it is not defined", used.krate)),
-            }
-        }
-    }
-
-    fn own(&self, file: &File, scope: &mut Scope) {
-        let module = match file.text {
-            Text::Spec(_) => file.module.clone(),
-            Text::Source(_) => format!("declared.{}", file.module),
+        let (module, name) = match module.starts_with("declared.") {
+            true => module.rsplit_once('.')?,
+            false => (module, name),
         };
-        for ((krate, of, name), found) in &self.index {
-            if *krate == file.krate && *of == module {
-                scope.extend(called(name).into_iter().map(|part| (part, *found)));
-            }
-        }
+        self.index.get(&key(&used.krate, module, name)).copied()
     }
 
-    /// What the names of a file stand for.
-    fn scope(&mut self, file: usize) -> Scope {
+    /// What the names of a file stand for, and what of its `use` lines is not understood.
+    fn scope(&self, file: &File) -> (Scope, Vec<String>) {
+        let (uses, strange) = match &file.text {
+            Text::Spec(spec) => (&spec.uses, &spec.strange),
+            Text::Source(source) => (&source.uses, &source.strange),
+        };
+        let mut faults: Vec<String> = strange.iter().map(|line| format!("{}: a `use` in no known form: {line}", file.path)).collect();
         let mut scope = Scope::new();
-        let path = self.files[file].path.clone();
-        let (uses, strange) = match &mut self.files[file].text {
-            Text::Spec(spec) => (std::mem::take(&mut spec.uses), &spec.strange),
-            Text::Source(source) => (std::mem::take(&mut source.uses), &source.strange),
-        };
-        self.faults.extend(strange.iter().map(|line| format!("{path}: a `use` in no known form: {line}")));
-        for used in &uses {
-            self.brought(&path, used, &mut scope);
-        }
-        match &mut self.files[file].text {
-            Text::Spec(spec) => spec.uses = uses,
-            Text::Source(source) => source.uses = uses,
-        }
-        self.own(&self.files[file], &mut scope);
-        scope
-    }
-
-    /// What the types' names in a file of src/ stand for.
-    fn types(&self, file: &File, source: &Source) -> HashMap<String, usize> {
-        let mut found = HashMap::new();
-        for path in &source.types_used {
-            let own = !self.crates.contains(&path[0]);
-            let krate = if own { &file.krate } else { &path[0] };
-            let inner = &path[usize::from(!own || path[0] == "crate")..];
-            let Some((name, modules)) = inner.split_last() else { continue };
-            if let Some((id, _)) = self.index.get(&(krate.clone(), format!("declared.{}", modules.join(".")), name.clone())) {
-                found.insert(name.clone(), *id);
+        for used in uses.iter().filter(|used| self.crates.contains(&used.krate)) {
+            for (there, here) in &used.names {
+                match self.meant(used, there) {
+                    Some(meant) => scope.extend(spelt(here).into_iter().map(|name| (name, meant))),
+                    None => faults.push(format!("{}: `{there}` is not defined in {}, {}", file.path, used.krate, used.module)),
+                }
             }
         }
-        for kind in &source.types {
-            let key = (file.krate.clone(), format!("declared.{}", file.module), kind.name.clone());
-            found.insert(kind.name.clone(), self.index[&key].0);
+        let own = self.index.iter().filter(|((krate, module, _), _)| *krate == file.krate && *module == file.used_as());
+        scope.extend(own.flat_map(|((_, _, name), meant)| spelt(name).into_iter().map(|name| (name, *meant))));
+        (scope, faults)
+    }
+
+    /// Crate, module and name of a path `a::b::c` in a file of src/: of its own crate where that has such a module.
+    pub fn resolved(&self, krate: &str, path: &[String]) -> Option<Key> {
+        let (name, modules) = path.split_last()?;
+        let inner = modules.strip_prefix(&["crate".to_string()]).unwrap_or(modules);
+        let own = inner.join(".");
+        if self.files.iter().any(|file| file.krate == krate && file.source().is_some() && file.module == own) {
+            return Some(key(krate, &own, name));
         }
-        found
+        let (library, inner) = inner.split_first()?;
+        Some(key(library, &inner.join("."), name))
+    }
+
+    /// What the names of types in a file of src/ stand for.
+    fn types(&self, file: &File, source: &Source) -> HashMap<String, usize> {
+        let of_path = |path: &Vec<String>| {
+            let (krate, module, name) = self.resolved(&file.krate, path)?;
+            let meant = self.index.get(&(krate, format!("declared.{module}"), name.clone()))?;
+            Some((name, meant.node))
+        };
+        let own = file.nodes.iter().map(|id| (self.nodes[*id].name.clone(), *id));
+        source.types_used.iter().filter_map(of_path).chain(own).collect()
     }
 
     /// Enters what each definition or type of a file refers to.
     fn connect(&mut self, file: usize) {
-        let scope = self.scope(file);
         let at = &self.files[file];
+        let (scope, faults) = self.scope(at);
         let refers: Vec<Vec<usize>> = match &at.text {
-            Text::Spec(spec) => spec.definitions.iter().map(|d| of_definition(d, &scope)).collect(),
+            Text::Spec(spec) => spec.definitions.iter().map(|definition| of_definition(definition, &scope)).collect(),
             Text::Source(source) => {
                 let types = self.types(at, source);
-                source.types.iter().map(|t| of_type(t, &types)).collect()
+                source.types.iter().map(|kind| of_type(kind, &types)).collect()
             }
         };
-        for (id, mut found) in self.files[file].nodes.clone().into_iter().zip(refers) {
-            found.sort();
-            found.dedup();
-            found.retain(|other| *other != id);
-            self.nodes[id].refers = found;
+        for (id, found) in at.nodes.iter().zip(refers) {
+            self.nodes[*id].refers = found;
         }
+        self.faults.extend(faults);
     }
 
     /// What a function's contract and the types of its signature refer to.
-    pub fn of_contract(&mut self, file: usize, function: usize) -> Vec<usize> {
-        let scope = self.scope(file);
-        let at = &self.files[file];
-        let source = at.source().expect("a file of src/");
-        let function = &source.functions[function];
-        let types = self.types(at, source);
-        let mut found: Vec<usize> = source::names(&function.signature).filter_map(|name| types.get(name).copied()).collect();
-        found.extend(taken_by(function).into_iter().filter_map(|name| scope.get(name)).map(|(id, _)| *id));
-        found
+    pub fn of_contract(&self, file: &File, function: &Function) -> Vec<usize> {
+        let Some(source) = file.source() else { return Vec::new() };
+        let (types, (scope, _)) = (self.types(file, source), self.scope(file));
+        let in_signature = source::names(&function.signature).filter_map(|name| types.get(name).copied());
+        let in_contract = taken_by(function).into_iter().filter_map(|name| scope.get(name)).map(|meant| meant.node);
+        in_signature.chain(in_contract).collect()
     }
 }
 
 /// The names that a contract takes from outside; parameters are its own.
 fn taken_by(function: &Function) -> Vec<&str> {
     let mut reader = Reader::new();
-    let before = function.signature.match_indices(": ").map(|(at, _)| &function.signature[..at]);
-    let parameters: Vec<&str> = before.filter_map(|text| source::names(text).last()).collect();
-    reader.own(parameters);
+    let before_colon = function.signature.match_indices(": ").map(|(at, _)| &function.signature[..at]);
+    reader.own(before_colon.filter_map(|text| source::names(text).last()).collect());
     for clause in &function.clauses {
         reader.expression(&words(clause));
     }
@@ -273,20 +264,20 @@ fn taken_by(function: &Function) -> Vec<&str> {
 }
 
 fn of_definition(definition: &Definition, scope: &Scope) -> Vec<usize> {
-    let constructs = |name: &str| scope.get(name).is_some_and(|(_, constructs)| *constructs);
+    let constructs = |name: &str| scope.get(name).is_some_and(|meant| meant.constructs);
     let mut reader = Reader::new();
     reader.expression(&words(&definition.parameters));
     for (i, piece) in definition.pieces.iter().enumerate() {
         let piece = words(piece);
         match definition.kind {
             Kind::Function if i == 0 => reader.signature(&piece),
-            Kind::Function if piece.first() == Some(&crate::words::Word::Name("unfolding")) => reader.expression(&piece),
+            Kind::Function if piece.first() == Some(&Word::Name("unfolding")) => reader.expression(&piece),
             Kind::Function => reader.clause(&piece, &constructs),
             _ if i == 0 => reader.head(&piece, &definition.name),
             _ => reader.signature(&piece),
         }
     }
-    reader.taken.iter().filter_map(|name| scope.get(*name)).map(|(id, _)| *id).collect()
+    reader.taken.iter().filter_map(|name| scope.get(*name)).map(|meant| meant.node).collect()
 }
 
 fn of_type(kind: &Type, types: &HashMap<String, usize>) -> Vec<usize> {

@@ -1,5 +1,5 @@
-//! A file of specs/: its head, its `use` lines and its definitions, told by how `rt fmt` lays them out. A definition begins at its signature, or at
-//! `record` or `data`, and has the lines below it that stand deeper, and those of its clauses.
+//! A file of specs/: its head, its `use` lines and its definitions, told by how `rt fmt` lays them out. A definition begins at its signature,
+//! or at `record` or `data`, and has the lines below it that stand deeper, and those of its clauses.
 
 use crate::words::without_comment;
 

@@ -1,5 +1,5 @@
-//! The words of antt: names, brackets, and the signs between them. A name is whatever stands between blanks, brackets, commas, semicolons and dots,
-//! so that `foo-bar`, `n'`, `«K28_5»` and `⊕` are one each.
+//! The words of antt: names, brackets, and the signs between them. A name is whatever stands between blanks, brackets, commas, semicolons and
+//! dots, so that `foo-bar`, `n'`, `«K28_5»` and `⊕` are one each.
 
 #[derive(Debug, Clone, Copy, PartialEq, Eq)]
 pub enum Word<'a> {
@@ -11,7 +11,7 @@ pub enum Word<'a> {
     Sign(char),
 }
 
-/// Texts without what stands behind `--`.
+/// A line without what stands behind `--`.
 pub fn without_comment(line: &str) -> &str {
     let starts = |at: &usize| line[..*at].ends_with(|c: char| c.is_whitespace()) || *at == 0;
     match line.match_indices("--").map(|(at, _)| at).find(starts) {
