@@ -3,7 +3,7 @@
 use crate::names::Reader;
 use crate::source::{self, Function, Source, Type};
 use crate::specs::{self, Definition, Kind, Spec, Use};
-use crate::words::{words, Word};
+use crate::words::{spelt, words, Word};
 use std::collections::HashMap;
 use std::fs;
 use std::path::{Path, PathBuf};
@@ -95,13 +95,6 @@ struct Meant {
 /// What the names of one file stand for.
 type Scope = HashMap<String, Meant>;
 
-/// A name between the blanks of an operator, `⊕` of `_⊕_`, stands for it too.
-fn spelt(name: &str) -> Vec<String> {
-    let is_operator = name.contains('_') && !name.contains('«');
-    let parts = name.split('_').filter(|part| is_operator && !part.is_empty());
-    std::iter::once(name).chain(parts).map(String::from).collect()
-}
-
 #[derive(Default)]
 pub struct Project {
     /// In the order of crates.txt, which is the order of reading.
@@ -187,7 +180,7 @@ impl Project {
             Text::Spec(spec) => (&spec.uses, &spec.strange),
             Text::Source(source) => (&source.uses, &source.strange),
         };
-        let mut faults: Vec<String> = strange.iter().map(|line| format!("{}: a `use` in no known form: {line}", file.path)).collect();
+        let mut faults: Vec<String> = strange.iter().map(|line| format!("{}: in no known form: {line}", file.path)).collect();
         let mut scope = Scope::new();
         for used in uses.iter().filter(|used| self.crates.contains(&used.krate)) {
             for (there, here) in &used.names {

@@ -131,7 +131,9 @@ pub fn parse(text: &str) -> Source {
         } else if let Some(name) = type_begins(line) {
             source.types.push(read_type(&lines, i, name));
         } else if let Some(name) = function_begins(line) {
-            source.functions.push(read_function(&lines, i, name));
+            let function = read_function(&lines, i, name);
+            source.strange.extend(function.clauses.iter().filter(|clause| clause.contains("Rattle·")).cloned());
+            source.functions.push(function);
         } else {
             source.calls.extend(calls(line));
         }

@@ -1,7 +1,7 @@
 //! A file of specs/: its head, its `use` lines and its definitions, told by how `rt fmt` lays them out. A definition begins at its signature,
 //! or at `record` or `data`, and has the lines below it that stand deeper, and those of its clauses.
 
-use crate::words::without_comment;
+use crate::words::{spelt, without_comment, words, Word};
 
 /// `use Rattle.CRATE.specs.MODULE.{a, b as c}`, or `.. as NAME`.
 #[derive(Debug, PartialEq, Eq)]
@@ -42,7 +42,7 @@ pub struct Spec {
     pub head: String,
     pub comments: Vec<String>,
     pub uses: Vec<Use>,
-    /// `use` lines of this project that are in no form known here.
+    /// Lines in no form that is known here: what they refer to is not followed.
     pub strange: Vec<String>,
     pub definitions: Vec<Definition>,
 }
@@ -130,6 +130,13 @@ impl Parser {
         self.within = 0;
     }
 
+    /// Whether a line that stands where definitions do belongs to the last one.
+    fn is_clause(&self, code: &str) -> bool {
+        let names = self.spec.definitions.last().map_or(Vec::new(), |last| spelt(&last.name));
+        code.trim().starts_with("unfolding ")
+            || words(code).iter().any(|word| matches!(word, Word::Name(name) if names.iter().any(|n| n == name)))
+    }
+
     /// One more line of the last definition.
     fn goes_on(&mut self, number: usize, line: &str) {
         let column = self.column();
@@ -184,11 +191,13 @@ impl Parser {
         let standing = indent(code) == self.column();
         match begins(code) {
             _ if code.starts_with("use ") || code.starts_with("pub use ") => self.used(code),
+            // A name by its whole path is not followed.
+            _ if code.contains("Rattle·") => self.spec.strange.push(code.trim().to_string()),
             _ if standing && code.trim_start().starts_with("module _") => self.opens(code),
             _ if code.trim_start().starts_with("infix") || code.starts_with("pub mod ") || code.starts_with("mod ") => {}
             Some((kind, name)) if standing => self.begin(number, code, kind, name),
-            _ if self.inside => self.goes_on(number, code),
-            _ => {}
+            _ if self.inside && (!standing || self.is_clause(code)) => self.goes_on(number, code),
+            _ => self.spec.strange.push(code.trim().to_string()),
         }
     }
 
@@ -276,5 +285,11 @@ pub data Answer : Type 0 where
         assert_eq!(spec.uses[1].module, "declared.at.Found.the-variants");
         assert_eq!(spec.uses[1].names, [(String::new(), "Found".to_string())]);
         assert!(parse_use("use Rattle.one.specs.Code").is_err());
+    }
+
+    #[test]
+    fn what_is_not_understood() {
+        assert_eq!(parse("pub f : ℕ\nf = Rattle.a.specs.B.c\n\naxiom g : ℕ\n").strange, ["f = Rattle.a.specs.B.c", "axiom g : ℕ"]);
+        assert!(parse(TEXT).strange.is_empty());
     }
 }

@@ -53,6 +53,13 @@ pub fn words(text: &str) -> Vec<Word<'_>> {
     found
 }
 
+/// A name between the blanks of an operator, `⊕` of `_⊕_`, stands for it too.
+pub fn spelt(name: &str) -> Vec<String> {
+    let is_operator = name.contains('_') && !name.contains('«');
+    let parts = name.split('_').filter(|part| is_operator && !part.is_empty());
+    std::iter::once(name).chain(parts).map(String::from).collect()
+}
+
 #[cfg(test)]
 mod tests {
     use super::*;
