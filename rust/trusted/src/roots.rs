@@ -1,0 +1,62 @@
+//! Where the reading begins. What is said here is what somebody outside asks for; everything else is reached from it.
+
+/// For whom a root stands.
+#[derive(Clone, Copy, PartialEq, Eq, Debug)]
+pub enum Part {
+    /// the customers' calls, and the demands
+    Calls,
+    /// the programs that come with the library
+    Programs,
+}
+
+/// What of a crate is a root.
+#[derive(Clone, Copy, PartialEq, Eq, Debug)]
+pub enum Start {
+    /// the contracts of what is marked `#[no_mangle] pub extern "C" fn`
+    Exported,
+    /// the contracts of every `pub fn`
+    All,
+    /// the contracts of these functions
+    Functions(&'static [&'static str]),
+    /// everything that this file of specs/ defines
+    Definitions(&'static str),
+    /// the contracts of what `src/main.rt` calls
+    Called,
+}
+
+pub struct Root {
+    /// the crate; `PROGRAMS` for each crate that has a `src/main.rt`
+    pub krate: &'static str,
+    pub start: Start,
+    pub part: Part,
+    pub reason: &'static str,
+}
+
+pub const PROGRAMS: &str = "*";
+
+const fn root(krate: &'static str, start: Start, part: Part, reason: &'static str) -> Root {
+    Root { krate, start, part, reason }
+}
+
+pub const ROOTS: &[Root] = &[
+    root("adapter", Start::Exported, Part::Calls, "the calls of the static library"),
+    root("demands", Start::Definitions("Demands"), Part::Calls, "document 01's demands, and what is held beyond them"),
+    root("word", Start::Definitions("Values"), Part::Calls, "document 01's values, beside what the definitions give"),
+    root("stepping", Start::All, Part::Calls, "the reader that holds a recording and its place, which C does not get"),
+    root(
+        "symbol",
+        Start::Functions(&["before_fresh_signal"]),
+        Part::Calls,
+        "the disparity at which a signal begins; C begins with `false`",
+    ),
+    root("picture", Start::Functions(&["row_on"]), Part::Calls, "the choice of row; C gets which of the two it is"),
+    root("decoder", Start::Functions(&["decode", "meaning_of"]), Part::Calls, "one symbol; C gets no meaning"),
+    root("encoder", Start::Functions(&["encode_byte", "encode_special"]), Part::Calls, "one character; C gives it by its number"),
+    root("packing", Start::Functions(&["pack", "unpack"]), Part::Calls, "two words as three bytes and back, which C does not get"),
+    root(PROGRAMS, Start::Called, Part::Programs, "what a program reads and writes"),
+    root("test_picture", Start::All, Part::Programs, "what the test generator and the rig send"),
+    root("reception", Start::All, Part::Programs, "the receiving end of the rig"),
+    root("rig", Start::All, Part::Programs, "the link with a plug that is knocked"),
+    root("losses", Start::All, Part::Programs, "what the rig prints of what was lost"),
+    root("text", Start::All, Part::Programs, "numbers and words as the programs print them"),
+];
