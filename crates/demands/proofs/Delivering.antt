@@ -36,7 +36,7 @@ use Rattle.ground.proofs.Answers.{given-is}
 use Rattle.demands.specs.Form.{Sending, WasSent, symbolsOf, readingOf, spansOf, stepsFrom}
 use Rattle.stepping.specs.Steps.{spanStep, endStep, lastRows}
 use Rattle.stepping.proofs.Delivering.{steps-deliver}
-use Rattle.stepping.proofs.Nexts.{next-is}
+use Rattle.recording.proofs.Nexts.{next-is}
 use Rattle.demands.proofs.Sendings.{sent-read, harmed-long, harmed-not-read, row-holds}
 
 module _ (f : Format) (known : isKnown f ≡ true) where

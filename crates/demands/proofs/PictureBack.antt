@@ -19,7 +19,7 @@ use Rattle.ground.proofs.Writing.{length-upto, getD-upto, length-table, getD-ta
 use Rattle.line.specs.Stream.{isActive}
 use Rattle.picture.specs.Division.{h, w, lineFrom, sampleFrom}
 use Rattle.picture.specs.Place.{placedOf}
-use Rattle.dividing.specs.Row.{divided, joined, rowBy}
+use Rattle.dividing.specs.Row.{divided, joined, rowBy, streamIn}
 use Rattle.picture.proofs.Places.{found}
 use Rattle.dividing.proofs.Rows.{length-divided, sample-divided, length-joined, sample-joined}
 use Rattle.span.specs.declared.content.Content.{Content}
@@ -31,7 +31,7 @@ use Rattle.span.specs.Stream.{Asked, picture}
 use Rattle.span.specs.Numbers.{IsFormat, Symbols}
 use Rattle.send.specs.Send.{asked}
 use Rattle.send.proofs.GoodCalls.{GoodCall}
-use Rattle.demands.specs.Form.{wordsFor, streamIn}
+use Rattle.demands.specs.Form.{wordsFor}
 use Rattle.demands.specs.Demands.{IsRow}
 
 -- ---- one stream of all

@@ -11,7 +11,7 @@ use native.Mathlib.Omega.{arith}
 use lib.Dec.{eqb, ltb, leb}
 use lib.ListN.{length, getD, take, drop}
 use borrow.Author.Tests.{eqb-true, eq-eqb, ne-eqb, ltb-true, lt-ltb, le-ltb, leb-true, le-leb, not-false}
-use Rattle.ground.specs.Answer.{Answer, refused, given, Row, unless, checked, unlessRefused}
+use Rattle.ground.specs.Answer.{Answer, given, Row, unless, checked, unlessRefused}
 use Rattle.ground.specs.Range.{within}
 use Rattle.ground.specs.Search.{firstBelow, isSome}
 use Rattle.ground.proofs.Answers.{given-is, when-refused, when-given}

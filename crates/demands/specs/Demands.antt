@@ -22,7 +22,7 @@ use Rattle.word.specs.Repair.{distance, repairOf}
 use Rattle.word.specs.Timing.{timing}
 use Rattle.picture.specs.Division.{lineFrom, sampleFrom}
 use Rattle.picture.specs.Place.{placedOf}
-use Rattle.dividing.specs.Row.{divided, joined, splitOf, splitFirst, splitSecond, joinOf, joinRow}
+use Rattle.dividing.specs.Row.{divided, joined, splitOf, splitFirst, splitSecond, joinOf, joinRow, streamIn}
 use Rattle.span.specs.declared.content.Content.{Content}
 use Rattle.span.specs.declared.content.ContentBytes.{ContentBytes}
 use Rattle.span.specs.declared.format.Format.{Format}
@@ -48,7 +48,7 @@ use Rattle.recording.specs.Recording.{limit, Reading, reading, accepts, deliver
 use Rattle.stepping.specs.Steps.{runFrom, spanStep, endStep, lastRows}
 use Rattle.span.specs.Blanking.{fillOf, blankRow, filledRow}
 use Rattle.send.specs.Send.{asked, sendOf, sentBuffer}
-use Rattle.demands.specs.Form.{MaySend, Refusal, row, lowest, Tried, Lent, Rows, Sending, WasSent, symbolsOf, readingOf, stepsFrom, Delivered, wordsFor, streamIn}
+use Rattle.demands.specs.Form.{MaySend, Refusal, row, lowest, Tried, Lent, Rows, Sending, WasSent, symbolsOf, readingOf, stepsFrom, Delivered, wordsFor}
 
 -- ==== 1 ====
 

@@ -6,7 +6,7 @@ use mathlib.Core.Bool.{cond}
 use mathlib.Core.List.{List, [], _∷_}
 use mathlib.Core.Option.{Option, none, some}
 use lib.Dec.{eqb}
-use lib.ListN.{length, getD, replicate, take, drop}
+use lib.ListN.{length, getD, replicate}
 use Rattle.ground.specs.Answer.{Answer, refused, given}
 use Rattle.ground.specs.Written.{upto, table}
 use Rattle.symbol.specs.declared.disparity.Disparity.{Disparity}
@@ -132,7 +132,3 @@ Delivered f r list = (rows : List ℕ) → Samples f (length rows) → (k : ℕ)
 -- the words of a row of samples: at depth 10 shifted by two
 abbrev pub wordsFor : Format → List ℕ → List ℕ
 wordsFor f row = table (length row) (λ i. cond (eqb (f .depth) 10) (4 * getD row i 0) (getD row i 0))
-
--- the words of stream t, of all streams one after the other
-abbrev pub streamIn : List ℕ → ℕ → List ℕ
-streamIn words t = take 1920 (drop (1920 * t) words)

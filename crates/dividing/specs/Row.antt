@@ -4,7 +4,7 @@ use Prim.Native.Nat.{ℕ, zero, suc, _+_, _*_}
 use mathlib.Core.Bool.{Bool, _&&_}
 use mathlib.Core.List.{List, [], _∷_}
 use lib.Dec.{eqb}
-use lib.ListN.{length, getD}
+use lib.ListN.{length, getD, take, drop}
 use Rattle.ground.specs.Answer.{Answer, refused, given, unless, checked, unlessRefused}
 use Rattle.ground.specs.Written.{upto, table}
 use Rattle.dividing.specs.declared.row.Copied.{Copied}
@@ -17,6 +17,10 @@ divided w n row = table n (λ j. getD row (2 * j + w) 0)
 -- the row of 2n samples that two rows of n make: sample j of the first (w = 0), and then sample j of the second (w = 1)
 unfoldable pub joined : ℕ → List ℕ → List ℕ → List ℕ
 joined n first second = upto n (λ j. getD first j 0 ∷ getD second j 0 ∷ [])
+
+-- the row of stream t, of rows that stand one after the other
+abbrev pub streamIn : List ℕ → ℕ → List ℕ
+streamIn words t = take 1920 (drop (1920 * t) words)
 
 -- which of the two rows has a w: the first has 0, the second 1
 abbrev pub rowBy : ℕ → List ℕ → List ℕ → List ℕ

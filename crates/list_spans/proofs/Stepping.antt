@@ -10,7 +10,7 @@ use Rattle.span.specs.Format.{isKnown, shapeOf, symbolsIn}
 use Rattle.span.proofs.Lengths.{known-has-streams}
 use Rattle.recording.specs.declared.seek.Spanned.{Spanned}
 use Rattle.recording.specs.Recording.{limit, deliveryFrom}
-use Rattle.stepping.proofs.OneStep.{Stepped}
+use Rattle.recording.proofs.OneStep.{Stepped}
 use Rattle.list_spans.specs.Listing.{lineOf, linesOf}
 
 -- a recording of so many symbols is short enough for the call

@@ -37,7 +37,7 @@ fn put_spans(f: Format, symbols: &[u16], rows: &mut [u16], out: &mut [u8]) -> us
     let mut place = 0;
     let mut at = 0;
     while place < symbols.len() {
-        let next = stepping::reader::step_at(f, symbols, place, rows);
+        let next = recording::next::next_span(f, symbols, place, rows);
         let answer = next.answer;
         match answer {
             NextSpan::Delivered(s) => {

@@ -13,11 +13,10 @@ use Rattle.ground.proofs.Answers.{when-given}
 use Rattle.ground.proofs.Ranges.{is-within, not-within, from-low, to-high, outside}
 use Rattle.ground.proofs.Writing.{sets-append}
 use Rattle.line.specs.Stream.{isActive}
-use Rattle.dividing.specs.Row.{joined, joinRow}
+use Rattle.dividing.specs.Row.{joined, joinRow, streamIn}
 use Rattle.dividing.proofs.Lengths.{joins}
 use Rattle.dividing.proofs.Rows.{length-joined}
 use Rattle.recording.specs.Recording.{Reading}
-use Rattle.demands.specs.Form.{streamIn}
 use Rattle.reception.specs.Receiving.{lineRead, rowOf, bothRows, brings, flag, isOf, putOne}
 use Rattle.reception.proofs.Parts.{part-put}
 

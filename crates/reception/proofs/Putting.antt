@@ -9,7 +9,7 @@ use Rattle.delivery.specs.Delivery.{Found}
 use Rattle.recording.specs.declared.seek.Spanned.{Spanned}
 use Rattle.recording.specs.Call.{rowsNext}
 use Rattle.recording.specs.Recording.{Reading, deliveryFrom}
-use Rattle.stepping.proofs.OneStep.{Stepped}
+use Rattle.recording.proofs.OneStep.{Stepped}
 use Rattle.reception.specs.Receiving.{putOne, putAll}
 
 module _ (size : ℕ) (what : Reading → List ℕ) (first : ℕ) where

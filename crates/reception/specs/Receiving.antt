@@ -8,10 +8,9 @@ use lib.ListN.{length, replicate}
 use lib.Seq.{sets}
 use Rattle.ground.specs.Range.{within}
 use Rattle.line.specs.Stream.{isActive}
-use Rattle.dividing.specs.Row.{joined}
+use Rattle.dividing.specs.Row.{joined, streamIn}
 use Rattle.delivery.specs.Delivery.{Found}
 use Rattle.recording.specs.Recording.{Reading, deliveryFrom}
-use Rattle.demands.specs.Form.{streamIn}
 use Rattle.reception.specs.Link.{link}
 
 -- the number of the line that was read

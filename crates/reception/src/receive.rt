@@ -75,7 +75,7 @@ fn receive_all(
     let f = crate::link::link();
     let mut place = 0;
     while place < symbols.len() {
-        let next = stepping::reader::step_at(f, symbols, place, rows);
+        let next = recording::next::next_span(f, symbols, place, rows);
         let answer = next.answer;
         match answer {
             NextSpan::Delivered(s) => {

@@ -20,7 +20,7 @@ use Rattle.recording.proofs.Calling.{next-given}
 use Rattle.recording.proofs.Readings.{span-whole}
 use Rattle.stepping.specs.declared.reader.Reader.{Reader}
 use Rattle.stepping.specs.Steps.{answerOf, movedOf, rowsOf, Step, runFrom, runOf, spanStep, endStep, lastRows}
-use Rattle.stepping.proofs.Nexts.{next-is}
+use Rattle.recording.proofs.Nexts.{next-is}
 
 module _ (f : Format) where
   abbrev n : ℕ

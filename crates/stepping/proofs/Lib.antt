@@ -1,4 +1,2 @@
 pub mod Delivering
-pub mod Nexts
-pub mod OneStep
 pub mod Saying

@@ -1,11 +1,9 @@
 // A reader that holds the recording and its place, and gives one span at a time. The work is `next_span`'s; each function here is thin,
 // since its proof is a walk of what it is compiled to.
-use recording::next::Next;
 use recording::next::NextSpan;
 use span::format::Format;
 ghost use mathlib.Core.Path.{_≡_};
-ghost use lib.ListN.{length};
-ghost use Rattle.recording.specs.Call.{paperNext, nextOf, afterNext, rowsNext};
+ghost use Rattle.recording.specs.Call.{paperNext};
 ghost use Rattle.stepping.specs.Steps.{answerOf, movedOf, rowsOf};
 
 // The recording, and the place from which the next step searches.
@@ -38,18 +36,4 @@ pub fn step<'s, 'a, 'r>(r: &'s mut Reader<'a>, f: Format, rows: &'r mut [u16]) -
     let next = recording::next::next_span(f, r.symbols, r.place, rows);
     r.place = next.after;
     next.answer
-}
-
-// A step for whoever has the recording and a place, and no reader.
-pub fn step_at(f: Format, symbols: &[u16], place: usize, rows: &mut [u16]) -> Next
-    ensures answer { λ n. ⌜ paperNext (n .answer) ≡ nextOf f (now (symbols .entry)) place (length (now (rows .entry))) ⌝ }
-    ensures after { λ n. ⌜ n .after ≡ afterNext f (now (symbols .entry)) place (length (now (rows .entry))) ⌝ }
-    ensures rows { λ _. ⌜ now (rows .exit) ≡ rowsNext f (now (symbols .entry)) place (now (rows .entry)) ⌝ }
-{
-    let mut r = Reader { symbols, place };
-    let answer = step(&mut r, f, rows);
-    Next {
-        answer,
-        after: r.place,
-    }
 }

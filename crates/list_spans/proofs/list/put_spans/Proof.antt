@@ -7,7 +7,7 @@ use native.Mathlib.Omega.{arith}
 use lib.ListN.{length}
 use borrow.Author.Needs.{needs}
 use Rattle.recording.specs.Recording.{deliveryFrom}
-use Rattle.stepping.proofs.OneStep.{none-left, stepped, ended, no-key}
+use Rattle.recording.proofs.OneStep.{none-left, stepped, ended, no-key}
 use Rattle.list_spans.specs.Listing.{lineText, linesOf}
 use Rattle.list_spans.proofs.Left.{Left, all-left, piece-put, nothing-left}
 use Rattle.list_spans.proofs.Stepping.{within-limit, line-shorter, first-line}
@@ -30,8 +30,8 @@ loop-holds c =
     let a = c .before .before .before .args in
     (omega arith, omega arith, refl, refl, all-left (a .out .now) (linesOf (deliveryFrom (a .f) (a .symbols .now) 0)))
 
-step-at-requires : tie.Need-step-at-requires Inv-loop μ-loop
-step-at-requires c κs = search needs
+next-span-requires : tie.Need-next-span-requires Inv-loop μ-loop
+next-span-requires c κs = search needs
 
 enum-known-answer : tie.Need-enum-known-answer Inv-loop μ-loop
 enum-known-answer c = search needs
@@ -49,7 +49,7 @@ put-line-requires c κs =
     let pre = start .pre in
     let step =
     stepped (a .f) (pre .0) (a .symbols .now) (within-limit _ (pre .1 .0)) (v .place) (v .inv .1) (v .rows) (v .inv .2 ∙ pre .1 .1 .0) (s .answer .given .1)
-    (n .step-at .ensures .0) (n .step-at .ensures .1 .0) in
+    (n .next-span .ensures .0) (n .next-span .ensures .1 .0) in
     omega (arith, step .behind, line-shorter (a .f) (pre .0), step .inside, v .inv .0, v .inv .3, pre .1 .0, pre .1 .1 .1)
 
 loop-less : tie.Need-loop-less Inv-loop μ-loop
@@ -62,7 +62,7 @@ loop-less c =
     let pre = start .pre in
     let step =
     stepped (a .f) (pre .0) (a .symbols .now) (within-limit _ (pre .1 .0)) (v .place) (v .inv .1) (v .rows) (v .inv .2 ∙ pre .1 .1 .0) (s .answer .given .1)
-    (n .step-at .ensures .0) (n .step-at .ensures .1 .0) in
+    (n .next-span .ensures .0) (n .next-span .ensures .1 .0) in
     omega (arith, step .behind, line-shorter (a .f) (pre .0), step .inside)
 
 loop-again : tie.Need-loop-again Inv-loop μ-loop
@@ -75,11 +75,11 @@ loop-again c =
     let pre = start .pre in
     let step =
     stepped (a .f) (pre .0) (a .symbols .now) (within-limit _ (pre .1 .0)) (v .place) (v .inv .1) (v .rows) (v .inv .2 ∙ pre .1 .1 .0) (s .answer .given .1)
-    (n .step-at .ensures .0) (n .step-at .ensures .1 .0) in
+    (n .next-span .ensures .0) (n .next-span .ensures .1 .0) in
     let put = c .before .before .put-line .ensures in
     let number = c .before .before .before .before .number-of in
     let place = s .answer .given .0 .0 .place in
-    let more = linesOf (deliveryFrom (a .f) (a .symbols .now) (n .step-at .result .after)) in (
+    let more = linesOf (deliveryFrom (a .f) (a .symbols .now) (n .next-span .result .after)) in (
       omega (arith, step .behind, line-shorter (a .f) (pre .0), v .inv .0, put .1 .0),
       step .inside,
       search needs,
@@ -102,8 +102,8 @@ returns c =
     let a = start .args in
     let pre = start .pre in
     let none =
-    ended (a .f) (pre .0) (a .symbols .now) (within-limit _ (pre .1 .0)) (v .place) (v .inv .1) (v .rows) (v .inv .2 ∙ pre .1 .1 .0) (n .step-at .result .answer)
-    (λ s z. no-key (rw z at (c .match .keys2))) (n .step-at .ensures .0) in
+    ended (a .f) (pre .0) (a .symbols .now) (within-limit _ (pre .1 .0)) (v .place) (v .inv .1) (v .rows) (v .inv .2 ∙ pre .1 .1 .0) (n .next-span .result .answer)
+    (λ s z. no-key (rw z at (c .match .keys2))) (n .next-span .ensures .0) in
     let all = nothing-left (v .inv .4) (ap linesOf none) in
     (all .0, (omega (arith, v .inv .0, v .inv .1, pre .1 .0), all .1))
 
@@ -130,7 +130,7 @@ put-spans-spec =
     Inv-loop
     μ-loop
     loop-holds
-    step-at-requires
+    next-span-requires
     enum-known-answer
     number-of-requires
     put-line-requires

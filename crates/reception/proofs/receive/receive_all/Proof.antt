@@ -7,7 +7,7 @@ use lib.ListN.{length}
 use borrow.Author.Needs.{needs}
 use Rattle.span.specs.declared.format.Format.{Format}
 use Rattle.recording.specs.Recording.{deliveryFrom}
-use Rattle.stepping.proofs.OneStep.{none-left, stepped, ended, no-key}
+use Rattle.recording.proofs.OneStep.{none-left, stepped, ended, no-key}
 use Rattle.reception.specs.Receiving.{brings, flag, heardFrom, shownFrom}
 use Rattle.reception.proofs.Links.{within-limit, known, samples, symbols as symbols-of}
 use Rattle.reception.proofs.Putting.{put-next, put-ends}
@@ -34,8 +34,8 @@ loop-holds c =
     let pre = c .before .before .before .before .before .pre in
     (omega arith, pre .1 .1 .0, pre .1 .1 .1 .0, pre .1 .1 .1 .1, refl, refl)
 
-step-at-requires : tie.Need-step-at-requires Inv-loop μ-loop
-step-at-requires c κs = search needs
+next-span-requires : tie.Need-next-span-requires Inv-loop μ-loop
+next-span-requires c κs = search needs
 
 enum-known-answer : tie.Need-enum-known-answer Inv-loop μ-loop
 enum-known-answer c = search needs
@@ -55,7 +55,7 @@ loop-less c =
     let a = start .args in
     let step =
     stepped (l .link .result) (known (l .link .ensures)) (a .symbols .now) (within-limit _ (start .pre .1 .0)) (v .place) (v .inv .0) (v .rows)
-    (v .inv .1 ∙ sym (samples (l .link .ensures))) (s .answer .given .1) (n .step-at .ensures .0) (n .step-at .ensures .1 .0) in
+    (v .inv .1 ∙ sym (samples (l .link .ensures))) (s .answer .given .1) (n .next-span .ensures .0) (n .next-span .ensures .1 .0) in
     omega (arith, step .behind, step .inside, symbols-of (l .link .ensures))
 
 loop-again : tie.Need-loop-again Inv-loop μ-loop
@@ -69,8 +69,8 @@ loop-again c =
     let a = start .args in
     let step =
     stepped (l .link .result) (known (l .link .ensures)) (a .symbols .now) (within-limit _ (start .pre .1 .0)) (v .place) (v .inv .0) (v .rows)
-    (v .inv .1 ∙ sym (samples (l .link .ensures))) (s .answer .given .1) (n .step-at .ensures .0) (n .step-at .ensures .1 .0) in
-    let words = n .step-at .ensures .1 .1 in (
+    (v .inv .1 ∙ sym (samples (l .link .ensures))) (s .answer .given .1) (n .next-span .ensures .0) (n .next-span .ensures .1 .0) in
+    let words = n .next-span .ensures .1 .1 in (
       step .inside,
       search needs,
       search needs,
@@ -97,7 +97,7 @@ returns c =
     let a = start .args in
     let none =
     ended (l .link .result) (known (l .link .ensures)) (a .symbols .now) (within-limit _ (start .pre .1 .0)) (v .place) (v .inv .0) (v .rows)
-    (v .inv .1 ∙ sym (samples (l .link .ensures))) (n .step-at .result .answer) (λ s z. no-key (rw z at (c .match .keys2))) (n .step-at .ensures .0) in (
+    (v .inv .1 ∙ sym (samples (l .link .ensures))) (n .next-span .result .answer) (λ s z. no-key (rw z at (c .match .keys2))) (n .next-span .ensures .0) in (
       put-ends 1 flag (a .first .0) none (v .inv .4)
           ∙ ap (λ (f : Format). heardFrom (a .first .0) (a .heard .now) (deliveryFrom f (a .symbols .now) 0)) (l .link .ensures),
       put-ends 7680 brings (a .first .0) none (v .inv .5)
@@ -133,7 +133,7 @@ receive-all-spec =
     μ-loop
     link-requires
     loop-holds
-    step-at-requires
+    next-span-requires
     enum-known-answer
     put-span-requires
     loop-less

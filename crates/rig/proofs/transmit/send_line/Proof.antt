@@ -1,7 +1,7 @@
 -- `rig::transmit::send_line` meets its contract: the call is a good one, so it is answered.
 -- Assumes nothing.
 use borrow.Author.Needs.{needs}
-use Rattle.stepping.proofs.OneStep.{no-key}
+use Rattle.recording.proofs.OneStep.{no-key}
 use Rattle.rig.proofs.Lines.{asked-is, after-is, is-after, symbols-are}
 use Rattle.rig.proofs.transmit.send_line.Statement.{statement}
 use Rattle.rig.proofs.transmit.send_line.Tie as tie

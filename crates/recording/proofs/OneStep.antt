@@ -15,14 +15,14 @@ use Rattle.span.specs.declared.format.Format.{Format}
 use Rattle.span.specs.Format.{isKnown, shapeOf, samplesIn, symbolsIn}
 use Rattle.delivery.specs.Delivery.{Found, followed}
 use Rattle.delivery.proofs.Finding.{at-the-end, next-then}
 use Rattle.recording.specs.declared.next.NextSpan.{NextSpan}
 use Rattle.recording.specs.declared.next.NextSpan.the-variants.{Delivered, Nowhere, UnknownFormat, WrongInput, WrongOutput, WrongStart}
 use Rattle.recording.specs.declared.seek.Spanned.{Spanned}
 use Rattle.recording.specs.Call.{paperNext, spanned, nextOf, endOr, afterNext, wordsOr, rowsNext}
 use Rattle.recording.specs.Recording.{limit, Reading, reading, nextFrom, deliveryFrom}
 use Rattle.recording.proofs.Calling.{next-given}
 use Rattle.recording.proofs.Readings.{span-whole}
-use Rattle.stepping.proofs.Nexts.{next-is}
+use Rattle.recording.proofs.Nexts.{next-is}
 
 -- what a step that delivers says: the span is the first that is left, its words are in the rows, and the step ends where it ends
 pub record Stepped (f : Format) (r : List ℕ) (start : ℕ) (rows : List ℕ) (s : Spanned) (after : ℕ) : Type 0 where
