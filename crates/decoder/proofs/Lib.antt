@@ -1,3 +1,4 @@
 pub mod Entries
+pub mod Laws
 pub mod Paper
 pub mod Reading

@@ -1,3 +1,4 @@
 pub mod Decode
 pub mod Decoder
+pub mod Laws
 pub mod Meaning
