@@ -3,6 +3,7 @@ pub mod Encoding
 pub mod Formats
 pub mod Images
 pub mod Interleaving
+pub mod Laws
 pub mod LengthCalls
 pub mod Lengths
 pub mod OneToOne

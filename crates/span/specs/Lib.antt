@@ -2,6 +2,7 @@ pub mod Content
 pub mod Encoding
 pub mod Format
 pub mod Image
+pub mod Laws
 pub mod Length
 pub mod Numbers
 pub mod Sample
