@@ -6,6 +6,7 @@ pub mod Characters
 pub mod Encoded
 pub mod Exact
 pub mod Inverted
+pub mod Laws
 pub mod Line
 pub mod Meeting
 pub mod Nearest

@@ -1,4 +1,5 @@
 pub mod Encoded
+pub mod Laws
 pub mod Read
 pub mod Scan
 pub mod Sums
