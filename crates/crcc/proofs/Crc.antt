@@ -8,12 +8,11 @@ use native.Mathlib.Numerals.{add-one, one-add}
 use native.Mathlib.Omega.{arith}
 use lib.Pow.{pow-add, pow-pos, shl-shr, shr-shr, mod-pow-add, low}
 use lib.Dec.{ltb}
-use lib.ListN.{length, getD, drop, drop-of-length-le}
+use lib.ListN.{length, getD}
 use borrow.Author.Tests.{lt-ltb, le-ltb, ltb-true, ltb-false}
 use Rattle.ground.specs.Answer.{refused, given}
 use Rattle.ground.specs.Xor.{_⊕_}
 use Rattle.ground.proofs.Cases.{on-test}
-use Rattle.ground.proofs.Reading.{next-left}
 use Rattle.ground.proofs.Xors.{⊕-zero, ⊕-assoc, ⊕-comm, ⊕-middle, ⊕-below, ⊕-div, ⊕-mod, ⊕-times, ⊕-shifted}
 use Rattle.crcc.specs.Crcc.{taps, bitStep, bitSteps, crcWord, crc, crccFrom, crccWords}
 use Rattle.word.specs.Word.{guarded}
@@ -148,16 +147,6 @@ pub crc-append : (c : ℕ) (xs ys : List ℕ) → crc (crc c xs) ys ≡ crc c (x
 unfolding crc
 crc-append c [] ys = refl
 crc-append c (x ∷ xs) ys = crc-append (crcWord c x) xs ys
-
--- a loop's turn, and its end
-module _ (c : ℕ) (ws : List ℕ) (i : ℕ) where
-  pub crc-turn : i < length ws → crc c (drop i ws) ≡ crc (crcWord c (getD ws i 0)) (drop (i + 1) ws)
-  unfolding crc
-  crc-turn h = ap (crc c) (next-left ws i 0 h)
-
-  pub crc-done : length ws ≤ i → crc c (drop i ws) ≡ c
-  unfolding crc
-  crc-done h = ap (crc c) (drop-of-length-le ws h)
 
 -- the register has eighteen bits
 bit-below : (c b : ℕ) → c < 2 ^ 18 → b < 2 → bitStep c b < 2 ^ 18

@@ -1,3 +1,4 @@
 pub mod Crc
+pub mod Laws
 pub mod Linear
 pub mod OneToOne

@@ -1,3 +1,4 @@
 pub mod Ahead
 pub mod Crcc
+pub mod Laws
 pub mod Sums

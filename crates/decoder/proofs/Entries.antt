@@ -10,7 +10,6 @@ use lib.ListN.{length, getD}
 use borrow.Author.Tests.{eqb-true, ltb-true}
 use Rattle.ground.specs.Search.{isSome}
 use Rattle.ground.specs.Test.{everyAt, everyBelow}
-use Rattle.ground.specs.Written.{table}
 use Rattle.ground.proofs.Tests.{both-left, both-right, at-entry, at-number}
 use Rattle.ground.proofs.Writing.{is-table, getD-table}
 use Rattle.symbol.specs.declared.disparity.Disparity.{Disparity}

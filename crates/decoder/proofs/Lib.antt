@@ -1,4 +1,5 @@
 pub mod Entries
+pub mod Laws
 pub mod Masks
 pub mod Paper
 pub mod Reading

@@ -1,4 +1,5 @@
 pub mod Decode
 pub mod Decoder
+pub mod Laws
 pub mod Mask
 pub mod Meaning

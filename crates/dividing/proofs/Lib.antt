@@ -1,3 +1,4 @@
+pub mod Laws
 pub mod Lengths
 pub mod OneToOne
 pub mod RoundTrip

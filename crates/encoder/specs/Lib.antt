@@ -1,2 +1,3 @@
 pub mod Encode
+pub mod Laws
 pub mod Tables

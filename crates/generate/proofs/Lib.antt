@@ -1,3 +1,4 @@
+pub mod Laws
 pub mod Lefts
 pub mod LowFirst
 pub mod Outputs

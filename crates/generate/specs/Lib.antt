@@ -1,3 +1,4 @@
 pub mod Generated
+pub mod Laws
 pub mod Parameters
 pub mod Pieces

@@ -1,6 +1,7 @@
 pub mod Answers
 pub mod Bits
 pub mod Cases
+pub mod Laws
 pub mod Ranges
 pub mod Reading
 pub mod Searches

@@ -8,7 +8,7 @@ use native.Mathlib.Numerals.{add-one}
 use native.Mathlib.Omega.{arith}
 use mathlib.Core.Logic.{⊎-elim}
 use lib.ListN.{length, getD, set, replicate, length-append, length-replicate, getD-replicate, List·getD-append}
-use lib.Seq.{sets, sets-eq, set-comm, drop-length, getD-append-add, ext-getD}
+use lib.Seq.{sets, sets-eq, drop-length, getD-append-add, ext-getD}
 use lib.Dec.{eqb}
 use borrow.Author.Tests.{eqb-true}
 use mathlib.Core.Bool.{true}
@@ -21,12 +21,6 @@ module _ {A : Type 0} where
   pub sets-append : (l x y : List A) (i o : ℕ) → o ≡ i + length x → sets (sets l i x) o y ≡ sets l i (x ++ y)
   sets-append l [] y i o e = let q : o ≡ i = omega arith in rw q
   sets-append l (a ∷ x) y i o e = sets-append (set l i a) x y (suc i) o (omega arith)
-
-  -- a store, and then the run that ends before it, are one run
-  pub sets-last : (xs l : List A) (i j : ℕ) (a : A) → j ≡ i + length xs → sets (set l j a) i xs ≡ sets l i (xs ++ (a ∷ []))
-  sets-last [] l i j a e = let q : j ≡ i = omega arith in rw q
-  sets-last (x ∷ xs) l i j a e =
-      ap (λ (t : List A). sets t (suc i) xs) (set-comm l j i a x (λ q. omega arith)) ∙ sets-last xs (set l i x) (suc i) j a (omega arith)
 
   -- a run of stores that is as long as the list leaves the run alone
   pub sets-whole : (l xs : List A) → length xs ≡ length l → sets l 0 xs ≡ xs

@@ -5,15 +5,11 @@ use Prim.Native.Nat.{ℕ, zero, suc, _+_, _-_, _*_, _/_, _%_, _^_, _≤_, _<_}
 use native.Mathlib.Nat.{add-zero, pow-suc}
 use native.Mathlib.Omega.{arith}
 use lib.Arith.{bin-ind}
-use lib.Bits.{bitXor, differ, xor-step, xor-zero-l, xor-zero-r, xor-comm, xor-self, xor-lt, xor-shr, xor-mod, xor-block, xor-shifted}
+use lib.Bits.{differ, xor-step, xor-zero-l, xor-zero-r, xor-comm, xor-self, xor-lt, xor-shr, xor-mod, xor-block, xor-shifted}
 use lib.Count.{onesIn}
 use lib.Pow.{pow-pos}
 use Rattle.ground.specs.Bit.{inverted}
 use Rattle.ground.specs.Xor.{_⊕_}
-
-pub ⊕-is : (a b : ℕ) → bitXor a b ≡ a ⊕ b
-unfolding _⊕_
-⊕-is a b = refl
 
 pub ⊕-zero : (a : ℕ) → a ⊕ 0 ≡ a
 unfolding _⊕_

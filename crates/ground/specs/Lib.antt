@@ -1,5 +1,6 @@
 pub mod Answer
 pub mod Bit
+pub mod Laws
 pub mod Range
 pub mod Search
 pub mod Test

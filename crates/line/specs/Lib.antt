@@ -1,2 +1,3 @@
+pub mod Laws
 pub mod Picture
 pub mod Stream

@@ -1,4 +1,5 @@
 pub mod Bytes
 pub mod Frames
 pub mod Inputs
+pub mod Laws
 pub mod Whole

@@ -1,3 +1,4 @@
 pub mod File
 pub mod Frame
 pub mod Input
+pub mod Laws

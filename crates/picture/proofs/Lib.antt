@@ -1,4 +1,5 @@
 pub mod Choices
+pub mod Laws
 pub mod OneToOne
 pub mod Places
 pub mod Steps

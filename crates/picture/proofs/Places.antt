@@ -25,25 +25,21 @@ pub place-of-2160-3839 :
 unfolding within imageAt lineIn sampleIn
 place-of-2160-3839 = refl
 
--- a sample of the picture is not refused, and its place is one of a basic image
-module _ (line sample : ℕ) (p : 1 ≤ line) (q : line ≤ 2160) (r : sample ≤ 3839) where
-  pub placed : placedOf line sample ≡ given (placeOf line sample)
-  placed =
-      let l : isPictureLine line ≡ true = is-within 1 2160 line p q in
-      let s : isSample sample ≡ true = le-leb sample 3839 r in
-      simp (l, s)
+-- a sample of the picture is not refused
+pub placed : (line sample : ℕ) → 1 ≤ line → line ≤ 2160 → sample ≤ 3839 → placedOf line sample ≡ given (placeOf line sample)
+placed line sample p q r =
+    let l : isPictureLine line ≡ true = is-within 1 2160 line p q in
+    let s : isSample sample ≡ true = le-leb sample 3839 r in
+    simp (l, s)
 
-  pub line-from-1 : 1 ≤ lineIn line
-  unfolding lineIn
-  line-from-1 = omega arith
+-- and its place is one of a basic image
+pub basic-line : (line : ℕ) → 1 ≤ line → line ≤ 2160 → (1 ≤ lineIn line) × (lineIn line ≤ 1080)
+unfolding lineIn
+basic-line line p q = (omega arith, omega arith)
 
-  pub line-to-1080 : lineIn line ≤ 1080
-  unfolding lineIn
-  line-to-1080 = omega arith
-
-  pub sample-to-1919 : sampleIn sample ≤ 1919
-  unfolding sampleIn
-  sample-to-1919 = omega arith
+pub basic-sample : (sample : ℕ) → sample ≤ 3839 → sampleIn sample ≤ 1919
+unfolding sampleIn
+basic-sample sample r = omega arith
 
 -- whatever else is asked for is refused
 pub meets-2 : (line sample : ℕ) → (1 ≤ line → line ≤ 2160 → sample ≤ 3839 → ⊥) → placedOf line sample ≡ refused 2 0

@@ -49,16 +49,13 @@ quarter-is n k {image} {sample} {line} p q r =
     ∙ ap (λ (l : ℕ). quarter (imageAt n k) l sample) q
     ∙ ap (λ (s : ℕ). quarter (imageAt n k) (lineIn n) s) r
 
+-- there are four images
+pub one-of-four : (line sample : ℕ) → (1 ≤ imageAt line sample) × (imageAt line sample ≤ 4)
+unfolding imageAt
+one-of-four line sample = (omega arith, omega arith)
+
 -- from a picture to its images and back
 module _ (line sample : ℕ) where
-  pub image-from-1 : 1 ≤ imageAt line sample
-  unfolding imageAt
-  image-from-1 = omega arith
-
-  pub image-to-4 : imageAt line sample ≤ 4
-  unfolding imageAt
-  image-to-4 = omega arith
-
   pub line-back : 1 ≤ line → lineFrom (imageAt line sample) (lineIn line) ≡ line
   unfolding imageAt lineIn lineFrom h
   line-back p = omega arith

@@ -1,5 +1,6 @@
 pub mod Calling
 pub mod Copying
+pub mod Laws
 pub mod Looking
 pub mod Nexts
 pub mod OneStep

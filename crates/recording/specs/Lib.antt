@@ -1,4 +1,5 @@
 pub mod Call
+pub mod Laws
 pub mod Look
 pub mod Recording
 pub mod Seek

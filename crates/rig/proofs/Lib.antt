@@ -1,6 +1,7 @@
 pub mod Arriving
 pub mod Carrying
 pub mod Knocking
+pub mod Laws
 pub mod Lines
 pub mod Losing
 pub mod Outcomes

@@ -2,7 +2,7 @@
 -- Assumes nothing.
 use mathlib.Core.Path.{_≡_, refl, _∙_}
 use mathlib.Core.Bool.{true, _||_}
-use mathlib.Core.List.{List, [], _∷_}
+use mathlib.Core.List.{[], _∷_}
 use Prim.Native.Nat.{ℕ, zero, suc, _+_, _*_, _≤_}
 use native.Mathlib.Omega.{arith}
 use lib.Dec.{eqb}
@@ -14,7 +14,8 @@ use Rattle.symbol.specs.declared.disparity.Disparity.{Disparity}
 use Rattle.span.specs.declared.format.Format.{Format}
 use Rattle.span.specs.declared.format.Shape.{Shape}
 use Rattle.span.specs.Content.{contentOf}
-use Rattle.span.specs.Format.{isKnown, shapeOf, streams, samplesIn, pairsIn, symbolsIn, eavAt, formatFrom}
+use Rattle.span.specs.Format.{formatFrom, isKnown, shapeOf, streams, pairsIn, symbolsIn, eavAt}
+use Rattle.span.specs.Laws.{columns}
 use Rattle.span.specs.Span.{interleaved, bytes, wordsFromSav, wordsFromEav, spanWords, charsFromSav, charsFromEav, spanChars, spanSymbols, fillWord}
 use Rattle.span.specs.Stream.{Asked, fromSav, fromEav}
 use Rattle.span.proofs.Encoding.{length-symbols}
@@ -22,15 +23,11 @@ use Rattle.span.proofs.Interleaving.{length-interleaved}
 use Rattle.span.proofs.Packing.{length-bytes}
 use Rattle.span.proofs.Synchronised.{length-both}
 
--- the table: s, the ancillary words per stream, the fill words, the symbols, the samples
-abbrev pub columns : Shape → List ℕ
-columns p = streams p ∷ p .ancillary ∷ 2 * p .fill ∷ symbolsIn p ∷ samplesIn p ∷ []
-
 pub table-of-formats :
     (depth : ℕ)
-    → (columns (shapeOf (formatFrom 1 depth)) ≡ 2 ∷ 268 ∷ 880 ∷ 7920 ∷ 3840 ∷ [])
-    × (columns (shapeOf (formatFrom 2 depth)) ≡ 2 ∷ 708 ∷ 1056 ∷ 9504 ∷ 3840 ∷ [])
-    × (columns (shapeOf (formatFrom 3 depth)) ≡ 4 ∷ 708 ∷ 2112 ∷ 19008 ∷ 7680 ∷ [])
+    → (columns (formatFrom 1 depth) ≡ 2 ∷ 268 ∷ 880 ∷ 7920 ∷ 3840 ∷ [])
+    × (columns (formatFrom 2 depth) ≡ 2 ∷ 708 ∷ 1056 ∷ 9504 ∷ 3840 ∷ [])
+    × (columns (formatFrom 3 depth) ≡ 4 ∷ 708 ∷ 2112 ∷ 19008 ∷ 7680 ∷ [])
 unfolding shapeOf
 table-of-formats depth = (refl, refl, refl)
 

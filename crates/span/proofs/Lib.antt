@@ -5,6 +5,7 @@ pub mod FilledOneToOne
 pub mod Formats
 pub mod Images
 pub mod Interleaving
+pub mod Laws
 pub mod LengthCalls
 pub mod Lengths
 pub mod OneToOne

@@ -9,15 +9,12 @@ use Rattle.crcc.specs.Crcc.{crc}
 use Rattle.crcc.proofs.Crc.{crc-append}
 use Rattle.span.specs.declared.format.Format.{Format}
 use Rattle.span.specs.Encoding.{symbolsFrom}
+use Rattle.span.specs.Laws.{allChars}
 use Rattle.span.specs.Span.{spanChars, spanSymbols, spanAfter, signalFrom, signal}
 use Rattle.span.specs.Stream.{Asked, picture, eav, lineNumber, register}
 use Rattle.span.proofs.Encoding.{symbols-append}
 
--- the characters of spans one after the other
-abbrev pub allChars : Format → List Asked → List ℕ
-allChars f [] = []
-allChars f (a ∷ more) = spanChars f a ++ allChars f more
-
+-- the disparity that a span leaves is handed on
 handed-on : (d : Disparity) (f : Format) (spans : List Asked) → signalFrom d f spans ≡ symbolsFrom d (allChars f spans)
 unfolding signalFrom spanSymbols spanAfter symbolsFrom
 handed-on d f [] = refl

@@ -4,6 +4,7 @@ pub mod Encoding
 pub mod Fit
 pub mod Format
 pub mod Image
+pub mod Laws
 pub mod Layout
 pub mod Length
 pub mod Numbers

@@ -2,3 +2,4 @@ pub mod Blocks
 pub mod Character
 pub mod Code
 pub mod Disparity
+pub mod Laws

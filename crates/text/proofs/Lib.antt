@@ -1,3 +1,4 @@
+pub mod Laws
 pub mod Numbers
 pub mod Putting
 pub mod WordsRead

@@ -1,3 +1,4 @@
+pub mod Laws
 pub mod Number
 pub mod Put
 pub mod Words

@@ -8,6 +8,7 @@ pub mod Exact
 pub mod Filling
 pub mod Givens
 pub mod Inverted
+pub mod Laws
 pub mod Line
 pub mod Meeting
 pub mod Nearest

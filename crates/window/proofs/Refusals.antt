@@ -1,7 +1,7 @@
 -- Which test a window meets: the first of 20 to 26, in this order, that does not hold everywhere, at the lowest place at which it does not.
 -- Assumes nothing.
 use mathlib.Core.Path.{_≡_, refl}
-use mathlib.Core.Bool.{Bool, true, false, not}
+use mathlib.Core.Bool.{Bool, not}
 use mathlib.Core.List.{List, [], _∷_}
 use mathlib.Core.Option.{Option, none, some}
 use Prim.Native.Nat.{ℕ, zero, suc, _+_, _*_, _≤_, _<_}
@@ -13,21 +13,12 @@ use Rattle.span.specs.declared.format.Format.{Format}
 use Rattle.span.specs.declared.format.Shape.{Shape}
 use Rattle.span.specs.Format.{shapeOf, streams, pairsIn, symbolsIn}
 use Rattle.window.specs.declared.delivery.Delivery.{Delivery}
+use Rattle.window.specs.Laws.{Holds, Fails}
 use Rattle.window.specs.Read.{placed, wordTests, tests, deliveryOf, readSpan}
 use Rattle.window.specs.Scan.{holds20}
 use Rattle.window.specs.Tests.{holds21, holds22, holds23, holds24, holds25, holds26}
 use Rattle.window.specs.Words.{wordAt}
 use Rattle.window.proofs.Accepting.{none-fails, fails-at, nothing, passes, meets}
-
--- a test holds at all of n places
-abbrev pub Holds : ℕ → (ℕ → Bool) → Type 0
-Holds n holds = (k : ℕ) → k < n → holds k ≡ true
-
--- k is the lowest at which it does not
-pub record Fails (n : ℕ) (holds : ℕ → Bool) (k : ℕ) : Type 0 where
-  pub place : k < n
-  pub there : holds k ≡ false
-  pub before : (j : ℕ) → j < k → holds j ≡ true
 
 found : (n : ℕ) (holds : ℕ → Bool) (k : ℕ) → Fails n holds k → firstBelow n (λ k. not (holds k)) ≡ some k
 found n holds k x = fails-at n holds k (x .place) (x .there) (x .before)

@@ -18,7 +18,7 @@ use Rattle.symbol.specs.declared.disparity.Disparity.the-variants.{Negative, Po
 use Rattle.symbol.specs.declared.special.Special.the-variants.{«K28_5», «K29_7»}
 use Rattle.symbol.specs.Character.{characters, numberOf}
 use Rattle.symbol.specs.Code.{symbolOf, charOf, afterOf}
-use Rattle.symbol.proofs.Inverse.{decode-encode, decoded-below, one-meaning}
+use Rattle.symbol.proofs.Inverse.{decode-encode, one-meaning}
 use Rattle.decoder.specs.Decoder.{decodingTable, entryOf, entryIn}
 use Rattle.decoder.proofs.Reading.{number-is, entry-in}
 use Rattle.span.specs.declared.format.Shape.{Shape}
@@ -61,12 +61,6 @@ module _ (s : ℕ) where
   meant-none : charOf Negative s ≡ none → charOf Positive s ≡ none → meant s ≡ 0
   unfolding meant
   meant-none e q = rw (e, q)
-
-  pub meant-below : meant s < characters
-  meant-below =
-      either
-      (λ d c e. rw (meant-is d s c e) (decoded-below d s c e))
-      (λ e q. rw (meant-none e q) (omega arith))
 
   -- the number in its entry
   entry-none : charOf Negative s ≡ none → charOf Positive s ≡ none → entryOf s ≡ 0

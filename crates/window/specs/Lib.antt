@@ -2,6 +2,7 @@ pub mod Columns
 pub mod Encoded
 pub mod Fill
 pub mod Given
+pub mod Laws
 pub mod Read
 pub mod Scan
 pub mod Tests

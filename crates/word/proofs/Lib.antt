@@ -1,5 +1,6 @@
 pub mod Agree
 pub mod Guards
+pub mod Laws
 pub mod LineNumbers
 pub mod Near
 pub mod OneToOne

@@ -1,3 +1,4 @@
+pub mod Laws
 pub mod LineNumber
 pub mod Received
 pub mod Repair

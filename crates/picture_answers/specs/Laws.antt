@@ -1,0 +1,20 @@
+-- What holds of the answers of the calls on pictures to C: no two answers of the library cross as the same, so the number and the fields fix
+-- what was answered. `proofs/Laws` proves each.
+-- Assumes nothing.
+use Rattle.ground.specs.Answer.{OneToOne}
+use Rattle.picture.specs.declared.place.Placed.{Placed}
+use Rattle.picture.specs.Place.{paperPlaced}
+use Rattle.dividing.specs.declared.row.Copied.{Copied}
+use Rattle.dividing.specs.Row.{paperCopied}
+use Rattle.span.specs.declared.blanking.Filled.{Filled}
+use Rattle.span.specs.Blanking.{paperFilled}
+use Rattle.boundary.specs.Numbers.{numberIn}
+use Rattle.picture_answers.specs.Pictures.{placeAnswerOf}
+
+pub record PictureAnswersLaws : Type 0 where
+  -- the place of a sample
+  pub placeTold : OneToOne (λ (r : Placed). placeAnswerOf (paperPlaced r))
+  -- dividing a row and joining two, by the number alone
+  pub copiedTold : OneToOne (λ (r : Copied). numberIn (paperCopied r))
+  -- a row filled with blanking, by the number alone
+  pub filledTold : OneToOne (λ (r : Filled). numberIn (paperFilled r))

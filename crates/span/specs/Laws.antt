@@ -1,0 +1,177 @@
+-- What holds of a span, for a reader of the papers; `proofs/Laws` proves each. Streams count from 0 here, so the paper's stream 1 is stream 0.
+-- Assumes nothing.
+use Prim.Native.Nat.{ℕ, _+_, _*_, _≤_, _<_}
+use mathlib.Core.Path.{_≡_}
+use mathlib.Core.Bool.{true, false}
+use mathlib.Core.List.{List, [], _∷_, _++_}
+use mathlib.Core.Logic.{_⊎_}
+use lib.ListN.{length, getD, take}
+use Rattle.ground.specs.Answer.{refused, given, OneToOne}
+use Rattle.ground.specs.Range.{within}
+use Rattle.line.specs.Stream.{vOf, lineAfter}
+use Rattle.symbol.specs.declared.disparity.Disparity.{Disparity}
+use Rattle.symbol.specs.declared.disparity.Disparity.the-variants.{Negative}
+use Rattle.symbol.specs.declared.special.Special.the-variants.{«K28_5», «K29_7»}
+use Rattle.symbol.specs.Character.{numberOf}
+use Rattle.symbol.specs.Code.{symbolOf}
+use Rattle.packing.specs.Bytes.{bytesOf}
+use Rattle.crcc.specs.Crcc.{crc, crccWords}
+use Rattle.word.specs.LineNumber.{ln0, ln1}
+use Rattle.word.specs.Timing.{timing}
+use Rattle.span.specs.declared.content.Content.the-variants.{NoneNamed, Named}
+use Rattle.span.specs.declared.content.ContentBytes.{ContentBytes}
+use Rattle.span.specs.declared.format.Format.{Format}
+use Rattle.span.specs.Content.{contentOf}
+use Rattle.span.specs.Encoding.{symbolsFrom, afterRun}
+use Rattle.span.specs.Format.{shapeOf, streams, samplesIn, pairsIn, symbolsIn, eavAt, formatFrom}
+use Rattle.span.specs.Image.{imageOf}
+use Rattle.span.specs.Length.{paperLengths, lengthsOf}
+use Rattle.span.specs.Numbers.{IsFormat}
+use Rattle.span.specs.Sample.{blankWord, allowed, sampleWord, boundsOf}
+use Rattle.span.specs.Span.{listed, spanWords, spanChars, spanSymbols, signal}
+use Rattle.span.specs.Stream.{Asked, picture, eav, lineNumber, register}
+
+-- a format by its number and depth
+abbrev format : ℕ → ℕ → Format
+format number depth = (formatFrom number depth)
+
+-- a row of document 01's table: s, the ancillary words per stream, the fill words, the symbols, the samples
+abbrev pub columns : Format → List ℕ
+columns f =
+    let p = shapeOf f in streams p ∷ p .ancillary ∷ 2 * p .fill ∷ symbolsIn p ∷ samplesIn p ∷ []
+
+-- the images of two streams, and of four
+abbrev two : Format → ℕ → List ℕ
+two f pair = imageOf f pair 0 ∷ imageOf f pair 1 ∷ []
+
+abbrev four : Format → ℕ → List ℕ
+four f pair = imageOf f pair 0 ∷ imageOf f pair 1 ∷ imageOf f pair 2 ∷ imageOf f pair 3 ∷ []
+
+-- word j of stream t, at its interleaved place
+abbrev wordOf : Format → Asked → ℕ → ℕ → ℕ
+wordOf f a j t = getD (spanWords f a) (streams (shapeOf f) * j + t) 0
+
+-- the characters of spans one after the other
+abbrev pub allChars : Format → List Asked → List ℕ
+allChars f [] = []
+allChars f (a ∷ more) = spanChars f a ++ allChars f more
+
+pub record SpanLaws : Type 0 where
+  -- document 01's table of formats
+  pub tableOfFormats :
+      (depth : ℕ)
+      → (columns (format 1 depth) ≡ 2 ∷ 268 ∷ 880 ∷ 7920 ∷ 3840 ∷ [])
+      × (columns (format 2 depth) ≡ 2 ∷ 708 ∷ 1056 ∷ 9504 ∷ 3840 ∷ [])
+      × (columns (format 3 depth) ≡ 4 ∷ 708 ∷ 2112 ∷ 19008 ∷ 7680 ∷ [])
+  -- the lengths call answers it at 10 and 12 bits, and refuses whatever else is asked for with 1
+  pub lengths120 :
+      (depth : ℕ) → (depth ≡ 10) ⊎ (depth ≡ 12) → lengthsOf (format 1 depth) ≡ given (record { samples = 3840; symbols = 7920 })
+  pub lengths100 :
+      (depth : ℕ) → (depth ≡ 10) ⊎ (depth ≡ 12) → lengthsOf (format 2 depth) ≡ given (record { samples = 3840; symbols = 9504 })
+  pub lengths50 :
+      (depth : ℕ) → (depth ≡ 10) ⊎ (depth ≡ 12) → lengthsOf (format 3 depth) ≡ given (record { samples = 7680; symbols = 19008 })
+  pub lengthsMeets1 : (f : Format) → (IsFormat f → ⊥) → lengthsOf f ≡ refused 1 0
+  -- and a span has that many symbols
+  pub symbolsOfSpan :
+      (d : Disparity) (f : Format) (a : Asked) → IsFormat f → length (spanSymbols d f a) ≡ symbolsIn (shapeOf f)
+  -- the images that the streams carry: 1 and 2, or 3 and 4, at 120 and 100 Hz; 1 to 4 at 50 Hz (document 01, "Dividing a picture")
+  pub images120 : (depth : ℕ) → (two (format 1 depth) 1 ≡ 1 ∷ 2 ∷ []) × (two (format 1 depth) 2 ≡ 3 ∷ 4 ∷ [])
+  pub images100 : (depth : ℕ) → (two (format 2 depth) 1 ≡ 1 ∷ 2 ∷ []) × (two (format 2 depth) 2 ≡ 3 ∷ 4 ∷ [])
+  pub images50 : (depth pair : ℕ) → four (format 3 depth) pair ≡ 1 ∷ 2 ∷ 3 ∷ 4 ∷ []
+  -- the content bytes are those that a call names, and zeros where it names none (document 01, "Sending")
+  pub namedAsGiven : (f : Format) (c : ContentBytes) → contentOf f (Named c) ≡ c
+  pub noneNamedZeros : (f : Format) → contentOf f NoneNamed ≡ record { sav1 = 0; sav2 = 0; eav1 = 0; eav2 = 0 }
+  -- the words of each stream (document 01, "A span"; 004, 6.1 to 6.8): the SAV with V of the line,
+  pub savWords :
+      (f : Format) (a : Asked) (t : ℕ)
+      → t < streams (shapeOf f)
+      → (wordOf f a 0 t ≡ 0xFFF)
+      × (wordOf f a 1 t ≡ 0x000)
+      × (wordOf f a 2 t ≡ 0x000)
+      × (wordOf f a 3 t ≡ timing (vOf (a .line)) false)
+  -- the picture,
+  pub pictureWord :
+      (f : Format) (a : Asked) (t : ℕ)
+      → t < streams (shapeOf f)
+      → (i : ℕ)
+      → i < 1920
+      → wordOf f a (4 + i) t ≡ sampleWord f (a .line) t (getD (a .samples) (1920 * t + i) 0)
+  -- the EAV with V of the line after, that line's number,
+  pub eavWords :
+      (f : Format) (a : Asked) (t : ℕ)
+      → t < streams (shapeOf f)
+      → (wordOf f a 1924 t ≡ 0xFFF)
+      × (wordOf f a 1925 t ≡ 0x000)
+      × (wordOf f a 1926 t ≡ 0x000)
+      × (wordOf f a 1927 t ≡ timing (vOf (lineAfter (a .line))) true)
+  pub lineNumberWords :
+      (f : Format) (a : Asked) (t : ℕ)
+      → t < streams (shapeOf f)
+      → (wordOf f a 1928 t ≡ ln0 (lineAfter (a .line))) × (wordOf f a 1929 t ≡ ln1 (lineAfter (a .line)))
+  -- the CRCC, whose register runs on from the picture words to the last line-number word (6.4),
+  pub crccPair :
+      (f : Format) (a : Asked) (t : ℕ)
+      → t < streams (shapeOf f)
+      → (wordOf f a 1930 t ≡ crccWords (register f a t) .crcc0) × (wordOf f a 1931 t ≡ crccWords (register f a t) .crcc1)
+  pub registerRunsOn :
+      (f : Format) (a : Asked) (t : ℕ) → register f a t ≡ crc (crc 0 (picture f a t)) (eav a ++ lineNumber a)
+  -- the ancillary area, blanking throughout (6.8), and behind all streams the fill (7.1)
+  pub ancillaryBlank :
+      (f : Format) (a : Asked) (t : ℕ)
+      → t < streams (shapeOf f)
+      → (i : ℕ)
+      → i < shapeOf f .ancillary
+      → wordOf f a (1932 + i) t ≡ blankWord f
+  pub fillWords :
+      (f : Format) (a : Asked) (i : ℕ)
+      → i < 2 * shapeOf f .fill
+      → getD (spanWords f a) (streams (shapeOf f) * (1932 + shapeOf f .ancillary) + i) 0 ≡ 0x100
+  -- the characters: K28.5 twice and two content bytes first, K29.7 twice and two content bytes at the EAV,
+  pub savChars :
+      (f : Format) (a : Asked)
+      → (getD (spanChars f a) 0 0 ≡ numberOf «K28_5»)
+      × (getD (spanChars f a) 1 0 ≡ numberOf «K28_5»)
+      × (getD (spanChars f a) 2 0 ≡ contentOf f (a .content) .sav1)
+      × (getD (spanChars f a) 3 0 ≡ contentOf f (a .content) .sav2)
+  pub eavChars :
+      (f : Format) (a : Asked)
+      → IsFormat f
+      → let k = eavAt (shapeOf f) in
+      (getD (spanChars f a) k 0 ≡ numberOf «K29_7»)
+      × (getD (spanChars f a) (k + 1) 0 ≡ numberOf «K29_7»)
+      × (getD (spanChars f a) (k + 2) 0 ≡ contentOf f (a .content) .eav1)
+      × (getD (spanChars f a) (k + 3) 0 ≡ contentOf f (a .content) .eav2)
+  -- and everywhere else byte i of the three that words 2q and 2q + 1 make
+  pub byteChars :
+      (f : Format) (a : Asked)
+      → IsFormat f
+      → (q i : ℕ)
+      → q < pairsIn (shapeOf f)
+      → i < 3
+      → 4 ≤ 3 * q + i
+      → (eavAt (shapeOf f) ≤ 3 * q + i → eavAt (shapeOf f) + 4 ≤ 3 * q + i)
+      → getD (spanChars f a) (3 * q + i) 0
+      ≡ getD (listed (bytesOf (getD (spanWords f a) (2 * q) 0) (getD (spanWords f a) (2 * q + 1) 0))) i 0
+  -- each symbol is that of its character, at the disparity that those before it leave
+  pub symbolAt :
+      (f : Format) (a : Asked)
+      → IsFormat f
+      → (d : Disparity) (i : ℕ)
+      → i < symbolsIn (shapeOf f)
+      → getD (spanSymbols d f a) i 0 ≡ symbolOf (afterRun d (take i (spanChars f a))) (getD (spanChars f a) i 0)
+  -- a fresh signal is its spans' characters as one run from negative disparity (004, 7.1.1 and 7.1.2)
+  pub signalIs : (f : Format) (spans : List Asked) → signal f spans ≡ symbolsFrom Negative (allChars f spans)
+  -- the bounds and the factor that the code goes by say the same as the rule of each sample
+  pub boundsAgree :
+      (f : Format)
+      → IsFormat f
+      → (n t x : ℕ)
+      → allowed f n t x ≡ within (boundsOf f n .low) (boundsOf f n .high) x
+  pub factorAgrees :
+      (f : Format)
+      → IsFormat f
+      → (n t x : ℕ)
+      → allowed f n t x ≡ true
+      → sampleWord f n t x ≡ x * boundsOf f n .factor
+  -- the paper's number and values tell any two answers apart, so that a promise about them fixes the answer
+  pub lengthsTold : OneToOne paperLengths

@@ -1,0 +1,44 @@
+-- What holds of the 8B/10B code, for a reader of the papers; `proofs/Laws` proves each. The characters are numbered below 268.
+-- Assumes nothing.
+use Prim.Native.Nat.{ℕ, _-_, _≤_, _<_}
+use mathlib.Core.Path.{_≡_}
+use mathlib.Core.Logic.{_⊎_}
+use mathlib.Core.Option.{none, some}
+use lib.Count.{onesIn}
+use Rattle.ground.specs.Answer.{OneToOne}
+use Rattle.ground.specs.Bit.{inverted}
+use Rattle.symbol.specs.declared.disparity.Disparity.{Disparity}
+use Rattle.symbol.specs.declared.special.Special.{Special}
+use Rattle.symbol.specs.Character.{numberOf, nth}
+use Rattle.symbol.specs.Code.{symbolOf, afterOf, turns, TwoForms, charOf}
+use Rattle.symbol.specs.Disparity.{opposed, turnedIf}
+
+pub record SymbolLaws : Type 0 where
+  -- decoding a character's symbol gives the character, and encoding what was decoded gives the symbol (004, 7.1.1 and 7.1.2)
+  pub decodeEncode : (d : Disparity) (c : ℕ) → c < 268 → charOf d (symbolOf d c) ≡ some c
+  pub encodeDecode : (d : Disparity) (s c : ℕ) → charOf d s ≡ some c → symbolOf d c ≡ s
+  -- a number that is no character's symbol at a disparity is illegal there, and no other is
+  pub illegalIf : (d : Disparity) (s : ℕ) → ((c : ℕ) → c < 268 → symbolOf d c ≡ s → ⊥) → charOf d s ≡ none
+  pub illegalOnlyIf : (d : Disparity) (s : ℕ) → charOf d s ≡ none → (c : ℕ) → c < 268 → symbolOf d c ≡ s → ⊥
+  -- no two characters share a symbol, at one disparity or at two: a byte never looks like a special character
+  pub oneCharacter : (d e : Disparity) (b c : ℕ) → b < 268 → c < 268 → symbolOf d b ≡ symbolOf e c → b ≡ c
+  pub dataOrSpecial : (d e : Disparity) (b k : ℕ) → b < 256 → 256 ≤ k → k < 268 → symbolOf d b ≡ symbolOf e k → ⊥
+  -- a symbol has ten bits, and four to six of them are ones
+  pub tenBits : (d : Disparity) (c : ℕ) → c < 268 → symbolOf d c < 1024
+  pub fourToSix : (d : Disparity) (c : ℕ) → c < 268 → (4 ≤ onesIn 10 (symbolOf d c)) × (onesIn 10 (symbolOf d c) ≤ 6)
+  -- a character turns the disparity at both disparities or at neither
+  pub turnsBoth : (d : Disparity) (c : ℕ) → c < 268 → afterOf d c ≡ turnedIf (turns c) d
+  -- read at the opposite disparity, a symbol of a character with two forms is illegal
+  pub opposedIllegal : (d : Disparity) (c : ℕ) → c < 268 → TwoForms c → charOf (opposed d) (symbolOf d c) ≡ none
+  -- a character's symbol with one bit inverted is illegal, or is another's and leaves the opposite disparity
+  pub flip :
+      (d : Disparity) (c k : ℕ)
+      → c < 268
+      → k < 10
+      → let s = inverted k (symbolOf d c) in
+      (charOf d s ≡ none) ⊎ ((b : ℕ) × (charOf d s ≡ some b) × (afterOf d b ≡ opposed (afterOf d c)))
+  -- and it is no form of that character itself
+  pub flipNoForm : (d e : Disparity) (c k : ℕ) → c < 268 → k < 10 → inverted k (symbolOf d c) ≡ symbolOf e c → ⊥
+  -- the twelve special characters have the numbers 256 to 267, each its own
+  pub specialNumbers : (k : Special) → (256 ≤ numberOf k) × (numberOf k < 268) × (nth (numberOf k - 256) ≡ k)
+  pub specialTold : OneToOne numberOf

@@ -1,0 +1,91 @@
+-- What holds of reading a window, proved: each field cites the law that says it.
+-- Assumes nothing.
+use mathlib.Core.Path.{_≡_}
+use mathlib.Core.Bool.{true}
+use mathlib.Core.List.{List}
+use Prim.Native.Nat.{ℕ}
+use lib.ListN.{length}
+use Rattle.span.specs.declared.format.Format.{Format}
+use Rattle.span.specs.Format.{isKnown, numbered, shapeOf, symbolsIn}
+use Rattle.span.specs.Numbers.{IsFormat, Symbols}
+use Rattle.span.proofs.Formats.{Known, is-known}
+use Rattle.window.specs.Laws.{WindowRefusals, WindowLaws}
+use Rattle.window.proofs.Accepting.{accepted-told, delivers}
+use Rattle.window.proofs.Areas.{judged-21, judged-22, judged-23, judged-24, judged-25, judged-26, nameless, asked-once}
+use Rattle.window.proofs.Calls.{is-of, judge-meets-1, judge-meets-3, judged, read-as-judged, rows-after-1, rows-after-3, rows-after-4, rows-after-refusal, rows-delivered}
+use Rattle.window.proofs.Encoded.{fixed-bytes}
+use Rattle.window.proofs.Exact.{encoded-again}
+use Rattle.window.proofs.Inverted.{inverted-is-refused}
+use Rattle.window.proofs.Line.{line-answered, all-streams, recital}
+use Rattle.window.proofs.Nearest.{other-h}
+use Rattle.window.proofs.Refusals.{meets-20, meets-21, meets-22, meets-23, meets-24, meets-25, meets-26, numbers}
+use Rattle.window.proofs.RoundTrip.{sent-meets}
+use Rattle.window.proofs.SentAgain.{sendable-again, sent-again}
+use Rattle.window.proofs.Specials.{k28-5-at, only-k28-5, k29-7-at, only-k29-7}
+
+-- document 01's numbers, as the definitions have them
+known : (f : Format) → IsFormat f → Known f
+known f k = record { from = k .0; to = k .1; bits = k .2 }
+
+is-format : (f : Format) → IsFormat f → isKnown f ≡ true
+is-format f k = is-known f (known f k)
+
+-- what is no format there is none here
+no-format : (f : Format) → (IsFormat f → ⊥) → Known f → ⊥
+no-format f x k = x (k .from, k .to, k .bits)
+
+is-long : (f : Format) (w : List ℕ) → Symbols f (length w) → length w ≡ symbolsIn (shapeOf f)
+unfolding shapeOf
+is-long f w h = is-of (λ n. symbolsIn (numbered n)) (f .number) (length w) h
+
+pub window-refusals : WindowRefusals
+window-refusals = record {
+  judgeMeets1 = λ f w x. judge-meets-1 f w (no-format f x);
+  judgeMeets3 = λ f w k. judge-meets-3 f w (known f k);
+  judged = λ f w k. judged f w (known f k);
+  readAsJudged = read-as-judged;
+  rowsAfter1 = λ f w entry x. rows-after-1 f w entry (no-format f x);
+  rowsAfter3 = λ f w entry k. rows-after-3 f w entry (known f k);
+  rowsAfter4 = λ f w entry k. rows-after-4 f w entry (known f k);
+  rowsAfterRefusal = λ f w entry k long room number place e. rows-after-refusal f w entry (known f k) long room e;
+  rowsDelivered = λ f w entry k long room r e. rows-delivered f w entry (known f k) long room e;
+  meets20 = meets-20;
+  meets21 = meets-21;
+  meets22 = meets-22;
+  meets23 = meets-23;
+  meets24 = meets-24;
+  meets25 = meets-25;
+  meets26 = meets-26;
+  numbers = numbers;
+  judged21 = judged-21;
+  judged22 = judged-22;
+  nameless = nameless;
+  askedOnce = asked-once;
+  judged23 = judged-23;
+  judged24 = judged-24;
+  judged25 = judged-25;
+  judged26 = judged-26;
+  otherH = other-h;
+}
+
+pub window-laws : WindowLaws
+window-laws = record {
+  delivered = delivers;
+  lineAnswered = λ f w r k e. line-answered f w (is-format f k) (accepted-told f w r e);
+  allStreams = λ f w r k e. all-streams f w (is-format f k) (accepted-told f w r e);
+  recital = λ f w r k e. recital f w (is-format f k) (accepted-told f w r e);
+  k28At = λ f w r k e. k28-5-at f w (is-format f k) (accepted-told f w r e);
+  onlyK28 = λ f w r k e. only-k28-5 f w (is-format f k) (accepted-told f w r e);
+  k29At = λ f w r k e. k29-7-at f w (is-format f k) (accepted-told f w r e);
+  onlyK29 = λ f w r k e. only-k29-7 f w (is-format f k) (accepted-told f w r e);
+  fixedBytes = fixed-bytes;
+  sentMeets = sent-meets;
+  invertedRefused = λ f a d i k good h l. inverted-is-refused f a good d i k h l;
+  encodedAgain = λ f w r k long e. encoded-again f w (is-format f k) (is-long f w long) (accepted-told f w r e);
+  sentAgain =
+      λ f w r k long e none-wrong blank-ancillary blank-line.
+      let acc = accepted-told f w r e in (
+        sendable-again f w (is-format f k) (is-long f w long) acc none-wrong blank-ancillary blank-line,
+        sent-again f w (is-format f k) (is-long f w long) acc none-wrong blank-ancillary blank-line,
+      );
+}
