@@ -4,7 +4,8 @@ use mathlib.Core.Path.{_≡_, refl, sym, ap, _∙_}
 use mathlib.Core.Bool.{cond}
 use Prim.Native.Nat.{ℕ}
 use lib.Dec.{eqb}
-use Rattle.ground.specs.Answer.{Answer, refused, given, OneToOne}
+use Rattle.ground.specs.Answer.{Answer, refused, given}
+use Rattle.ground.specs.Inside.Answer.{OneToOne}
 use Rattle.symbol.specs.declared.disparity.Disparity.{Disparity}
 use Rattle.symbol.specs.declared.disparity.Disparity.the-variants.{Negative, Positive}
 use Rattle.boundary.specs.Numbers.{disparityFrom, isPositive}

@@ -6,7 +6,7 @@ use Prim.Native.Nat.{ℕ, _+_, _-_, _≤_, _<_}
 use native.Mathlib.Omega.{arith}
 use lib.Dec.{eqb}
 use borrow.Author.Tests.{eqb-true, lt-ltb, le-ltb}
-use Rattle.ground.specs.Test.{everyBelow}
+use Rattle.ground.specs.Inside.Test.{everyBelow}
 use Rattle.ground.proofs.Tests.{at-number}
 use Rattle.symbol.specs.declared.disparity.Disparity.{Disparity}
 use Rattle.symbol.specs.Character.{characters, numberOf, nth}

@@ -9,8 +9,8 @@ use Rattle.ground.specs.Written.{upto, table}
 use Rattle.ground.specs.Xor.{_⊕_}
 use Rattle.ground.proofs.Writing.{upto-more}
 use Rattle.ground.proofs.Xors.{⊕-zero, ⊕-self, ⊕-middle, ⊕-div, ⊕-mod, ⊕-times}
-use Rattle.crcc.specs.Ahead.{ahead}
 use Rattle.crcc.specs.Crcc.{bitStep, bitSteps, crc, crcWord}
+use Rattle.crcc.specs.Inside.Ahead.{ahead}
 use Rattle.crcc.proofs.Crc.{word-step, crc-append}
 
 -- ---- one word

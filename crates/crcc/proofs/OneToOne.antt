@@ -2,7 +2,8 @@
 -- Assumes nothing.
 use mathlib.Core.Path.{_≡_, refl}
 use Prim.Native.Nat.{ℕ}
-use Rattle.ground.specs.Answer.{Answer, refused, given, OneToOne}
+use Rattle.ground.specs.Answer.{Answer, refused, given}
+use Rattle.ground.specs.Inside.Answer.{OneToOne}
 use Rattle.ground.proofs.Answers.{told-again}
 use Rattle.crcc.specs.declared.crcc.Crcc.{Crcc}
 use Rattle.crcc.specs.declared.crcc.Crcc.the-variants as Crcc

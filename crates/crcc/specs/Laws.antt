@@ -4,7 +4,8 @@ use Prim.Native.Nat.{ℕ, _+_, _*_, _/_, _%_, _^_, _≤_, _<_}
 use mathlib.Core.Path.{_≡_}
 use mathlib.Core.List.{List, [], _∷_, _++_, map}
 use lib.ListN.{length, getD}
-use Rattle.ground.specs.Answer.{refused, given, OneToOne}
+use Rattle.ground.specs.Answer.{refused, given}
+use Rattle.ground.specs.Inside.Answer.{OneToOne}
 use Rattle.crcc.specs.Crcc.{crc, crccWords, paperCrcc, crccOf}
 
 pub record CrccLaws : Type 0 where

@@ -1,4 +1,3 @@
-pub mod Ahead
 pub mod Crcc
+pub mod Inside
 pub mod Laws
-pub mod Sums

@@ -9,16 +9,16 @@ use lib.Dec.{eqb, ltb}
 use lib.ListN.{length, getD}
 use borrow.Author.Tests.{eqb-true, ltb-true}
 use Rattle.ground.specs.Search.{isSome}
-use Rattle.ground.specs.Test.{everyAt, everyBelow}
+use Rattle.ground.specs.Inside.Test.{everyAt, everyBelow}
 use Rattle.ground.proofs.Tests.{both-left, both-right, at-entry, at-number}
 use Rattle.ground.proofs.Writing.{is-table, getD-table}
 use Rattle.symbol.specs.declared.disparity.Disparity.{Disparity}
 use Rattle.symbol.specs.declared.disparity.Disparity.the-variants.{Negative, Positive}
 use Rattle.symbol.specs.Character.{characters}
 use Rattle.symbol.specs.Code.{symbolOf, charOf}
-use Rattle.decoder.specs.Decoder.{entryFrom, entryOf, decodingTable, legalBit}
 use Rattle.decoder.specs.Meaning.{firstOf}
 use Rattle.symbol.proofs.Inverse.{decode-encode, illegal-is}
+use Rattle.decoder.specs.Inside.Decoder.{entryFrom, entryOf, decodingTable, legalBit}
 
 -- the character that an entry gives at a disparity, if any
 abbrev pub look : Disparity → ℕ → Option ℕ

@@ -10,13 +10,14 @@ use lib.Dec.{eqb}
 use borrow.Author.Tests.{eq-eqb, ne-eqb}
 use Rattle.symbol.specs.declared.disparity.Disparity.{Disparity}
 use Rattle.symbol.specs.declared.disparity.Disparity.the-variants.{Negative, Positive}
-use Rattle.symbol.specs.Code.{charOf, afterOf, turns, bit}
-use Rattle.symbol.specs.Disparity.{turnedIf}
+use Rattle.symbol.specs.Code.{charOf, afterOf}
+use Rattle.symbol.specs.Inside.Code.{turns, bit}
+use Rattle.symbol.specs.Inside.Disparity.{turnedIf}
 use Rattle.symbol.proofs.Inverse.{decoded-below}
 use Rattle.symbol.proofs.Ones.{turns-both}
-use Rattle.decoder.specs.Decoder.{entryOf, legalBit}
+use Rattle.decoder.specs.Inside.Decoder.{entryOf, legalBit}
+use Rattle.decoder.specs.Inside.Mask.{maskOf, ofMask, legalBy, afterBy}
 use Rattle.decoder.proofs.Reading.{turn-is}
-use Rattle.decoder.specs.Mask.{maskOf, ofMask, legalBy, afterBy}
 
 pub mask-again : (d : Disparity) → ofMask (maskOf d) ≡ d
 mask-again Negative = refl

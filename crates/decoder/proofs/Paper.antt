@@ -7,8 +7,9 @@ use Prim.Native.Nat.{ℕ, _≤_, _<_}
 use native.Mathlib.Omega.{arith}
 use lib.Dec.{eqb}
 use borrow.Author.Tests.{lt-ltb, le-ltb}
-use Rattle.ground.specs.Answer.{Answer, refused, given, OneToOne}
+use Rattle.ground.specs.Answer.{Answer, refused, given}
 use Rattle.ground.specs.Search.{isSome}
+use Rattle.ground.specs.Inside.Answer.{OneToOne}
 use Rattle.ground.proofs.Answers.{told-again}
 use Rattle.symbol.specs.declared.disparity.Disparity.{Disparity}
 use Rattle.symbol.specs.declared.disparity.Disparity.the-variants.{Negative, Positive}

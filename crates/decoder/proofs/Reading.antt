@@ -12,15 +12,16 @@ use Rattle.ground.proofs.Cases.{on-test}
 use Rattle.symbol.specs.declared.disparity.Disparity.{Disparity}
 use Rattle.symbol.specs.declared.disparity.Disparity.the-variants.{Negative, Positive}
 use Rattle.symbol.specs.Character.{characters}
-use Rattle.symbol.specs.Code.{symbolOf, charOf, afterOf, turns, bit}
+use Rattle.symbol.specs.Code.{symbolOf, charOf, afterOf}
+use Rattle.symbol.specs.Inside.Code.{turns, bit}
+use Rattle.symbol.specs.Inside.Disparity.{turnedIf}
 use Rattle.decoder.specs.Decode.{decodeOf}
-use Rattle.decoder.specs.Decoder.{decodedBy, decodingTable, entryAfter, entryFrom, entryIn, entryOf, legalBit, meaningBy}
 use Rattle.decoder.specs.Meaning.{meaningOf}
-use Rattle.symbol.specs.Disparity.{turnedIf}
 use Rattle.symbol.proofs.Characters.{bit-is, bit-below}
 use Rattle.decoder.proofs.Entries.{look, entryGiving, entry-at}
 use Rattle.symbol.proofs.Inverse.{decoded-below, one-meaning, illegal-is}
 use Rattle.symbol.proofs.Ones.{symbol-below, turns-both}
+use Rattle.decoder.specs.Inside.Decoder.{decodedBy, decodingTable, entryAfter, entryFrom, entryIn, entryOf, legalBit, meaningBy}
 
 abbrev side : {A : Type 0} → Disparity → A → A → A
 side Negative n p = n

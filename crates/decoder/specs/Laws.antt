@@ -4,15 +4,16 @@ use Prim.Native.Nat.{ℕ, _%_, _≤_, _<_}
 use mathlib.Core.Path.{_≡_}
 use mathlib.Core.Option.{some, Option·map}
 use lib.ListN.{getD}
-use Rattle.ground.specs.Answer.{refused, given, OneToOne}
+use Rattle.ground.specs.Answer.{refused, given}
 use Rattle.ground.specs.Search.{isSome}
+use Rattle.ground.specs.Inside.Answer.{OneToOne}
 use Rattle.symbol.specs.declared.disparity.Disparity.{Disparity}
 use Rattle.symbol.specs.declared.disparity.Disparity.the-variants.{Negative, Positive}
 use Rattle.symbol.specs.Character.{characterOf}
 use Rattle.symbol.specs.Code.{symbolOf, charOf, afterOf}
 use Rattle.decoder.specs.Decode.{paperDecoded, decodeOf}
-use Rattle.decoder.specs.Decoder.{entryOf, decodingTable, legalBit, entryAfter}
 use Rattle.decoder.specs.Meaning.{paperMeaning, meantBy, meaningOf}
+use Rattle.decoder.specs.Inside.Decoder.{entryOf, decodingTable, legalBit, entryAfter}
 
 pub record DecoderLaws : Type 0 where
   -- the single decoder refuses a number above 1023 with 7, and one that is no character's symbol at the disparity with 20

@@ -1,5 +1,4 @@
 pub mod Decode
-pub mod Decoder
+pub mod Inside
 pub mod Laws
-pub mod Mask
 pub mod Meaning

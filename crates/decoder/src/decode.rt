@@ -3,7 +3,7 @@ use symbol::disparity::Disparity;
 use symbol::special::Special;
 ghost use mathlib.Core.Path.{_≡_};
 ghost use Rattle.decoder.specs.Decode.{paperDecoded, decodeOf};
-ghost use Rattle.decoder.specs.Decoder.{decodedBy};
+ghost use Rattle.decoder.specs.Inside.Decoder.{decodedBy};
 
 // What a symbol is where the disparity before it is known, with the disparity after it.
 pub enum Decoded {

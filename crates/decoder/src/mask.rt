@@ -1,7 +1,7 @@
 // The entries of the decoding table for a loop, which keeps the disparity as the bit of an entry that says whether it is legal there.
 use symbol::disparity::Disparity;
 ghost use mathlib.Core.Path.{_≡_};
-ghost use Rattle.decoder.specs.Mask.{maskOf, ofMask, legalBy, afterBy};
+ghost use Rattle.decoder.specs.Inside.Mask.{maskOf, ofMask, legalBy, afterBy};
 
 // The bit for a disparity.
 pub fn mask_of(d: Disparity) -> u16

@@ -3,7 +3,7 @@ use symbol::disparity::Disparity;
 use symbol::special::Special;
 ghost use mathlib.Core.Path.{_≡_};
 ghost use Rattle.decoder.specs.Meaning.{paperMeaning, meaningOf};
-ghost use Rattle.decoder.specs.Decoder.{meaningBy};
+ghost use Rattle.decoder.specs.Inside.Decoder.{meaningBy};
 
 // The disparities at which a symbol is legal.
 pub struct Legal {

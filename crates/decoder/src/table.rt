@@ -2,7 +2,7 @@
 use symbol::disparity::Disparity;
 ghost use mathlib.Core.Path.{_≡_};
 ghost use Prim.Native.Nat.{_%_};
-ghost use Rattle.decoder.specs.Decoder.{decodingTable, entryOf, entryIn, legalBit, entryAfter};
+ghost use Rattle.decoder.specs.Inside.Decoder.{decodingTable, entryOf, entryIn, legalBit, entryAfter};
 
 // An entry for each symbol: the character's number in bits 0 to 8 (a byte is its own number, the special characters are 256 to 267),
 // bit 9 where it is legal at negative disparity, bit 10 at positive, bits 11 and 12 where it turns the disparity, bit 13 where it is a byte;

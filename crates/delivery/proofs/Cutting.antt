@@ -11,7 +11,8 @@ use lib.Seq.{take-nil, take-take}
 use borrow.Author.Tests.{ltb-true, ltb-false}
 use Rattle.ground.proofs.Cases.{on-test}
 use Rattle.delivery.specs.Delivery.{Found, either, deliver}
-use Rattle.delivery.specs.Marked.{Whole, AllBehind}
+use Rattle.delivery.specs.Marked.{AllBehind}
+use Rattle.delivery.specs.Inside.Marked.{Whole}
 use Rattle.delivery.proofs.Steps.{too-few}
 
 module _ {A : Type 0} (n : ℕ) (read : List ℕ → Option A) (whole : Whole n read) where

@@ -15,7 +15,7 @@ use Rattle.ground.specs.Search.{firstFrom, isSome}
 use Rattle.ground.proofs.Cases.{on-test}
 use Rattle.ground.proofs.Searches.{hit-from, miss-from, is-hit-from, is-miss-from}
 use Rattle.delivery.specs.Delivery.{Found, followed, windowAt, acceptsAt, findFrom, readFrom, nextFrom, foundFrom, deliver, deliveryFrom}
-use Rattle.delivery.specs.Marked.{Whole}
+use Rattle.delivery.specs.Inside.Marked.{Whole}
 use Rattle.delivery.proofs.Steps.{too-few, found, passed-over}
 
 -- a reading or none

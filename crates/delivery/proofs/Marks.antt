@@ -11,7 +11,7 @@ use native.Mathlib.Omega.{arith}
 use lib.ListN.{length, getD, take, List·getD-append}
 use lib.Seq.{take-at, drop-at, getD-take}
 use Rattle.delivery.specs.Delivery.{Found, either, deliver}
-use Rattle.delivery.specs.Marked.{Marked}
+use Rattle.delivery.specs.Inside.Marked.{Marked}
 use Rattle.delivery.proofs.Steps.{found, passed-over}
 
 module _ {A : Type 0} (n : ℕ) (read : List ℕ → Option A) (mark : ℕ → Bool) (m : Marked n read mark) where

@@ -9,7 +9,7 @@ use native.Mathlib.Omega.{arith}
 use lib.ListN.{length, take}
 use lib.Seq.{take-at, drop-at, take-all}
 use Rattle.delivery.specs.Delivery.{Found, deliver, strung, placedFrom, Each}
-use Rattle.delivery.specs.Marked.{Whole, Marked}
+use Rattle.delivery.specs.Inside.Marked.{Whole, Marked}
 use Rattle.delivery.proofs.Steps.{found, of-nothing, passed-over}
 use Rattle.delivery.proofs.Splitting.{split}
 use Rattle.delivery.proofs.Cutting.{none-of-few}

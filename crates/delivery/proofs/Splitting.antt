@@ -14,7 +14,7 @@ use lib.Seq.{take-at, drop-at, take-append-le, getD-take, getD-append-add}
 use borrow.Author.Tests.{ltb-true, ltb-false}
 use Rattle.ground.proofs.Cases.{on-test}
 use Rattle.delivery.specs.Delivery.{Found, either, deliver}
-use Rattle.delivery.specs.Marked.{Marked}
+use Rattle.delivery.specs.Inside.Marked.{Marked}
 use Rattle.delivery.proofs.Steps.{too-few, found}
 
 module _ {A : Type 0} (n : ℕ) (read : List ℕ → Option A) (mark : ℕ → Bool) (m : Marked n read mark) where

@@ -9,7 +9,7 @@ use native.Mathlib.Omega.{arith}
 use lib.ListN.{length, take, drop, length-drop}
 use lib.Seq.{take-nil}
 use Rattle.delivery.specs.Delivery.{Found, either, deliver, deliveryFrom, movedBy}
-use Rattle.delivery.specs.Marked.{Whole}
+use Rattle.delivery.specs.Inside.Marked.{Whole}
 
 -- nothing is read of too few symbols
 pub too-few : {A : Type 0} (n : ℕ) (read : List ℕ → Option A) → Whole n read → (w : List ℕ) → length w < n → read w ≡ none

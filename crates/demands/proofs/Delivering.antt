@@ -22,7 +22,6 @@ use Rattle.delivery.proofs.Spans.{ReadAs, nothing-of, exactly, in-place}
 use Rattle.delivery.proofs.Splitting.{split}
 use Rattle.delivery.proofs.Steps.{moved, too-few, few}
 use Rattle.recording.specs.Call.{spanned, nextOf, findOf, nextRows, rowsNext}
-use Rattle.recording.specs.Look.{isComma}
 use Rattle.recording.specs.Recording.{limit, Reading, reading, nextFrom, deliveryFrom}
 use Rattle.recording.proofs.Calling.{finds-place, finds-none}
 use Rattle.recording.proofs.Readings.{reading-told, span-whole, span-marked}
@@ -30,9 +29,10 @@ use Rattle.recording.specs.declared.seek.Spanned.{Spanned}
 use Rattle.window.specs.declared.delivery.Delivery.{Delivery}
 use Rattle.window.specs.Read.{pictureOf, readOf, rowsLeft, rowsRead}
 use Rattle.window.proofs.Accepting.{row-passed}
-use Rattle.read.specs.Window.{IsWindow}
 use borrow.Author.Tests.{leb-true, eqb-true}
 use Rattle.ground.proofs.Answers.{given-is}
+use Rattle.read.specs.Inside.Window.{IsWindow}
+use Rattle.recording.specs.Inside.Look.{isComma}
 use Rattle.demands.specs.Form.{Sending, WasSent, symbolsOf, readingOf, spansOf, stepsFrom}
 use Rattle.stepping.specs.Steps.{spanStep, endStep, lastRows}
 use Rattle.stepping.proofs.Delivering.{steps-deliver}

@@ -19,8 +19,9 @@ use Rattle.ground.proofs.Writing.{length-upto, getD-upto, length-table, getD-ta
 use Rattle.line.specs.Stream.{isActive}
 use Rattle.picture.specs.Division.{h, w, lineFrom, sampleFrom}
 use Rattle.picture.specs.Place.{placedOf}
-use Rattle.dividing.specs.Row.{divided, joined, rowBy, streamIn}
+use Rattle.dividing.specs.Row.{divided, joined, streamIn}
 use Rattle.picture.proofs.Places.{found}
+use Rattle.dividing.specs.Inside.Row.{rowBy}
 use Rattle.dividing.proofs.Rows.{length-divided, sample-divided, length-joined, sample-joined}
 use Rattle.span.specs.declared.content.Content.{Content}
 use Rattle.span.specs.declared.format.Format.{Format}

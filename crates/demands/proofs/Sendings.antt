@@ -16,8 +16,8 @@ use Rattle.span.specs.Format.{shapeOf, samplesIn, symbolsIn}
 use Rattle.span.specs.Span.{spanAfter}
 use Rattle.span.specs.Stream.{Asked}
 use Rattle.span.proofs.Lengths.{known-has-streams, length-of-symbols}
+use Rattle.window.specs.Inside.Encoded.{Sendable}
 use Rattle.send.specs.Send.{forbidden, firstForbidden, refusals}
-use Rattle.window.specs.Encoded.{Sendable}
 use Rattle.window.proofs.Accepting.{row-passed}
 use Rattle.window.proofs.Inverted.{inverted-is-refused}
 use Rattle.window.proofs.RoundTrip.{round-trip, picture-back}

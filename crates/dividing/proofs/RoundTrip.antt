@@ -10,10 +10,11 @@ use Rattle.ground.specs.Answer.{given}
 use Rattle.ground.proofs.Writing.{is-table}
 use Rattle.picture.specs.Division.{imageAt, sampleIn, lineFrom, sampleFrom, w}
 use Rattle.picture.specs.Place.{placedOf}
-use Rattle.dividing.specs.Row.{divided, joined, rowBy}
+use Rattle.dividing.specs.Row.{divided, joined}
 use Rattle.picture.proofs.Places.{found}
 use Rattle.dividing.proofs.Rows.{sample-divided, length-joined, sample-joined}
 use Rattle.picture.proofs.Steps.{sample-back}
+use Rattle.dividing.specs.Inside.Row.{rowBy}
 
 -- joining what was divided is the row
 module _ (n : ℕ) (row : List ℕ) (e : length row ≡ 2 * n) where

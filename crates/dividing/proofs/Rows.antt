@@ -9,7 +9,8 @@ use lib.ListN.{length, getD, set}
 use lib.Seq.{sets}
 use Rattle.ground.specs.Written.{upto, table}
 use Rattle.ground.proofs.Writing.{sets-whole, sets-upto, length-upto, getD-upto, length-table, getD-table}
-use Rattle.dividing.specs.Row.{divided, joined, rowBy}
+use Rattle.dividing.specs.Row.{divided, joined}
+use Rattle.dividing.specs.Inside.Row.{rowBy}
 
 -- what the loops do: nothing yet, then a sample or a pair more
 module _ (row : List ℕ) (w : ℕ) where

@@ -4,9 +4,10 @@ use Prim.Native.Nat.{ℕ, _*_, _<_}
 use mathlib.Core.Path.{_≡_}
 use mathlib.Core.List.{List}
 use lib.ListN.{length, getD}
-use Rattle.ground.specs.Answer.{OneToOne}
+use Rattle.ground.specs.Inside.Answer.{OneToOne}
 use Rattle.picture.specs.Division.{imageAt, sampleIn, w, sampleFrom}
-use Rattle.dividing.specs.Row.{divided, joined, rowBy, paperCopied}
+use Rattle.dividing.specs.Row.{divided, joined, paperCopied}
+use Rattle.dividing.specs.Inside.Row.{rowBy}
 
 pub record DividingLaws : Type 0 where
   -- joining what was divided is the row (document 01, "Dividing a picture")

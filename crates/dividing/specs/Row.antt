@@ -1,6 +1,6 @@
 -- Dividing a row of a picture into the rows of two images, and joining them (004, 5.3; document 01, "Dividing a picture").
 -- Assumes nothing.
-use Prim.Native.Nat.{ℕ, zero, suc, _+_, _*_}
+use Prim.Native.Nat.{ℕ, _+_, _*_}
 use mathlib.Core.Bool.{Bool, _&&_}
 use mathlib.Core.List.{List, [], _∷_}
 use lib.Dec.{eqb}
@@ -21,11 +21,6 @@ joined n first second = upto n (λ j. getD first j 0 ∷ getD second j 0 ∷ [])
 -- the row of stream t, of rows that stand one after the other
 abbrev pub streamIn : List ℕ → ℕ → List ℕ
 streamIn words t = take 1920 (drop (1920 * t) words)
-
--- which of the two rows has a w: the first has 0, the second 1
-abbrev pub rowBy : ℕ → List ℕ → List ℕ → List ℕ
-rowBy zero first second = first
-rowBy (suc w) first second = second
 
 -- the paper's number for each answer
 abbrev pub paperCopied : Copied → Answer (Unit {0})

@@ -10,12 +10,13 @@ use lib.ListN.{getD}
 use Rattle.ground.proofs.Writing.{getD-table}
 use Rattle.symbol.specs.declared.disparity.Disparity.{Disparity}
 use Rattle.symbol.specs.declared.disparity.Disparity.the-variants.{Negative, Positive}
-use Rattle.symbol.specs.Code.{symbolOf, afterOf, turns}
-use Rattle.symbol.specs.Disparity.{turnedIf}
+use Rattle.symbol.specs.Code.{symbolOf, afterOf}
+use Rattle.symbol.specs.Inside.Code.{turns}
+use Rattle.symbol.specs.Inside.Disparity.{turnedIf}
 use Rattle.symbol.proofs.Ones.{turns-both}
 use Rattle.encoder.specs.declared.encode.Encoded.{Encoded}
 use Rattle.encoder.specs.Encode.{encoded}
-use Rattle.encoder.specs.Tables.{offsetOf, ofOffset, symbolTable, turnTable}
+use Rattle.encoder.specs.Inside.Tables.{offsetOf, ofOffset, symbolTable, turnTable}
 
 -- a disparity is told again from its offset
 pub offset-again : (d : Disparity) → ofOffset (offsetOf d) ≡ d

@@ -6,7 +6,7 @@ use lib.Bits.{bitXor}
 use lib.ListN.{getD}
 use Rattle.symbol.specs.declared.disparity.Disparity.{Disparity}
 use Rattle.symbol.specs.Code.{symbolOf, afterOf}
-use Rattle.encoder.specs.Tables.{offsetOf, ofOffset, symbolTable, turnTable}
+use Rattle.encoder.specs.Inside.Tables.{offsetOf, ofOffset, symbolTable, turnTable}
 
 pub record EncoderLaws : Type 0 where
   -- behind the offset of a disparity stand the symbols of the characters at it

@@ -1,3 +1,3 @@
 pub mod Encode
+pub mod Inside
 pub mod Laws
-pub mod Tables

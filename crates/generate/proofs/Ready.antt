@@ -17,7 +17,8 @@ use Rattle.span.specs.Format.{isKnown}
 use Rattle.generate.specs.declared.left.Left.{Left}
 use Rattle.generate.specs.declared.parameters.Parameters.{Parameters}
 use Rattle.generate.specs.Parameters.{formatIn, lineIn, parametersIn, rowsOf, wantedOf}
-use Rattle.generate.specs.Pieces.{allOf, nothing, leftBy, leftOf, nextOf, Ready}
+use Rattle.generate.specs.Pieces.{allOf, nothing, leftBy, leftOf, Ready}
+use Rattle.generate.specs.Inside.Pieces.{nextOf}
 use Rattle.generate.proofs.Wants.{meets-1, meets-2, meets-3}
 
 -- an answer is given or refused, not both

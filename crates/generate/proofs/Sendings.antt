@@ -19,7 +19,7 @@ use Rattle.test_picture.specs.TestPicture.{testSamples}
 use Rattle.test_picture.proofs.Puttings.{puts-samples}
 use Rattle.test_picture.proofs.Sendings.{is-sent}
 use Rattle.generate.specs.Generated.{spanOn}
-use Rattle.generate.specs.Pieces.{afterOr}
+use Rattle.generate.specs.Inside.Pieces.{afterOr}
 
 module _ (d : Disparity) (f : Format) (n : ℕ) (known : isKnown f ≡ true) (line : isLine n ≡ true) where
   module _ (entry : List ℕ) (long : length entry ≡ samplesIn (shapeOf f)) {samples : List ℕ} (put : samples ≡ samplesPut f n entry) where

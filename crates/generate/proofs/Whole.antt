@@ -13,7 +13,8 @@ use Rattle.generate.specs.declared.left.Left.{Left}
 use Rattle.generate.specs.declared.parameters.Parameters.{Parameters}
 use Rattle.generate.specs.Generated.{spanOn, spansFrom, lowFirst, refusedText, written, generated}
 use Rattle.generate.specs.Parameters.{wantedOf}
-use Rattle.generate.specs.Pieces.{startText, startOf, leftBy, leftOf, restOf, spanBytes, nextOf}
+use Rattle.generate.specs.Pieces.{startText, startOf, leftBy, leftOf}
+use Rattle.generate.specs.Inside.Pieces.{restOf, spanBytes, nextOf}
 use Rattle.generate.proofs.LowFirst.{low-append}
 
 -- the start, and then what is left

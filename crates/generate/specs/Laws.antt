@@ -16,7 +16,8 @@ use Rattle.text.specs.Words.{wordsOf}
 use Rattle.generate.specs.declared.left.Left.{Left}
 use Rattle.generate.specs.Generated.{spansFrom, lowFirst, generated}
 use Rattle.generate.specs.Parameters.{formatIn, lineIn, countIn, parametersIn, wantedOf}
-use Rattle.generate.specs.Pieces.{startOf, leftOf, restOf, spanBytes, nextOf}
+use Rattle.generate.specs.Pieces.{startOf, leftOf}
+use Rattle.generate.specs.Inside.Pieces.{restOf, spanBytes, nextOf}
 
 pub record GenerateLaws : Type 0 where
   -- an unknown format or depth meets 1, a first line that is not 1 to 1125 meets 2, a missing byte or a recording that the finder does not take

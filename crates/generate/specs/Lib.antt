@@ -1,4 +1,5 @@
 pub mod Generated
+pub mod Inside
 pub mod Laws
 pub mod Parameters
 pub mod Pieces

@@ -5,15 +5,13 @@ use mathlib.Core.Bool.{Bool, cond, _&&_}
 use mathlib.Core.List.{List, [], _∷_}
 use lib.Dec.{leb, ltb}
 use lib.ListN.{length, getD}
-use Rattle.ground.specs.Answer.{Answer, refused, given, Row, unless, checked}
+use Rattle.ground.specs.Answer.{Answer, Row, unless, checked}
 use Rattle.line.specs.Stream.{isLine}
 use Rattle.span.specs.declared.format.Format.{Format}
 use Rattle.span.specs.Format.{formatFrom, isKnown, shapeOf, symbolsIn}
 use Rattle.recording.specs.Recording.{limit}
 use Rattle.text.specs.Words.{wordAt}
 use Rattle.generate.specs.declared.parameters.Parameters.{Parameters}
-use Rattle.generate.specs.declared.parameters.Wanted.{Wanted}
-use Rattle.generate.specs.declared.parameters.Wanted.the-variants.{Recording, UnknownFormat, NoLine, WrongInput}
 
 -- a byte of format, a byte of depth; a byte that is missing is neither
 abbrev pub formatIn : List ℕ → Format
@@ -34,13 +32,6 @@ isWhole input = leb 6 (length input)
 -- whether the finder takes a recording of that many spans
 abbrev pub isShort : List ℕ → Bool
 isShort input = leb (countIn input * symbolsIn (shapeOf (formatIn input))) limit
-
--- the paper's number for each answer
-abbrev pub paperWanted : Wanted → Answer Parameters
-paperWanted (Recording p) = given p
-paperWanted UnknownFormat = refused 1 0
-paperWanted NoLine = refused 2 0
-paperWanted WrongInput = refused 3 0
 
 -- 1 for an unknown format or depth, 2 where the first line is not 1 to 1125, 3 where bytes are missing or the recording would be too long
 abbrev pub rowsOf : List ℕ → List Row

@@ -9,7 +9,8 @@ ghost use Prim.Native.Nat.{_*_, _<_};
 ghost use lib.ListN.{length};
 ghost use Rattle.span.specs.Format.{shapeOf, samplesIn, symbolsIn};
 ghost use Rattle.send.specs.Send.{paperSent};
-ghost use Rattle.generate.specs.Pieces.{spanBytes, nextOf, Ready, afterOr};
+ghost use Rattle.generate.specs.Pieces.{Ready};
+ghost use Rattle.generate.specs.Inside.Pieces.{spanBytes, nextOf, afterOr};
 
 // So many spans, the first on this line and from this disparity.
 pub(crate) struct Left {

@@ -5,7 +5,8 @@ ghost use mathlib.Core.Path.{_≡_};
 ghost use mathlib.Core.Bool.{true};
 ghost use Rattle.line.specs.Stream.{isLine};
 ghost use Rattle.span.specs.Format.{isKnown};
-ghost use Rattle.generate.specs.Parameters.{formatIn, lineIn, paperWanted, wantedOf};
+ghost use Rattle.generate.specs.Parameters.{formatIn, lineIn, wantedOf};
+ghost use Rattle.generate.specs.Inside.Parameters.{paperWanted};
 
 pub(crate) struct Parameters {
     pub(crate) format: Format,

@@ -5,7 +5,8 @@ use mathlib.Core.Path.{_≡_, _∙_, refl, sym, ap}
 use mathlib.Core.List.{List, [], _∷_}
 use mathlib.Core.Option.{Option, none, some}
 use Prim.Native.Nat.{ℕ}
-use Rattle.ground.specs.Answer.{Answer, refused, given, Row, checked, unlessRefused, OneToOne}
+use Rattle.ground.specs.Answer.{Answer, refused, given, Row, checked, unlessRefused}
+use Rattle.ground.specs.Inside.Answer.{OneToOne}
 
 pub same-answer : {A B : Type 0} {f : A → B} {a b : A} {x : B} → OneToOne f → f a ≡ x → f b ≡ x → a ≡ b
 same-answer {a} {b} h p q = h a b (p ∙ sym q)

@@ -6,7 +6,7 @@ use mathlib.Core.List.{List, [], _∷_}
 use Prim.Native.Nat.{ℕ, zero, suc, _+_, _<_}
 use native.Mathlib.Nat.{add-zero, zero-add, add-suc, suc-add, le-of-suc-le-suc, not-suc-le-zero}
 use lib.ListN.{length, getD, replicate, length-replicate}
-use Rattle.ground.specs.Test.{everyAt, everyBelow}
+use Rattle.ground.specs.Inside.Test.{everyAt, everyBelow}
 
 pub both-left : (a b : Bool) → (a && b) ≡ true → a ≡ true
 both-left true b t = refl

@@ -12,8 +12,8 @@ use lib.Seq.{sets, sets-eq, drop-length, getD-append-add, ext-getD}
 use lib.Dec.{eqb}
 use borrow.Author.Tests.{eqb-true}
 use mathlib.Core.Bool.{true}
-use Rattle.ground.specs.Test.{everyAt}
 use Rattle.ground.specs.Written.{upto, table}
+use Rattle.ground.specs.Inside.Test.{everyAt}
 use Rattle.ground.proofs.Tests.{at-entry}
 
 module _ {A : Type 0} where

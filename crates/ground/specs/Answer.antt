@@ -1,6 +1,5 @@
 -- What a call answers in the paper's terms, and how its refusals are tried.
 -- Assumes nothing.
-use mathlib.Core.Path.{_≡_}
 use mathlib.Core.Bool.{Bool, cond}
 use mathlib.Core.List.{List, [], _∷_}
 use mathlib.Core.Option.{Option, none, some}
@@ -33,7 +32,3 @@ checked (r ∷ rs) a = orElse (r .fails) (r .number) (checked rs a)
 abbrev pub unlessRefused : {A B : Type 0} → Answer A → B → B → B
 unlessRefused (refused number place) entry made = entry
 unlessRefused (given a) entry made = made
-
--- a reading of answers that tells any two of them apart, so that a promise about the reading fixes the answer
-abbrev pub OneToOne : {A B : Type 0} → (A → B) → Type 0
-OneToOne {A} f = (a b : A) → f a ≡ f b → a ≡ b

@@ -6,12 +6,13 @@ use mathlib.Core.Bool.{Bool, true, false}
 use mathlib.Core.List.{List}
 use mathlib.Core.Option.{none, some}
 use lib.ListN.{length, getD}
-use Rattle.ground.specs.Answer.{Answer, refused, given, Row, checked, unlessRefused, OneToOne}
+use Rattle.ground.specs.Answer.{Answer, refused, given, Row, checked, unlessRefused}
 use Rattle.ground.specs.Bit.{inverted}
 use Rattle.ground.specs.Range.{within}
 use Rattle.ground.specs.Search.{firstBelow}
 use Rattle.ground.specs.Written.{table}
 use Rattle.ground.specs.Xor.{_⊕_}
+use Rattle.ground.specs.Inside.Answer.{OneToOne}
 
 pub record GroundLaws : Type 1 where
   -- two answers that a one-to-one reading sends to one value are the same: a promise about the reading permits one answer

@@ -1,8 +1,8 @@
 pub mod Answer
 pub mod Bit
+pub mod Inside
 pub mod Laws
 pub mod Range
 pub mod Search
-pub mod Test
 pub mod Written
 pub mod Xor

@@ -6,8 +6,8 @@ use Prim.Native.Nat.{ℕ, _+_, _-_, _≤_, _<_}
 use native.Mathlib.Omega.{arith}
 use lib.Dec.{ltb}
 use borrow.Author.Tests.{lt-ltb, ltb-true, ltb-false}
-use Rattle.ground.specs.Answer.{OneToOne}
 use Rattle.ground.specs.Range.{within}
+use Rattle.ground.specs.Inside.Answer.{OneToOne}
 use Rattle.ground.proofs.Answers.{told-again}
 use Rattle.ground.proofs.Cases.{on-test}
 use Rattle.ground.proofs.Ranges.{is-within, is-below, is-above, from-low, to-high}

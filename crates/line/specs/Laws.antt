@@ -3,7 +3,7 @@
 use Prim.Native.Nat.{ℕ, _+_, _≤_}
 use mathlib.Core.Path.{_≡_}
 use mathlib.Core.Bool.{true, false}
-use Rattle.ground.specs.Answer.{OneToOne}
+use Rattle.ground.specs.Inside.Answer.{OneToOne}
 use Rattle.line.specs.declared.picture.PictureLine.{PictureLine}
 use Rattle.line.specs.declared.stream.StreamLine.{StreamLine}
 use Rattle.line.specs.Picture.{streamLineOf, basicLineOf}

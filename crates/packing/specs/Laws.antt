@@ -4,7 +4,8 @@ use Prim.Native.Nat.{ℕ, _*_, _/_, _≤_, _<_}
 use mathlib.Core.Path.{_≡_}
 use mathlib.Core.Bool.{true}
 use mathlib.Core.Logic.{_⊎_}
-use Rattle.ground.specs.Answer.{refused, given, OneToOne}
+use Rattle.ground.specs.Answer.{refused, given}
+use Rattle.ground.specs.Inside.Answer.{OneToOne}
 use Rattle.packing.specs.declared.bytes.ThreeBytes.{ThreeBytes}
 use Rattle.packing.specs.Bytes.{bytesOf, wordsOf, paperPacked, packedOf}
 use Rattle.packing.specs.Sample.{allowed, sampleWord, allowedWord}

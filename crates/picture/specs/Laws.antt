@@ -2,7 +2,8 @@
 -- Assumes nothing.
 use Prim.Native.Nat.{ℕ, _+_, _*_, _≤_}
 use mathlib.Core.Path.{_≡_}
-use Rattle.ground.specs.Answer.{refused, given, OneToOne}
+use Rattle.ground.specs.Answer.{refused, given}
+use Rattle.ground.specs.Inside.Answer.{OneToOne}
 use Rattle.picture.specs.Choice.{rowOn}
 use Rattle.picture.specs.Division.{imageAt, lineIn, sampleIn, halved, h, w, lineFrom, sampleFrom}
 use Rattle.picture.specs.Place.{placeOf, paperPlaced, placedOf}

@@ -2,7 +2,8 @@
 -- Assumes nothing.
 use mathlib.Core.Path.{_≡_, refl}
 use Prim.Native.Nat.{ℕ}
-use Rattle.ground.specs.Answer.{Answer, OneToOne}
+use Rattle.ground.specs.Answer.{Answer}
+use Rattle.ground.specs.Inside.Answer.{OneToOne}
 use Rattle.picture.specs.declared.place.Place.{Place}
 use Rattle.picture.specs.declared.place.Placed.{Placed}
 use Rattle.picture.specs.declared.place.Placed.the-variants as Placed

@@ -22,19 +22,19 @@ use Rattle.span.specs.Format.{shapeOf, streams, pairsIn}
 use Rattle.span.specs.Span.{fillWord}
 use Rattle.span.proofs.Lengths.{known-has-streams}
 use Rattle.packing.specs.Sample.{allowedWord}
-use Rattle.window.specs.Fill.{fillRight}
-use Rattle.read_test21_26.specs.Picture.{allAllowed}
-use Rattle.read_test21_26.specs.Call.{place25, place26}
-use Rattle.read_test21_26.specs.Holds.{picture25, fill26, wrongIn}
-use Rattle.read_test21_26.specs.Verdict.{firstRow}
 use Rattle.read_test21_26.proofs.Regions.{from-word, before-word}
 use Rattle.read_test21_26.proofs.Searching.{hit-in, miss-in, is-miss-in}
 use Rattle.window.specs.Read.{placed, pictureOf}
 use Rattle.window.specs.Tests.{wordOf, column, rows, lineRead, holds25, holds26}
 use Rattle.window.specs.Words.{wordAt}
+use Rattle.window.specs.Inside.Fill.{fillRight}
 use Rattle.window.proofs.Accepting.{none-fails, fails-at}
 use Rattle.window.proofs.Placing.{place-again, stream-below, placed-at}
-use Rattle.read.specs.Window.{IsWindow, pictureTests, rightPicture}
+use Rattle.read_test21_26.specs.Inside.Call.{place25, place26}
+use Rattle.read_test21_26.specs.Inside.Holds.{picture25, fill26, wrongIn}
+use Rattle.read_test21_26.specs.Inside.Picture.{allAllowed}
+use Rattle.read_test21_26.specs.Inside.Verdict.{firstRow}
+use Rattle.read.specs.Inside.Window.{IsWindow, pictureTests, rightPicture}
 
 -- ---- a test of all places that asks something in one run alone is another test of that run
 module _ (n from to : ℕ) (holds asked : ℕ → Bool) (up : from ≤ to) (most : to ≤ n)

@@ -13,15 +13,15 @@ use Rattle.span.specs.Format.{shapeOf, streams, pairsIn}
 use Rattle.crcc.specs.declared.crcc.CrccWords.{CrccWords}
 use Rattle.crcc.specs.Crcc.{crc, crccWords}
 use Rattle.crcc.proofs.Crc.{crc-append}
-use Rattle.window.specs.Columns.{columnOf, sumsOf}
-use Rattle.read_test21_26.specs.Holds.{crccBehind, holds24By}
-use Rattle.read_test21_26.specs.Verdict.{serviceTests}
 use Rattle.window.specs.Read.{lowest, placed, wordTests}
-use Rattle.crcc.specs.Sums.{sumIn}
 use Rattle.window.specs.Tests.{wordOf, column, registerOf, holds21, holds22, holds23, holds24}
 use Rattle.word.specs.Received.{repaired}
+use Rattle.crcc.specs.Inside.Sums.{sumIn}
 use Rattle.window.specs.Words.{wordAt}
+use Rattle.window.specs.Inside.Columns.{columnOf, sumsOf}
 use Rattle.window.proofs.Placing.{stream-below}
+use Rattle.read_test21_26.specs.Inside.Holds.{crccBehind, holds24By}
+use Rattle.read_test21_26.specs.Inside.Verdict.{serviceTests}
 
 module _ (p : Shape) (w : List ℕ) (some-streams : 1 ≤ p .half) (few : p .half ≤ 2) where
   -- the sum of a stream is that of its picture words

@@ -10,7 +10,7 @@ use lib.Dec.{leb}
 use borrow.Author.Tests.{leb-true}
 use Rattle.ground.specs.Answer.{Row, refused, given, checked}
 use Rattle.ground.proofs.Tests.{both-left, both-right}
-use Rattle.read_test21_26.specs.Verdict.{firstRow}
+use Rattle.read_test21_26.specs.Inside.Verdict.{firstRow}
 
 -- the numbers of all rows lie in a range
 abbrev pub ranged : ℕ → ℕ → List Row → Bool

@@ -19,26 +19,26 @@ use Rattle.span.specs.declared.format.Shape.{Shape}
 use Rattle.span.specs.Format.{isKnown, shapeOf, streams, samplesIn, symbolsIn}
 use Rattle.span.proofs.Formats.{small}
 use Rattle.span.proofs.Lengths.{known-has-streams}
-use Rattle.read_test21_26.specs.Fill.{fillIf}
-use Rattle.window.specs.Fill.{fillRight}
-use Rattle.window.specs.Columns.{sumsOf}
 use Rattle.read_test21_26.specs.declared.call.Service.{Service}
 use Rattle.read_test21_26.specs.declared.service.Verdict.{Verdict}
-use Rattle.read_test21_26.specs.Call.{place25, place26, serviceOf, serviceIf, placeIf}
-use Rattle.read_test21_26.specs.Verdict.{firstRow, serviceTests}
 use Rattle.read_test20.specs.declared.place.Scanned.{Scanned}
-use Rattle.read_test20.specs.Run.{place20, scannedOf}
 use Rattle.window.specs.declared.delivery.Delivery.{Delivery}
 use Rattle.crcc.specs.declared.sums.Sums.{Sums}
 use Rattle.window.specs.Read.{wordTests, deliveryOf, pictureOf, readSpan, judgeOf, readOf, rowsLeft, rowsRead}
 use Rattle.window.specs.Scan.{startOf, runningAt, holds20}
 use Rattle.window.specs.Tests.{rows as rowsOf}
 use Rattle.window.specs.Words.{wordAt}
-use Rattle.read.specs.Window.{IsWindow}
+use Rattle.window.specs.Inside.Columns.{sumsOf}
+use Rattle.window.specs.Inside.Fill.{fillRight}
+use Rattle.read_test20.specs.Inside.Run.{place20, scannedOf}
+use Rattle.read_test20.specs.Inside.Whole.{wholeIf, placeIf20}
+use Rattle.read_test21_26.specs.Inside.Call.{place25, place26, serviceOf, serviceIf, placeIf}
+use Rattle.read_test21_26.specs.Inside.Fill.{fillIf}
+use Rattle.read_test21_26.specs.Inside.Verdict.{firstRow, serviceTests}
+use Rattle.read.specs.Inside.Window.{IsWindow}
 use Rattle.read.proofs.Picturing.{length-rows}
 use Rattle.read.proofs.Summing.{sums-right}
 use Rattle.read.proofs.Verdicts.{given-by, refused-by}
-use Rattle.read_test20.specs.Whole.{wholeIf, placeIf20}
 
 -- the place of test 20 is no further than the end
 pub place-most : (p : Shape) (w : List ℕ) → place20 p w ≤ length w

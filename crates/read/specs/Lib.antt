@@ -1,2 +1,2 @@
 pub mod Call
-pub mod Window
+pub mod Inside

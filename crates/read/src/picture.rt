@@ -4,13 +4,13 @@ use read_test21_26::service::Verdict;
 use span::format::Format;
 ghost use mathlib.Core.Path.{_≡_};
 ghost use mathlib.Core.Bool.{true};
-ghost use Rattle.read_test21_26.specs.Verdict.{firstRow};
-ghost use Rattle.window.specs.Fill.{fillRight};
 ghost use Rattle.span.specs.Format.{shapeOf, streams};
 ghost use Rattle.window.specs.Read.{pictureOf};
 ghost use Rattle.window.specs.Tests.{lineRead};
 ghost use Rattle.window.specs.Words.{wordAt};
-ghost use Rattle.read.specs.Window.{IsWindow, pictureTests, rightPicture};
+ghost use Rattle.window.specs.Inside.Fill.{fillRight};
+ghost use Rattle.read_test21_26.specs.Inside.Verdict.{firstRow};
+ghost use Rattle.read.specs.Inside.Window.{IsWindow, pictureTests, rightPicture};
 
 // Whether the words of the picture may be those of samples: on a blanking line any may.
 fn picture_is_right(f: Format, line: StreamLine, rows: &[u16]) -> bool

@@ -11,16 +11,16 @@ ghost use Prim.Native.Nat.{ℕ, _≤_};
 ghost use mathlib.Core.List.{List};
 ghost use lib.ListN.{length, replicate};
 ghost use Rattle.ground.specs.Answer.{refused};
-ghost use Rattle.read_test21_26.specs.Call.{serviceOf};
-ghost use Rattle.read_test21_26.specs.Verdict.{firstRow};
-ghost use Rattle.window.specs.Fill.{fillRight};
-ghost use Rattle.window.specs.Columns.{sumsOf};
-ghost use Rattle.read_test20.specs.Run.{scannedOf};
 ghost use Rattle.span.specs.Format.{shapeOf, samplesIn};
 ghost use Rattle.window.specs.Read.{wordTests, pictureOf, readSpan, judgeOf, readOf, rowsLeft, rowsRead};
 ghost use Rattle.window.specs.Words.{wordAt};
+ghost use Rattle.window.specs.Inside.Columns.{sumsOf};
+ghost use Rattle.window.specs.Inside.Fill.{fillRight};
+ghost use Rattle.read_test20.specs.Inside.Run.{scannedOf};
+ghost use Rattle.read_test21_26.specs.Inside.Call.{serviceOf};
+ghost use Rattle.read_test21_26.specs.Inside.Verdict.{firstRow};
 ghost use Rattle.read.specs.Call.{paperRead};
-ghost use Rattle.read.specs.Window.{IsWindow};
+ghost use Rattle.read.specs.Inside.Window.{IsWindow};
 
 // A refused span: its rows are all zero.
 fn refuse(number: u8, place: usize, rows: &mut [u16]) -> Read

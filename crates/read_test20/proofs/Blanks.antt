@@ -11,21 +11,21 @@ use lib.Bits.{bitOr, bitXor}
 use lib.ListN.{length}
 use borrow.Author.Tests.{ne-eqb}
 use Rattle.symbol.specs.Code.{symbolOf}
-use Rattle.decoder.specs.Mask.{ofMask}
+use Rattle.decoder.specs.Inside.Mask.{ofMask}
 use Rattle.packing.specs.Bytes.{bytesOf, wordsOf}
 use Rattle.packing.proofs.Packing.{unpack-pack}
-use Rattle.window.specs.Fill.{fillRight}
-use Rattle.window.specs.Given.{plainPair}
 use Rattle.window.proofs.Filling.{Both, all-right}
 use Rattle.window.proofs.Plain.{pair-is}
-use Rattle.read_test20.specs.Run.{Going}
-use Rattle.read_test20.specs.Blank.{blankBy, Repeats, AreBlank}
 use Rattle.read_test20.proofs.Gathering.{or-left, or-right, xor-none, blank-turn}
 use Rattle.span.specs.declared.format.Shape.{Shape}
 use Rattle.span.specs.Format.{symbolsIn}
 use Rattle.window.specs.Scan.{byteOf, symbolAt}
+use Rattle.window.specs.Inside.Fill.{fillRight}
+use Rattle.window.specs.Inside.Given.{plainPair}
 use Rattle.window.proofs.Symbols.{meant-of}
-use Rattle.read_test20.specs.See.{maskBy}
+use Rattle.read_test20.specs.Inside.Blank.{blankBy, Repeats, AreBlank}
+use Rattle.read_test20.specs.Inside.Run.{Going}
+use Rattle.read_test20.specs.Inside.See.{maskBy}
 
 -- what the code names are the symbols of the book
 at-negative : (m : ℕ) → m ≡ 512 → (0x0B9 ≡ blankBy m .first) × (0x0AE ≡ blankBy m .second) × (0x0B6 ≡ blankBy m .third)

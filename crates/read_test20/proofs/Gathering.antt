@@ -16,12 +16,12 @@ use Rattle.symbol.specs.declared.disparity.Disparity.{Disparity}
 use Rattle.symbol.specs.declared.disparity.Disparity.the-variants.{Negative, Positive}
 use Rattle.symbol.specs.Code.{symbolOf, charOf, afterOf}
 use Rattle.symbol.proofs.Inverse.{decode-encode}
-use Rattle.decoder.specs.Mask.{legalBy, maskOf, ofMask}
+use Rattle.decoder.specs.Inside.Mask.{legalBy, maskOf, ofMask}
 use Rattle.decoder.proofs.Masks.{mask-again}
 use Rattle.window.specs.Scan.{meant, symbolAt, runningAt}
 use Rattle.window.proofs.Symbols.{meant-of, running-on}
-use Rattle.read_test20.specs.Run.{suitsBy, suits, Going}
-use Rattle.read_test20.specs.Blank.{blankBy}
+use Rattle.read_test20.specs.Inside.Blank.{blankBy}
+use Rattle.read_test20.specs.Inside.Run.{suitsBy, suits, Going}
 use Rattle.read_test20.proofs.Runs.{further}
 
 -- ---- bits gathered

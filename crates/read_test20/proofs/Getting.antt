@@ -11,21 +11,21 @@ use Rattle.ground.specs.Written.{table}
 use Rattle.ground.proofs.Cases.{on-test}
 use Rattle.ground.proofs.Writing.{length-upto, getD-upto, length-table, getD-table, table-same}
 use Rattle.packing.specs.declared.bytes.TwoWords.{TwoWords}
-use Rattle.window.specs.Given.{plainPair}
-use Rattle.read_test20.specs.Picture.{putTwo, pairIn, putPair, placeTwo, rowsTwo, placeFour, rowsFour, Got, Taken}
-use Rattle.window.specs.Columns.{columnOf, sumsOf}
 use Rattle.window.proofs.Plain.{Behind, in-pair, stream-a, stream-b}
 use Rattle.read_test20.proofs.Streams.{rows-of-two, rows-of-four}
 use Rattle.read_test20.proofs.Taking.{begin, turn, under}
-use Rattle.row_crc.specs.Sums.{rowOf, sumsIn}
 use Rattle.span.specs.declared.format.Shape.{Shape}
 use Rattle.span.specs.Format.{streams, samplesIn}
 use Rattle.window.specs.Tests.{rows as rowsOf, wordOf}
 use Rattle.window.specs.Words.{wordAt}
+use Rattle.window.specs.Inside.Columns.{columnOf, sumsOf}
+use Rattle.window.specs.Inside.Given.{plainPair}
+use Rattle.row_crc.specs.Inside.Sums.{rowOf, sumsIn}
 use Rattle.read_test20.specs.declared.picture.Passed.{Passed}
 use Rattle.read_test20.specs.declared.see.Six.{Six}
 use Rattle.read_test20.specs.declared.see.Three.{Three}
-use Rattle.read_test20.specs.See.{seenThree, seenSix, Clean}
+use Rattle.read_test20.specs.Inside.Picture.{putTwo, pairIn, putPair, placeTwo, rowsTwo, placeFour, rowsFour, Got, Taken}
+use Rattle.read_test20.specs.Inside.See.{seenThree, seenSix, Clean}
 use Rattle.read_test20.proofs.Seeing.{three-turn}
 
 -- where a pair stands

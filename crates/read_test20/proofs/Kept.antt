@@ -22,17 +22,17 @@ use Rattle.symbol.specs.declared.disparity.Disparity.the-variants.{Negative, Po
 use Rattle.symbol.specs.Code.{symbolOf, charOf, afterOf}
 use Rattle.symbol.proofs.Inverse.{encode-decode, decoded-below}
 use Rattle.symbol.proofs.Ones.{symbol-below}
-use Rattle.decoder.specs.Mask.{maskOf}
-use Rattle.span.specs.Fit.{ready}
-use Rattle.read_test20.specs.Run.{suits, place20}
+use Rattle.decoder.specs.Inside.Mask.{maskOf}
 use Rattle.read_test20.proofs.Window.{same-test, kind-sav, kind-eav, kind-byte}
 use Rattle.span.specs.declared.format.Format.{Format}
 use Rattle.span.specs.declared.format.Shape.{Shape}
 use Rattle.span.specs.Format.{shapeOf, eavAt}
+use Rattle.span.specs.Inside.Fit.{ready}
 use Rattle.window.specs.Scan.{meant, symbolAt, runningAt, fits, holds20}
 use Rattle.window.proofs.Symbols.{some-meant, legal-told, running-on}
-use Rattle.read_test20.specs.See.{TenBits, AreBytes, maskBy}
-use Rattle.read_test20.specs.Whole.{Twice, AllHold, wholeIf}
+use Rattle.read_test20.specs.Inside.Run.{suits, place20}
+use Rattle.read_test20.specs.Inside.See.{TenBits, AreBytes, maskBy}
+use Rattle.read_test20.specs.Inside.Whole.{Twice, AllHold, wholeIf}
 
 -- ---- a special character
 

@@ -15,13 +15,13 @@ use Rattle.ground.specs.Search.{isSome}
 use Rattle.ground.proofs.Tests.{both-left}
 use Rattle.symbol.specs.declared.disparity.Disparity.the-variants.{Negative, Positive}
 use Rattle.symbol.specs.Code.{symbolOf, charOf}
-use Rattle.decoder.specs.Decoder.{decodingTable, entryOf, entryIn}
-use Rattle.decoder.specs.Mask.{maskOf, afterBy}
+use Rattle.decoder.specs.Inside.Decoder.{decodingTable, entryOf, entryIn}
+use Rattle.decoder.specs.Inside.Mask.{maskOf, afterBy}
 use Rattle.decoder.proofs.Masks.{legal-mask, after-mask}
 use Rattle.decoder.proofs.Reading.{legal-is, entry-in}
 use Rattle.window.specs.Scan.{meant, symbolAt, startOf, runningAt}
 use Rattle.window.proofs.Symbols.{meant-entry, some-meant, running-on}
-use Rattle.read_test20.specs.Run.{suitsBy, suits, Going}
+use Rattle.read_test20.specs.Inside.Run.{suitsBy, suits, Going}
 
 module _ (w : List ℕ) (low high : ℕ) where
   -- what the table says of a symbol is so

@@ -14,21 +14,21 @@ use Rattle.ground.proofs.Ranges.{to-high}
 use Rattle.ground.proofs.Tests.{both-left, both-right}
 use Rattle.symbol.specs.declared.disparity.Disparity.{Disparity}
 use Rattle.symbol.specs.declared.disparity.Disparity.the-variants.{Negative, Positive}
-use Rattle.decoder.specs.Decoder.{decodingTable, entryOf}
+use Rattle.decoder.specs.Inside.Decoder.{decodingTable, entryOf}
+use Rattle.decoder.specs.Inside.Mask.{legalBy, maskOf, afterBy}
 use Rattle.decoder.proofs.Entries.{entry-at}
 use Rattle.decoder.proofs.Reading.{entry-in, entry-fits, flag-byte, byte-flag}
-use Rattle.decoder.specs.Mask.{legalBy, maskOf, afterBy}
-use Rattle.read_test20.specs.Run.{suitsBy, Going}
 use Rattle.read_test20.proofs.Gathering.{suits-byte}
 use Rattle.read_test20.proofs.Runs.{suits-is, begin, turn}
 use Rattle.packing.specs.declared.bytes.TwoWords.{TwoWords}
 use Rattle.packing.specs.Bytes.{wordsOf}
-use Rattle.window.specs.Given.{plainPair}
 use Rattle.window.proofs.Plain.{pair-is}
 use Rattle.window.specs.Scan.{byteOf, symbolAt, runningAt}
+use Rattle.window.specs.Inside.Given.{plainPair}
 use Rattle.window.proofs.Symbols.{byte-is}
 use Rattle.read_test20.specs.declared.see.Seen.{Seen}
-use Rattle.read_test20.specs.See.{seen, seenThree, passesBy, maskBy, AreBytes, Clean}
+use Rattle.read_test20.specs.Inside.Run.{suitsBy, Going}
+use Rattle.read_test20.specs.Inside.See.{seen, seenThree, passesBy, maskBy, AreBytes, Clean}
 
 -- ---- bits
 

@@ -12,8 +12,8 @@ use Rattle.span.specs.declared.format.Shape.{Shape}
 use Rattle.span.specs.Format.{streams, samplesIn}
 use Rattle.window.specs.Tests.{rows as rowsOf, wordOf}
 use Rattle.window.specs.Words.{wordAt}
-use Rattle.read_test20.specs.Picture.{putTwo}
-use Rattle.window.specs.Columns.{columnOf}
+use Rattle.window.specs.Inside.Columns.{columnOf}
+use Rattle.read_test20.specs.Inside.Picture.{putTwo}
 
 module _ (p : Shape) (w : List ℕ) where
   sized : (t : ℕ) → length (columnOf p w 4 1920 t) ≡ 1920

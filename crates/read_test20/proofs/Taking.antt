@@ -8,7 +8,7 @@ use lib.ListN.{length, set}
 use lib.Seq.{sets, set-comm, length-sets}
 use Rattle.ground.specs.Written.{upto, table}
 use Rattle.ground.proofs.Writing.{sets-upto}
-use Rattle.read_test20.specs.Picture.{Taken}
+use Rattle.read_test20.specs.Inside.Picture.{Taken}
 
 -- a store before a run of stores may come after it
 store-before : {A : Type 0} (ys l : List A) (k i : ℕ) (x : A) → k < i → set (sets l i ys) k x ≡ sets (set l k x) i ys

@@ -11,8 +11,7 @@ use borrow.Author.Tests.{eq-eqb, ne-eqb}
 use Rattle.symbol.specs.declared.disparity.Disparity.{Disparity}
 use Rattle.symbol.specs.declared.disparity.Disparity.the-variants.{Negative, Positive}
 use Rattle.symbol.specs.Code.{symbolOf, afterOf}
-use Rattle.decoder.specs.Mask.{maskOf, ofMask}
-use Rattle.read_test20.specs.Run.{Going, scannedOf, Reached}
+use Rattle.decoder.specs.Inside.Mask.{maskOf, ofMask}
 use Rattle.read_test20.proofs.Gathering.{char-turn, join}
 use Rattle.read_test20.proofs.Runs.{begin}
 use Rattle.read_test20.proofs.Window.{all-suit, reached}
@@ -20,10 +19,11 @@ use Rattle.span.specs.declared.format.Shape.{Shape}
 use Rattle.span.specs.Format.{eavAt, symbolsIn}
 use Rattle.window.specs.Scan.{symbolAt, startOf, runningAt}
 use Rattle.window.proofs.Symbols.{running-start, starts}
-use Rattle.read_test20.specs.See.{passesBy, maskBy, Clean}
-use Rattle.read_test20.specs.Whole.{Tied, Begun, Stays, Ending}
+use Rattle.read_test20.specs.Inside.Picture.{Come}
+use Rattle.read_test20.specs.Inside.Run.{Going, scannedOf, Reached}
+use Rattle.read_test20.specs.Inside.See.{passesBy, maskBy, Clean}
+use Rattle.read_test20.specs.Inside.Whole.{Tied, Begun, Stays, Ending}
 use Rattle.read_test20.proofs.Seeing.{see-begin}
-use Rattle.read_test20.specs.Picture.{Come}
 
 module _ (w : List ℕ) where
   -- ---- K28.5 twice

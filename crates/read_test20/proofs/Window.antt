@@ -17,15 +17,15 @@ use Rattle.ground.proofs.Cases.{on-test}
 use Rattle.ground.proofs.Ranges.{is-within, not-within}
 use Rattle.ground.proofs.Searches.{is-hit, is-miss}
 use Rattle.symbol.specs.Code.{charOf}
-use Rattle.decoder.specs.Decoder.{decodingTable, entryOf, entryIn}
-use Rattle.decoder.specs.Mask.{maskOf, ofMask, afterBy}
+use Rattle.decoder.specs.Inside.Decoder.{decodingTable, entryOf, entryIn}
+use Rattle.decoder.specs.Inside.Mask.{maskOf, ofMask, afterBy}
 use Rattle.decoder.proofs.Masks.{mask-again, legal-mask, after-mask}
 use Rattle.decoder.proofs.Reading.{legal-is, entry-in}
 use Rattle.span.specs.declared.format.Shape.{Shape}
 use Rattle.span.specs.Format.{eavAt}
 use Rattle.window.specs.Scan.{meant, symbolAt, startOf, runningAt, fits, holds20}
 use Rattle.window.proofs.Symbols.{fits-sav, fits-eav, fits-byte, meant-entry, legal-told, running-on, running-start}
-use Rattle.read_test20.specs.Run.{suits, Going, place20, scannedOf, Reached, holdsBy}
+use Rattle.read_test20.specs.Inside.Run.{suits, Going, place20, scannedOf, Reached, holdsBy}
 
 -- ---- the kinds of characters as ranges of numbers
 

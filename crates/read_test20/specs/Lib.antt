@@ -1,5 +1,1 @@
-pub mod Blank
-pub mod Picture
-pub mod Run
-pub mod See
-pub mod Whole
+pub mod Inside

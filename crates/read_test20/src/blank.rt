@@ -3,7 +3,7 @@ ghost use mathlib.Core.Path.{_≡_};
 ghost use mathlib.Core.Bool.{true};
 ghost use Prim.Native.Nat.{_+_, _≤_};
 ghost use lib.ListN.{length};
-ghost use Rattle.read_test20.specs.Blank.{Repeats, AreBlank};
+ghost use Rattle.read_test20.specs.Inside.Blank.{Repeats, AreBlank};
 
 // Whether each symbol from the fourth on is the one three before it. Each is looked at, so that the loop takes many at a time.
 fn repeats(symbols: &[u16], from: usize, to: usize) -> bool

@@ -7,9 +7,9 @@ ghost use mathlib.Core.Bool.{true};
 ghost use Prim.Native.Nat.{ℕ, _+_, _-_, _*_, _%_, _≤_, _<_};
 ghost use mathlib.Core.List.{List};
 ghost use lib.ListN.{length};
-ghost use Rattle.decoder.specs.Decoder.{decodingTable};
-ghost use Rattle.read_test20.specs.See.{TenBits, AreBytes, Clean, passesBy};
-ghost use Rattle.read_test20.specs.Picture.{Got, Come, putPair};
+ghost use Rattle.decoder.specs.Inside.Decoder.{decodingTable};
+ghost use Rattle.read_test20.specs.Inside.Picture.{Got, Come, putPair};
+ghost use Rattle.read_test20.specs.Inside.See.{TenBits, AreBytes, Clean, passesBy};
 
 // Words of each stream in a piece. None is looked at behind one with a fault: what is no window is soon known to be none.
 const PIECE: usize = 120;

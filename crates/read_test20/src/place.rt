@@ -3,9 +3,9 @@ use span::format::Shape;
 use symbol::disparity::Disparity;
 ghost use mathlib.Core.Path.{_≡_};
 ghost use Prim.Native.Nat.{_≤_};
-ghost use Rattle.decoder.specs.Decoder.{decodingTable};
+ghost use Rattle.decoder.specs.Inside.Decoder.{decodingTable};
 ghost use Rattle.window.specs.Scan.{startOf, fits};
-ghost use Rattle.read_test20.specs.Run.{holdsBy, Reached, place20};
+ghost use Rattle.read_test20.specs.Inside.Run.{holdsBy, Reached, place20};
 
 // The numbers of the special characters at which SAV and EAV begin.
 const K28_5: u16 = 261;

@@ -4,8 +4,8 @@ use packing::bytes::TwoWords;
 ghost use mathlib.Core.Path.{_≡_};
 ghost use Prim.Native.Nat.{_+_, _≤_, _<_};
 ghost use lib.ListN.{length};
-ghost use Rattle.decoder.specs.Decoder.{decodingTable};
-ghost use Rattle.read_test20.specs.See.{TenBits, Clean, seen, seenThree, seenSix, passesBy};
+ghost use Rattle.decoder.specs.Inside.Decoder.{decodingTable};
+ghost use Rattle.read_test20.specs.Inside.See.{TenBits, Clean, seen, seenThree, seenSix, passesBy};
 
 // The entry of a symbol, and what is gathered behind it. Bits 9, 10 and 13 of `good` stay set where each symbol was legal and a byte. Bits 11
 // and 12 of `turns` are those of the disparity that is not the running one, at which a symbol need not be legal.

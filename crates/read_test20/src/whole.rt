@@ -8,16 +8,16 @@ ghost use mathlib.Core.Path.{_≡_};
 ghost use mathlib.Core.Bool.{true, false};
 ghost use Prim.Native.Nat.{_+_, _-_, _*_, _%_, _≤_};
 ghost use lib.ListN.{length};
-ghost use Rattle.decoder.specs.Mask.{maskOf, ofMask};
-ghost use Rattle.window.specs.Fill.{fillRight};
-ghost use Rattle.window.specs.Given.{Given};
-ghost use Rattle.read_test20.specs.Run.{Going, Reached, place20};
+ghost use Rattle.decoder.specs.Inside.Decoder.{decodingTable};
+ghost use Rattle.decoder.specs.Inside.Mask.{maskOf, ofMask};
 ghost use Rattle.span.specs.Format.{shapeOf, samplesIn};
 ghost use Rattle.window.specs.Scan.{runningAt};
-ghost use Rattle.read_test20.specs.Blank.{AreBlank};
-ghost use Rattle.decoder.specs.Decoder.{decodingTable};
-ghost use Rattle.read_test20.specs.See.{TenBits, AreBytes, maskBy};
-ghost use Rattle.read_test20.specs.Whole.{Twice, AllHold, wholeIf, placeIf20, Begun, Stays, Tied, RunTo, Ending, Wholly};
+ghost use Rattle.window.specs.Inside.Fill.{fillRight};
+ghost use Rattle.window.specs.Inside.Given.{Given};
+ghost use Rattle.read_test20.specs.Inside.Blank.{AreBlank};
+ghost use Rattle.read_test20.specs.Inside.Run.{Going, Reached, place20};
+ghost use Rattle.read_test20.specs.Inside.See.{TenBits, AreBytes, maskBy};
+ghost use Rattle.read_test20.specs.Inside.Whole.{Twice, AllHold, wholeIf, placeIf20, Begun, Stays, Tied, RunTo, Ending, Wholly};
 
 pub struct Taken {
     // Whether the window is as it should be: then all that follows is right, and the rows are.

@@ -12,7 +12,7 @@ use borrow.Author.Tests.{ne-eqb}
 use Rattle.ground.proofs.Cases.{on-test}
 use Rattle.ground.proofs.Reading.{next-left}
 use Rattle.packing.specs.Sample.{allowedWord}
-use Rattle.read_test21_26.specs.Picture.{allAllowed, wrongOf}
+use Rattle.read_test21_26.specs.Inside.Picture.{allAllowed, wrongOf}
 
 -- a one that is put in stays
 stays : (found : ℕ) → eqb (bitOr found 1) 0 ≡ false

@@ -9,7 +9,7 @@ use lib.Dec.{eqb}
 use lib.ListN.{length}
 use borrow.Author.Tests.{eqb-true}
 use Rattle.ground.proofs.Tests.{both-left, both-right}
-use Rattle.decoder.specs.Decoder.{decodingTable}
+use Rattle.decoder.specs.Inside.Decoder.{decodingTable}
 use Rattle.line.specs.declared.stream.StreamLine.{StreamLine}
 use Rattle.line.specs.Stream.{lineBefore}
 use Rattle.span.specs.declared.content.ContentBytes.{ContentBytes}
@@ -23,11 +23,11 @@ use Rattle.window.specs.Read.{contentIn, repairsOf}
 use Rattle.window.specs.Scan.{byteOf, symbolAt}
 use Rattle.window.specs.Tests.{nextLine, lineRead, repairCount}
 use Rattle.window.specs.Words.{wordAt}
-use Rattle.read_test21_26.specs.Call.{isWindow, serviceOf, place25, place26}
+use Rattle.window.specs.Inside.Given.{Given}
 use Rattle.read_test21_26.specs.declared.service.Verdict.{Verdict}
-use Rattle.window.specs.Given.{Given}
-use Rattle.read_test21_26.specs.Holds.{holdsOf, holdsAt, firstWrong}
-use Rattle.read_test21_26.specs.Verdict.{firstRow, serviceTests}
+use Rattle.read_test21_26.specs.Inside.Call.{isWindow, serviceOf, place25, place26}
+use Rattle.read_test21_26.specs.Inside.Holds.{holdsOf, holdsAt, firstWrong}
+use Rattle.read_test21_26.specs.Inside.Verdict.{firstRow, serviceTests}
 
 module _ (f : Format) (n : ℕ) where
   pub known : isKnown f ≡ true → {symbols : ℕ} → symbols ≡ symbolsIn (shapeOf f) → eqb n symbols ≡ isWindow f n

@@ -10,10 +10,10 @@ use borrow.Author.Tests.{eq-eqb, eqb-true}
 use Rattle.ground.proofs.Cases.{on-test}
 use Rattle.span.specs.declared.format.Format.{Format}
 use Rattle.span.specs.Format.{isKnown, shapeOf, samplesIn, symbolsIn}
-use Rattle.span.specs.Fit.{ready}
-use Rattle.read_test21_26.specs.Fill.{fillIf}
-use Rattle.window.specs.Fill.{fillRight}
+use Rattle.span.specs.Inside.Fit.{ready}
 use Rattle.span.proofs.Readiness.{known-then, symbols-then, ready-is}
+use Rattle.window.specs.Inside.Fill.{fillRight}
+use Rattle.read_test21_26.specs.Inside.Fill.{fillIf}
 
 -- a call with a window to give, and any other
 module _ (f : Format) (w : List ℕ) (rows : ℕ) where

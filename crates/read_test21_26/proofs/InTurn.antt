@@ -15,8 +15,8 @@ use Rattle.crcc.specs.declared.sums.Sums.{Sums}
 use Rattle.window.specs.Tests.{holds21, holds22, holds23}
 use Rattle.window.specs.Words.{wordAt}
 use Rattle.read_test21_26.specs.declared.service.Verdict.{Verdict}
-use Rattle.read_test21_26.specs.Holds.{holds24By, holdsOf, holdsAt, wrongIn}
-use Rattle.read_test21_26.specs.Verdict.{passed, verdictOf, firstRow, serviceTests}
+use Rattle.read_test21_26.specs.Inside.Holds.{holds24By, holdsOf, holdsAt, wrongIn}
+use Rattle.read_test21_26.specs.Inside.Verdict.{passed, verdictOf, firstRow, serviceTests}
 use Rattle.read_test21_26.proofs.Regions.{in-one-run, in-two-runs}
 use Rattle.read_test21_26.proofs.Sizes.{within-window}
 

@@ -8,10 +8,10 @@ use Rattle.span.specs.declared.format.Format.{Format}
 use Rattle.span.specs.declared.format.Shape.{Shape}
 use Rattle.span.specs.Format.{streams}
 use Rattle.crcc.specs.declared.sums.Sums.{Sums}
-use Rattle.crcc.specs.Sums.{sumIn}
+use Rattle.crcc.specs.Inside.Sums.{sumIn}
 use Rattle.window.specs.Tests.{holds21, holds22, holds23}
 use Rattle.window.specs.Words.{wordAt}
-use Rattle.read_test21_26.specs.Holds.{picture25, fill26, holds24By, holdsOf}
+use Rattle.read_test21_26.specs.Inside.Holds.{picture25, fill26, holds24By, holdsOf}
 
 module _ (number : ℕ) (f : Format) (p : Shape) (w : List ℕ) (c : Sums) where
   pub at-21 : number ≡ 21 → holds21 (streams p) (wordAt p w) ≡ holdsOf number f p w c

@@ -23,7 +23,7 @@ use Rattle.window.specs.Words.{fixedByte, byteAt, pairAt, wordAt}
 use Rattle.window.proofs.Bytes.{word-below}
 use Rattle.window.proofs.Encoded.{fixed-two, fixed-four}
 use Rattle.window.proofs.Placing.{four, word-of-place, stream-of-place, place-again}
-use Rattle.read_test21_26.specs.Holds.{crccBehind}
+use Rattle.read_test21_26.specs.Inside.Holds.{crccBehind}
 
 -- ---- bytes
 

@@ -13,8 +13,8 @@ use Rattle.ground.proofs.Cases.{on-test}
 use Rattle.ground.proofs.Searches.{Lowest, Nowhere}
 use Rattle.window.specs.Read.{placed}
 use Rattle.read_test21_26.specs.declared.service.Verdict.{Verdict}
-use Rattle.read_test21_26.specs.Holds.{wrongIn}
-use Rattle.read_test21_26.specs.Verdict.{verdictOf}
+use Rattle.read_test21_26.specs.Inside.Holds.{wrongIn}
+use Rattle.read_test21_26.specs.Inside.Verdict.{verdictOf}
 use Rattle.read_test21_26.proofs.Searching.{wrong, hit-in, miss-in, is-hit-in, is-miss-in}
 
 -- ---- places

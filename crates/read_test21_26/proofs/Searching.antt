@@ -8,7 +8,7 @@ use Prim.Native.Nat.{ℕ, _+_, _-_, _≤_, _<_}
 use native.Mathlib.Nat.{eq-or-lt-of-le}
 use native.Mathlib.Omega.{arith}
 use Rattle.ground.proofs.Searches.{Lowest, Nowhere, hit-from, miss-from, is-hit-from, is-miss-from}
-use Rattle.read_test21_26.specs.Holds.{wrongIn, firstWrong}
+use Rattle.read_test21_26.specs.Inside.Holds.{wrongIn, firstWrong}
 
 module _ (holds : ℕ → Bool) where
   abbrev pub wrong : ℕ → Bool

@@ -4,7 +4,8 @@ use Prim.Native.Nat.{ℕ, _*_, _≤_}
 use native.Mathlib.Nat.{mul-le-mul-left}
 use native.Mathlib.Omega.{arith}
 use Rattle.span.specs.declared.format.Shape.{Shape}
-use Rattle.span.specs.Format.{streams, pairsIn, Small}
+use Rattle.span.specs.Format.{streams, pairsIn}
+use Rattle.span.specs.Inside.Format.{Small}
 use Rattle.span.proofs.Formats.{few-pairs}
 
 pub few-words : {p : Shape} → Small p → 2 * pairsIn p ≤ 12672

@@ -18,11 +18,11 @@ use Rattle.span.specs.declared.format.Shape.{Shape}
 use Rattle.span.specs.Format.{streams}
 use Rattle.word.specs.LineNumber.{ln0, ln1, names, lineOf}
 use Rattle.crcc.specs.declared.sums.Sums.{Sums}
-use Rattle.crcc.specs.Sums.{sumIn}
 use Rattle.window.specs.Tests.{same, wordOf, named, nextLine, lineRead, holds21, holds22, holds23}
 use Rattle.word.specs.Received.{isTiming, vIn}
+use Rattle.crcc.specs.Inside.Sums.{sumIn}
 use Rattle.window.specs.Words.{wordAt}
-use Rattle.read_test21_26.specs.Holds.{crccBehind, holds24By}
+use Rattle.read_test21_26.specs.Inside.Holds.{crccBehind, holds24By}
 
 -- two bits compared
 pub same-is : (a b : Bool) → Bool·beq a b ≡ same a b

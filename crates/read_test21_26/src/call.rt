@@ -7,7 +7,7 @@ use span::format::Format;
 use window::delivery::Repairs;
 ghost use mathlib.Core.Path.{_≡_};
 ghost use lib.ListN.{length};
-ghost use Rattle.read_test21_26.specs.Call.{isWindow, serviceIf, placeIf};
+ghost use Rattle.read_test21_26.specs.Inside.Call.{isWindow, serviceIf, placeIf};
 
 // Whether a window of so many symbols is one of a known format.
 fn is_window(f: Format, symbols: usize) -> bool

@@ -2,9 +2,9 @@
 use span::format::Format;
 use span::format::Shape;
 ghost use mathlib.Core.Path.{_≡_};
-ghost use Rattle.read_test21_26.specs.Fill.{fillIf};
-ghost use Rattle.window.specs.Fill.{fillRight};
-ghost use Rattle.window.specs.Given.{Given};
+ghost use Rattle.window.specs.Inside.Fill.{fillRight};
+ghost use Rattle.window.specs.Inside.Given.{Given};
+ghost use Rattle.read_test21_26.specs.Inside.Fill.{fillIf};
 
 // Test 26: whether no fill word of a window is another.
 fn is_right(t: &[u16; 1024], p: Shape, symbols: &[u16]) -> bool

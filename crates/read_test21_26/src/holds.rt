@@ -7,13 +7,13 @@ use span::format::Shape;
 use word::line_number::Named;
 ghost use mathlib.Core.Path.{_≡_};
 ghost use Prim.Native.Nat.{_*_, _/_, _%_, _≤_, _<_};
+ghost use Rattle.crcc.specs.Inside.Sums.{sumIn};
 ghost use Rattle.span.specs.Format.{streams, pairsIn};
 ghost use Rattle.window.specs.Read.{placed};
-ghost use Rattle.crcc.specs.Sums.{sumIn};
 ghost use Rattle.window.specs.Tests.{nextLine, repairCount, holds21, holds22, holds23};
 ghost use Rattle.window.specs.Words.{wordAt};
-ghost use Rattle.window.specs.Given.{Given};
-ghost use Rattle.read_test21_26.specs.Holds.{Told, holds24By, holdsAt, firstWrong, crccBehind};
+ghost use Rattle.window.specs.Inside.Given.{Given};
+ghost use Rattle.read_test21_26.specs.Inside.Holds.{Told, holds24By, holdsAt, firstWrong, crccBehind};
 
 // The line that the two words of stream 1 name; 0 where they name none. This and `read_line_words` rule out the fault by which a recital
 // was lost: both words are one stream's and one span's, and name a line only if both are what is sent for it.

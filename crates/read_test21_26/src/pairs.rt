@@ -4,8 +4,8 @@ use packing::bytes::TwoWords;
 ghost use mathlib.Core.Path.{_≡_};
 ghost use Prim.Native.Nat.{_+_, _≤_};
 ghost use lib.ListN.{length};
-ghost use Rattle.decoder.specs.Decoder.{decodingTable};
-ghost use Rattle.window.specs.Given.{plainPair};
+ghost use Rattle.decoder.specs.Inside.Decoder.{decodingTable};
+ghost use Rattle.window.specs.Inside.Given.{plainPair};
 
 // The two words of the three symbols from o on, none of them replaced.
 pub(crate) fn pair_from(t: &[u16; 1024], symbols: &[u16], o: usize) -> TwoWords

@@ -7,8 +7,8 @@ ghost use mathlib.Core.Path.{_≡_};
 ghost use Prim.Native.Nat.{_*_, _≤_};
 ghost use Rattle.span.specs.Format.{streams};
 ghost use Rattle.span.specs.Layout.{ancillaryStart};
-ghost use Rattle.read_test21_26.specs.Holds.{Told, holdsAt, wrongIn};
-ghost use Rattle.read_test21_26.specs.Verdict.{passed, verdictOf, firstRow, serviceTests};
+ghost use Rattle.read_test21_26.specs.Inside.Holds.{Told, holdsAt, wrongIn};
+ghost use Rattle.read_test21_26.specs.Inside.Verdict.{passed, verdictOf, firstRow, serviceTests};
 
 // The number of the test that does not hold, and its lowest place; 0 where all hold.
 pub struct Verdict {

@@ -8,7 +8,7 @@ ghost use lib.ListN.{length};
 ghost use Rattle.span.specs.Format.{pairsIn};
 ghost use Rattle.window.specs.Read.{contentIn};
 ghost use Rattle.window.specs.Words.{fixedByte, byteAt, wordAt};
-ghost use Rattle.window.specs.Given.{Given};
+ghost use Rattle.window.specs.Inside.Given.{Given};
 
 // Byte i of a timing code that is replaced when it is sent: FF of the words FFF, and with two streams, where the third word is 000
 // already, 00 at the end.

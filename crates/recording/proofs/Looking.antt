@@ -12,7 +12,7 @@ use lib.ListN.{getD}
 use borrow.Author.Tests.{ne-eqb, ltb-true, ltb-false}
 use Rattle.ground.proofs.Cases.{on-test}
 use Rattle.symbol.specs.Code.{symbolOf}
-use Rattle.recording.specs.Look.{isComma, commaIn, gathered, commaAt, pairAt, near, mayBegin, Passed}
+use Rattle.recording.specs.Inside.Look.{isComma, commaIn, gathered, commaAt, pairAt, near, mayBegin, Passed}
 
 -- ---- one symbol
 

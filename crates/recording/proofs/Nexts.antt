@@ -11,7 +11,7 @@ use Rattle.span.specs.declared.format.Format.{Format}
 use Rattle.span.specs.Format.{isKnown, shapeOf, samplesIn, symbolsIn}
 use Rattle.read.proofs.Windows.{length-picture}
 use Rattle.delivery.specs.Delivery.{Found, windowAt, readFrom, nextFrom as nextBy}
-use Rattle.delivery.specs.Marked.{Whole}
+use Rattle.delivery.specs.Inside.Marked.{Whole}
 use Rattle.delivery.proofs.Finding.{told, stands-whole, found-told}
 use Rattle.recording.specs.Recording.{Reading, reading, findFrom, nextFrom}
 use Rattle.recording.proofs.Readings.{reading-told, span-whole}

@@ -5,7 +5,8 @@ use mathlib.Core.Bool.{cond}
 use mathlib.Core.Option.{Option, none, some}
 use Prim.Native.Nat.{ℕ}
 use lib.Dec.{eqb}
-use Rattle.ground.specs.Answer.{Answer, refused, given, OneToOne}
+use Rattle.ground.specs.Answer.{Answer, refused, given}
+use Rattle.ground.specs.Inside.Answer.{OneToOne}
 use Rattle.ground.proofs.Answers.{told-again}
 use Rattle.recording.specs.declared.find.Found.{Found}
 use Rattle.recording.specs.declared.find.Found.the-variants.{At, Nowhere, UnknownFormat, WrongInput, WrongStart}

@@ -14,6 +14,7 @@ use borrow.Author.Tests.{eqb-true, eq-eqb}
 use Rattle.ground.specs.Answer.{Answer, refused, given}
 use Rattle.ground.specs.Search.{isSome}
 use Rattle.ground.proofs.Cases.{on-test}
+use Rattle.delivery.specs.Inside.Marked.{Whole, Marked}
 use Rattle.symbol.specs.declared.disparity.Disparity.{Disparity}
 use Rattle.symbol.specs.declared.disparity.Disparity.the-variants.{Negative, Positive}
 use Rattle.symbol.specs.declared.special.Special.the-variants.{«K28_5»}
@@ -27,10 +28,9 @@ use Rattle.window.specs.Read.{pictureOf, readSpan}
 use Rattle.window.specs.Scan.{startOf, runningAt}
 use Rattle.window.proofs.Accepting.{Accepted, accepted-told}
 use Rattle.window.proofs.Specials.{k28-5-at, only-k28-5}
-use Rattle.delivery.specs.Marked.{Whole, Marked}
-use Rattle.recording.specs.Look.{isComma, commaAt, gathered, near, mayBegin}
 use Rattle.recording.proofs.Looking.{all-none}
 use Rattle.recording.specs.Recording.{Reading, withWords, reading, accepts}
+use Rattle.recording.specs.Inside.Look.{isComma, commaAt, gathered, near, mayBegin}
 
 module _ (f : Format) (w : List ℕ) where
   -- what is read has a span's length, and `readSpan` answers it

@@ -25,8 +25,8 @@ use Rattle.read.proofs.Windows.{read-is}
 use Rattle.delivery.specs.Delivery.{Found, nextFrom as nextBy}
 use Rattle.delivery.proofs.Finding.{found-at, found-nowhere, not-at-the-end}
 use Rattle.recording.specs.Call.{spanned, wordsOr}
-use Rattle.recording.specs.Look.{mayBegin, Passed}
 use Rattle.recording.specs.Recording.{Reading, reading, accepts, nextFrom}
+use Rattle.recording.specs.Inside.Look.{mayBegin, Passed}
 use Rattle.recording.proofs.Readings.{is-read, not-read, span-whole, accepted-begins}
 
 -- what is not delivered is refused

@@ -7,14 +7,15 @@ use mathlib.Core.List.{List}
 use mathlib.Core.Option.{none, some}
 use Prim.Native.Nat.{ℕ}
 use lib.ListN.{length, take, drop}
-use Rattle.ground.specs.Answer.{refused, given, OneToOne}
+use Rattle.ground.specs.Answer.{refused, given}
+use Rattle.ground.specs.Inside.Answer.{OneToOne}
 use Rattle.span.specs.declared.format.Format.{Format}
 use Rattle.span.specs.Format.{isKnown, shapeOf, symbolsIn}
 use Rattle.window.specs.declared.delivery.Delivery.{Delivery}
 use Rattle.window.specs.Read.{pictureOf, readSpan}
 use Rattle.recording.specs.Call.{paperFound, paperNext}
-use Rattle.recording.specs.Look.{mayBegin}
 use Rattle.recording.specs.Recording.{Reading, reading, accepts}
+use Rattle.recording.specs.Inside.Look.{mayBegin}
 
 pub record RecordingLaws : Type 0 where
   -- symbols are read if and only if they are as many as a span has and the reader accepts them; what is read is what it answers, and the picture

@@ -1,5 +1,4 @@
 pub mod Call
+pub mod Inside
 pub mod Laws
-pub mod Look
 pub mod Recording
-pub mod Seek

@@ -2,7 +2,7 @@
 ghost use mathlib.Core.Path.{_≡_};
 ghost use Prim.Native.Nat.{_+_, _≤_};
 ghost use lib.ListN.{length};
-ghost use Rattle.recording.specs.Look.{commaIn, gathered, commaAt, pairAt, near, mayBegin, Passed};
+ghost use Rattle.recording.specs.Inside.Look.{commaIn, gathered, commaAt, pairAt, near, mayBegin, Passed};
 
 // Symbols that are looked at together. The compiler knows the number, and makes the loop over them flat.
 const PIECE: usize = 64;

@@ -9,7 +9,7 @@ ghost use lib.ListN.{length};
 ghost use Rattle.span.specs.Format.{isKnown, shapeOf, samplesIn};
 ghost use Rattle.recording.specs.Call.{spanned, wordsOr};
 ghost use Rattle.recording.specs.Recording.{nextFrom};
-ghost use Rattle.recording.specs.Seek.{soughtOf};
+ghost use Rattle.recording.specs.Inside.Seek.{soughtOf};
 
 // A span in a recording: its place, and what its reading answers.
 pub struct Spanned {

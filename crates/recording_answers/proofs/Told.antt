@@ -4,7 +4,8 @@ use mathlib.Core.Path.{_≡_, refl, sym, ap, ap₂, _∙_}
 use mathlib.Core.Bool.{cond}
 use mathlib.Core.Option.{Option, none, some}
 use Prim.Native.Nat.{ℕ}
-use Rattle.ground.specs.Answer.{Answer, given, OneToOne}
+use Rattle.ground.specs.Answer.{Answer, given}
+use Rattle.ground.specs.Inside.Answer.{OneToOne}
 use Rattle.window.specs.declared.delivery.Delivery.{Delivery}
 use Rattle.recording.specs.declared.find.Found.{Found}
 use Rattle.recording.specs.declared.find.Found.the-variants as Found

@@ -23,18 +23,19 @@ use Rattle.window.proofs.Accepting.{accepted-told}
 use Rattle.window.proofs.Symbols.{legal-told}
 use Rattle.delivery.proofs.Finding.{told, untold}
 use Rattle.delivery.proofs.Marks.{Apart}
-use Rattle.recording.specs.Look.{isComma}
 use Rattle.recording.specs.Recording.{Reading, reading}
+use Rattle.recording.specs.Inside.Look.{isComma}
 use Rattle.recording.proofs.Readings.{reading-told, span-marked}
 use Rattle.demands.specs.Form.{Sending, WasSent, readingOf}
 use Rattle.demands.proofs.Sendings.{sent-read}
 use Rattle.rig.specs.declared.knock.Knock.{Knock}
 use Rattle.reception.specs.Link.{link}
-use Rattle.rig.specs.Knock.{struck, knocked, lost}
+use Rattle.rig.specs.Knock.{struck, lost}
 use Rattle.rig.specs.Sending.{askedOn}
 use Rattle.rig.proofs.Knocking.{length-knocked, knocked-at}
 use Rattle.rig.proofs.Lines.{length-span, line-sent}
 use Rattle.reception.proofs.Links.{link-known, link-symbols}
+use Rattle.rig.specs.Inside.Knock.{knocked}
 
 -- ---- 0 is no symbol
 

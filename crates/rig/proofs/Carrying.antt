@@ -7,7 +7,8 @@ use Prim.Native.Nat.{ℕ, _<_}
 use native.Mathlib.Omega.{arith}
 use lib.Dec.{eqb, ltb}
 use borrow.Author.Tests.{lt-ltb, le-ltb, eq-eqb, ne-eqb, eqb-true}
-use Rattle.ground.specs.Answer.{Answer, refused, given, OneToOne, unlessRefused}
+use Rattle.ground.specs.Answer.{Answer, refused, given, unlessRefused}
+use Rattle.ground.specs.Inside.Answer.{OneToOne}
 use Rattle.ground.proofs.Answers.{told-again, when-refused, when-given}
 use Rattle.ground.proofs.Cases.{on-test}
 use Rattle.symbol.specs.declared.disparity.Disparity.{Disparity}

@@ -11,7 +11,8 @@ use lib.ListN.{length, getD, set, take, drop, length-append, take-append-drop, d
 use lib.Seq.{take-suc, set-at, take-all, length-take-le, append-snoc}
 use Rattle.ground.proofs.Reading.{next-left}
 use Rattle.rig.specs.declared.knock.Knock.{Knock}
-use Rattle.rig.specs.Knock.{struck, knocked}
+use Rattle.rig.specs.Knock.{struck}
+use Rattle.rig.specs.Inside.Knock.{knocked}
 
 -- 0 stands behind the end, struck or not
 no-symbol : (b : Bool) → _≡_ {A = ℕ} 0 (cond b 0 0)

@@ -27,8 +27,9 @@ use Rattle.test_picture.specs.TestPicture.{testSamples}
 use Rattle.test_picture.proofs.Puttings.{puts-samples}
 use Rattle.test_picture.proofs.Sendings.{is-sent}
 use Rattle.reception.specs.Link.{link}
-use Rattle.rig.specs.Sending.{askedOn, askedFrom, sentFrom, afterFrom}
+use Rattle.rig.specs.Sending.{askedOn, afterFrom}
 use Rattle.reception.proofs.Links.{link-known, link-samples, link-symbols}
+use Rattle.rig.specs.Inside.Sending.{askedFrom, sentFrom}
 
 -- ---- one line
 

@@ -30,13 +30,15 @@ use Rattle.test_picture.proofs.Rows.{length-row as length-of-row, row-of-codes,
 use Rattle.rig.specs.declared.knock.Knock.{Knock}
 use Rattle.reception.specs.Link.{link}
 use Rattle.rig.specs.Frame.{lineIn}
-use Rattle.rig.specs.Knock.{knocked, lost}
+use Rattle.rig.specs.Knock.{lost}
 use Rattle.rig.specs.Piece.{black, sentRows, rowsAt, pictureIn, heardIn}
 use Rattle.reception.specs.Receiving.{rowOf, bothRows, brings, flag, putAll, ready, heardBy, shownBy}
-use Rattle.rig.specs.Sending.{askedOn, sentFrom, afterFrom}
+use Rattle.rig.specs.Sending.{askedOn, afterFrom}
 use Rattle.rig.proofs.Arriving.{sending, placeOf}
 use Rattle.reception.proofs.Bringing.{length-row}
 use Rattle.reception.proofs.Readiness.{is-ready}
+use Rattle.rig.specs.Inside.Knock.{knocked}
+use Rattle.rig.specs.Inside.Sending.{sentFrom}
 use Rattle.rig.proofs.Knocking.{length-knocked}
 use Rattle.rig.proofs.Lines.{length-sent}
 use Rattle.rig.proofs.Pieces.{arrivedFrom, Slots, piece-put}

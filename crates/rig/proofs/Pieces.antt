@@ -19,19 +19,21 @@ use Rattle.span.specs.Span.{spanSymbols, spanAfter}
 use Rattle.delivery.specs.Delivery.{Found, either, deliver, deliveryFrom as deliverBy}
 use Rattle.delivery.proofs.Marks.{apart}
 use Rattle.delivery.proofs.Steps.{of-nothing}
-use Rattle.recording.specs.Look.{isComma}
 use Rattle.recording.specs.Recording.{Reading, reading, deliveryFrom}
+use Rattle.recording.specs.Inside.Look.{isComma}
 use Rattle.recording.proofs.Readings.{span-marked}
 use Rattle.demands.specs.Form.{readingOf}
 use Rattle.rig.specs.declared.knock.Knock.{Knock}
 use Rattle.reception.specs.Link.{link}
-use Rattle.rig.specs.Knock.{knocked, lost}
+use Rattle.rig.specs.Knock.{lost}
 use Rattle.reception.specs.Receiving.{putOne, putAll}
-use Rattle.rig.specs.Sending.{askedOn, sentFrom}
+use Rattle.rig.specs.Sending.{askedOn}
 use Rattle.rig.proofs.Arriving.{sending, placeOf, arrived, arrives, is-lost, none-inside}
 use Rattle.rig.proofs.Knocking.{knocked-append}
 use Rattle.rig.proofs.Lines.{length-span, no-line-more, sent-more}
 use Rattle.reception.proofs.Links.{link-known}
+use Rattle.rig.specs.Inside.Knock.{knocked}
+use Rattle.rig.specs.Inside.Sending.{sentFrom}
 use Rattle.rig.proofs.Slots.{padded, slot-put}
 
 abbrev N : ℕ

@@ -5,13 +5,15 @@ use mathlib.Core.Path.{_≡_}
 use mathlib.Core.Bool.{true, false}
 use mathlib.Core.List.{_++_}
 use lib.ListN.{length}
-use Rattle.ground.specs.Answer.{refused, given, OneToOne}
+use Rattle.ground.specs.Answer.{refused, given}
+use Rattle.ground.specs.Inside.Answer.{OneToOne}
 use Rattle.symbol.specs.declared.disparity.Disparity.{Disparity}
 use Rattle.rig.specs.declared.knock.Knock.{Knock}
 use Rattle.rig.specs.Frame.{lineIn}
 use Rattle.rig.specs.Knock.{lost}
 use Rattle.rig.specs.Piece.{paperCarried, carryOf}
-use Rattle.rig.specs.Sending.{sentFrom, afterFrom}
+use Rattle.rig.specs.Sending.{afterFrom}
+use Rattle.rig.specs.Inside.Sending.{sentFrom}
 
 pub record RigLaws : Type 0 where
   -- stream line n, whose span has the symbols from 19,008 (n - 1) on and ends before 19,008 n, is lost where the knock takes one of these, and

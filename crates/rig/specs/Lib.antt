@@ -1,4 +1,5 @@
 pub mod Frame
+pub mod Inside
 pub mod Knock
 pub mod Laws
 pub mod Piece

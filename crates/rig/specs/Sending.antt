@@ -1,10 +1,9 @@
 -- What the rig sends: the test picture, stream line after stream line, the disparity handed on.
 -- Assumes nothing.
 use Prim.Native.Nat.{ℕ, zero, suc}
-use mathlib.Core.List.{List, [], _∷_}
 use Rattle.symbol.specs.declared.disparity.Disparity.{Disparity}
 use Rattle.span.specs.declared.content.Content.the-variants.{NoneNamed}
-use Rattle.span.specs.Span.{spanAfter, signalFrom}
+use Rattle.span.specs.Span.{spanAfter}
 use Rattle.span.specs.Stream.{Asked}
 use Rattle.send.specs.Send.{asked}
 use Rattle.test_picture.specs.TestPicture.{testSamples}
@@ -13,15 +12,6 @@ use Rattle.reception.specs.Link.{link}
 -- what is asked for on line n: its samples of the test picture, and no content bytes
 abbrev pub askedOn : ℕ → Asked
 askedOn n = asked n NoneNamed (testSamples link n)
-
--- on m lines from line n on
-unfoldable pub askedFrom : ℕ → ℕ → List Asked
-askedFrom n zero = []
-askedFrom n (suc m) = askedOn n ∷ askedFrom (suc n) m
-
--- their symbols, where the disparity before them is d
-abbrev pub sentFrom : Disparity → ℕ → ℕ → List ℕ
-sentFrom d n m = signalFrom d link (askedFrom n m)
 
 -- and the disparity after them
 unfoldable pub afterFrom : Disparity → ℕ → ℕ → Disparity

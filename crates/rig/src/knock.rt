@@ -2,7 +2,8 @@
 ghost use mathlib.Core.Path.{_≡_};
 ghost use Prim.Native.Nat.{_+_, _≤_};
 ghost use lib.ListN.{length};
-ghost use Rattle.rig.specs.Knock.{struck, knocked};
+ghost use Rattle.rig.specs.Knock.{struck};
+ghost use Rattle.rig.specs.Inside.Knock.{knocked};
 
 // From which symbol of the frame on there is no light, and for how many.
 pub struct Knock {

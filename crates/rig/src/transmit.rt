@@ -8,7 +8,8 @@ ghost use Prim.Native.Nat.{_≤_};
 ghost use lib.ListN.{length};
 ghost use Rattle.span.specs.Span.{spanSymbols, spanAfter};
 ghost use Rattle.reception.specs.Link.{link};
-ghost use Rattle.rig.specs.Sending.{askedOn, sentFrom, afterFrom};
+ghost use Rattle.rig.specs.Sending.{askedOn, afterFrom};
+ghost use Rattle.rig.specs.Inside.Sending.{sentFrom};
 
 // The span of a line. Its samples go into words that are lent for them.
 fn send_line(l: StreamLine, d: Disparity, words: &mut [u16], symbols: &mut [u16]) -> Disparity

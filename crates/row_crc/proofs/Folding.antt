@@ -17,8 +17,8 @@ use Rattle.ground.proofs.Xors.{⊕-zero, zero-⊕, ⊕-self, ⊕-comm, ⊕-asso
 use Rattle.crcc.specs.Crcc.{crc, crcWord}
 use Rattle.crcc.proofs.Linear.{crc-next, crc-sum}
 use Rattle.row_crc.specs.declared.fold.Two.{Two}
-use Rattle.row_crc.specs.Fold.{withMoved, left, Empty, Folds}
-use Rattle.row_crc.specs.Sums.{wordsIn}
+use Rattle.row_crc.specs.Inside.Fold.{withMoved, left, Empty, Folds}
+use Rattle.row_crc.specs.Inside.Sums.{wordsIn}
 use Rattle.row_crc.proofs.Moving.{zeros, only, moves, moves-nothing}
 
 pub two-same : {a b x y : ℕ} → a ≡ x → b ≡ y → _≡_ {A = Two} (record { a = a; b = b }) (record { a = x; b = y })

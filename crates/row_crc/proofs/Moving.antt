@@ -13,8 +13,8 @@ use Rattle.ground.specs.Written.{upto, table}
 use Rattle.ground.specs.Xor.{_⊕_}
 use Rattle.ground.proofs.Writing.{table-same}
 use Rattle.ground.proofs.Xors.{⊕-zero, zero-⊕, ⊕-self, ⊕-assoc, ⊕-middle, ⊕-div, ⊕-mod}
-use Rattle.crcc.specs.Ahead.{ahead}
 use Rattle.crcc.specs.Crcc.{taps, bitStep, bitSteps, crc, crcWord}
+use Rattle.crcc.specs.Inside.Ahead.{ahead}
 use Rattle.crcc.proofs.Linear.{aheadBy, ahead-by, ahead-⊕, ahead-zero, ahead-last, ahead-more, ahead-turned, crc-next, crc-sum}
 
 -- ---- one bit

@@ -11,7 +11,7 @@ use Rattle.ground.proofs.Writing.{table-same}
 use Rattle.crcc.specs.Crcc.{crc}
 use Rattle.crcc.specs.declared.sums.Sums.{Sums}
 use Rattle.row_crc.specs.declared.fold.Two.{Two}
-use Rattle.row_crc.specs.Sums.{wordsIn, sumsIn}
+use Rattle.row_crc.specs.Inside.Sums.{wordsIn, sumsIn}
 
 module _ (rows : List ℕ) where
   cut : (from : ℕ) → crc 0 (wordsIn (take 1920 (drop from rows)) 0) ≡ crc 0 (wordsIn rows from)

@@ -7,8 +7,8 @@ ghost use mathlib.Core.Path.{_≡_};
 ghost use Prim.Native.Nat.{_<_};
 ghost use lib.ListN.{length};
 ghost use Rattle.crcc.specs.Crcc.{crc};
-ghost use Rattle.row_crc.specs.Fold.{withMoved, Empty, Folds};
-ghost use Rattle.row_crc.specs.Sums.{wordsIn};
+ghost use Rattle.row_crc.specs.Inside.Fold.{withMoved, Empty, Folds};
+ghost use Rattle.row_crc.specs.Inside.Sums.{wordsIn};
 
 // Word j that is moved is put at 139 + j. So what word i gets stands at i, which is the word 139 before it, at i + 53, the word 86 before, and at
 // i + 46, the word 93 before.

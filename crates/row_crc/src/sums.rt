@@ -1,7 +1,7 @@
 // The CRC of each stream over its picture words (004, 6.4), from the rows.
 use crcc::sums::Sums;
 ghost use mathlib.Core.Path.{_≡_};
-ghost use Rattle.row_crc.specs.Sums.{sumsIn};
+ghost use Rattle.row_crc.specs.Inside.Sums.{sumsIn};
 
 // Of two rows of 1,920 words, or of four; of rows of any other length none.
 pub fn sums_of_rows(rows: &[u16]) -> Sums

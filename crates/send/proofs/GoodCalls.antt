@@ -17,9 +17,9 @@ use Rattle.line.specs.Stream.{isLine, isActive}
 use Rattle.symbol.specs.declared.disparity.Disparity.{Disparity}
 use Rattle.span.specs.declared.format.Format.{Format}
 use Rattle.span.specs.Format.{isKnown, numbered, shapeOf, samplesIn, symbolsIn}
-use Rattle.span.specs.Sample.{boundsOf}
 use Rattle.span.specs.Span.{spanAfter}
 use Rattle.span.specs.Stream.{Asked}
+use Rattle.span.specs.Inside.Sample.{boundsOf}
 use Rattle.span.proofs.Formats.{is-known, known-told}
 use Rattle.send.specs.Check.{firstOutside}
 use Rattle.send.specs.Send.{Good, sendOf}

@@ -8,11 +8,11 @@ use lib.ListN.{length, getD}
 use borrow.Author.Tests.{eq-eqb, ne-eqb}
 use Rattle.ground.specs.Written.{upto}
 use Rattle.ground.proofs.Writing.{upto-more, length-upto}
-use Rattle.encoder.specs.Tables.{offsetOf, ofOffset}
+use Rattle.encoder.specs.Inside.Tables.{offsetOf, ofOffset}
 use Rattle.span.specs.Encoding.{symbolsFrom, afterRun}
 use Rattle.crcc.specs.Crcc.{crc}
 use Rattle.crcc.specs.declared.sums.Sums.{Sums}
-use Rattle.row_crc.specs.Sums.{sumsIn}
+use Rattle.row_crc.specs.Inside.Sums.{sumsIn}
 use Rattle.send.specs.declared.picture.Passed.{Passed}
 use Rattle.send.specs.Put.{behind, put, pairChars, groupChars, wordAt, pairAt, pictureChars, passedAt}
 use Rattle.send.proofs.Putting.{Put, made, renamed, then, length-group, group-of-two, group-of-four}

@@ -9,7 +9,7 @@ use lib.Seq.{sets, length-sets}
 use Rattle.ground.proofs.Writing.{sets-append, sets-whole, length-upto, upto-same}
 use Rattle.ground.specs.Written.{upto}
 use Rattle.symbol.specs.declared.disparity.Disparity.{Disparity}
-use Rattle.encoder.specs.Tables.{offsetOf, ofOffset}
+use Rattle.encoder.specs.Inside.Tables.{offsetOf, ofOffset}
 use Rattle.encoder.proofs.Entries.{offset-again}
 use Rattle.packing.specs.Bytes.{bytesOf}
 use Rattle.span.specs.Encoding.{symbolsFrom, afterRun}

@@ -14,9 +14,9 @@ use Rattle.line.specs.Stream.{isLine}
 use Rattle.symbol.specs.declared.disparity.Disparity.{Disparity}
 use Rattle.span.specs.declared.format.Format.{Format}
 use Rattle.span.specs.Format.{isKnown, shapeOf, samplesIn, symbolsIn}
-use Rattle.span.specs.Sample.{boundsOf}
 use Rattle.span.specs.Span.{spanAfter}
 use Rattle.span.specs.Stream.{Asked}
+use Rattle.span.specs.Inside.Sample.{boundsOf}
 use Rattle.span.proofs.Formats.{known-told}
 use Rattle.span.proofs.Samples.{allowed-is}
 use Rattle.send.specs.Check.{firstOutside}

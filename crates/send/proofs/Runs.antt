@@ -10,7 +10,7 @@ use Rattle.ground.proofs.Writing.{sets-upto, upto-split}
 use Rattle.symbol.specs.declared.disparity.Disparity.{Disparity}
 use Rattle.symbol.specs.declared.disparity.Disparity.the-variants.{Negative, Positive}
 use Rattle.symbol.specs.Code.{afterOf}
-use Rattle.encoder.specs.Tables.{offsetOf, ofOffset}
+use Rattle.encoder.specs.Inside.Tables.{offsetOf, ofOffset}
 use Rattle.span.specs.Encoding.{symbolsFrom, afterRun}
 use Rattle.span.proofs.Encoding.{same-again, stays, length-symbols}
 use Rattle.packing.specs.declared.bytes.ThreeBytes.{ThreeBytes}

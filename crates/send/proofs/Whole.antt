@@ -11,7 +11,7 @@ use Rattle.ground.specs.Written.{upto, table}
 use Rattle.ground.proofs.Writing.{getD-table, upto-same, table-same}
 use Rattle.line.specs.Stream.{vOf, lineAfter}
 use Rattle.symbol.specs.declared.disparity.Disparity.{Disparity}
-use Rattle.encoder.specs.Tables.{offsetOf, ofOffset}
+use Rattle.encoder.specs.Inside.Tables.{offsetOf, ofOffset}
 use Rattle.encoder.proofs.Entries.{offset-again}
 use Rattle.crcc.specs.declared.crcc.CrccWords.{CrccWords}
 use Rattle.crcc.specs.Crcc.{crc, crccWords}
@@ -25,9 +25,10 @@ use Rattle.span.specs.declared.format.Shape.{Shape}
 use Rattle.span.specs.Content.{contentOf}
 use Rattle.span.specs.Format.{isKnown, shapeOf, samplesIn, symbolsIn}
 use Rattle.span.specs.Encoding.{symbolsFrom, afterRun}
-use Rattle.span.specs.Sample.{allowed, sampleWord, boundsOf}
+use Rattle.span.specs.Sample.{allowed, sampleWord}
 use Rattle.span.specs.Span.{interleaved, bytes, charsFromSav, charsFromEav, spanChars, spanSymbols, spanAfter}
 use Rattle.span.specs.Stream.{Asked, picture, eav, lineNumber, register, crcc}
+use Rattle.span.specs.Inside.Sample.{boundsOf}
 use Rattle.span.proofs.Formats.{Known, known-told, small}
 use Rattle.span.proofs.Lengths.{known-has-streams, length-chars}
 use Rattle.span.proofs.Packing.{bytes-interleaved, bytes-replicate}

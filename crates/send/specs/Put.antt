@@ -13,7 +13,7 @@ use Rattle.symbol.specs.declared.disparity.Disparity.{Disparity}
 use Rattle.symbol.specs.declared.special.Special.the-variants.{«K28_5», «K29_7»}
 use Rattle.symbol.specs.Character.{numberOf}
 use Rattle.symbol.specs.Code.{symbolOf, afterOf}
-use Rattle.encoder.specs.Tables.{offsetOf, ofOffset}
+use Rattle.encoder.specs.Inside.Tables.{offsetOf, ofOffset}
 use Rattle.packing.specs.Bytes.{bytesOf}
 use Rattle.line.specs.Stream.{vOf, lineAfter}
 use Rattle.crcc.specs.declared.crcc.CrccWords.{CrccWords}

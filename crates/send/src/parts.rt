@@ -9,9 +9,10 @@ use word::line_number::LineWords;
 ghost use mathlib.Core.Path.{_≡_};
 ghost use Prim.Native.Nat.{_+_, _*_, _≤_};
 ghost use lib.ListN.{length};
-ghost use Rattle.encoder.specs.Tables.{offsetOf, ofOffset, symbolTable, turnTable};
+ghost use Rattle.encoder.specs.Inside.Tables.{offsetOf, ofOffset, symbolTable, turnTable};
 ghost use Rattle.line.specs.Stream.{lineAfter};
-ghost use Rattle.span.specs.Format.{symbolsIn, Small};
+ghost use Rattle.span.specs.Format.{symbolsIn};
+ghost use Rattle.span.specs.Inside.Format.{Small};
 ghost use Rattle.send.specs.Put.{behind, put, crccBehind, crccChars, behindChars, wordAt, AreWords, wholeChars};
 
 // The CRCC words of a stream whose picture words leave c: the CRC runs on over the EAV and the line number.

@@ -3,7 +3,7 @@
 ghost use mathlib.Core.Path.{_≡_};
 ghost use Prim.Native.Nat.{_+_, _*_, _≤_, _<_};
 ghost use lib.ListN.{length};
-ghost use Rattle.encoder.specs.Tables.{offsetOf, ofOffset, symbolTable, turnTable};
+ghost use Rattle.encoder.specs.Inside.Tables.{offsetOf, ofOffset, symbolTable, turnTable};
 ghost use Rattle.send.specs.Put.{behind, put, pairAt, wordAt, pictureChars, passedAt, AreWords};
 
 // Behind so many words of each stream: the offset of the running disparity, and the CRC of each stream.

@@ -6,11 +6,11 @@ use symbol::disparity::Disparity;
 ghost use mathlib.Core.Path.{_≡_};
 ghost use mathlib.Core.Bool.{true};
 ghost use lib.ListN.{length};
-ghost use Rattle.encoder.specs.Tables.{offsetOf, ofOffset};
+ghost use Rattle.encoder.specs.Inside.Tables.{offsetOf, ofOffset};
 ghost use Rattle.line.specs.Stream.{isLine};
 ghost use Rattle.span.specs.Format.{isKnown, shapeOf, samplesIn, symbolsIn};
-ghost use Rattle.span.specs.Sample.{boundsOf};
 ghost use Rattle.span.specs.Span.{spanSymbols, spanAfter};
+ghost use Rattle.span.specs.Inside.Sample.{boundsOf};
 ghost use Rattle.send.specs.Put.{behind, put, wordsOf, spanPut, AreWords, Fits};
 ghost use Rattle.send.specs.Send.{Good, asked, paperSent, sendOf, sentBuffer};
 

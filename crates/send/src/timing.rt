@@ -2,7 +2,7 @@
 ghost use mathlib.Core.Path.{_≡_};
 ghost use Prim.Native.Nat.{_+_, _*_, _≤_, _<_};
 ghost use lib.ListN.{length};
-ghost use Rattle.encoder.specs.Tables.{offsetOf, ofOffset, symbolTable, turnTable};
+ghost use Rattle.encoder.specs.Inside.Tables.{offsetOf, ofOffset, symbolTable, turnTable};
 ghost use Rattle.send.specs.Put.{behind, put, syncChars, secondWord, timingChars};
 
 // The special characters of SAV and EAV, by their numbers among the characters.

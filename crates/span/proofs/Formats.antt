@@ -14,7 +14,8 @@ use Rattle.ground.proofs.Ranges.{is-within, from-low, to-high}
 use Rattle.ground.proofs.Tests.{both-left, both-right}
 use Rattle.span.specs.declared.format.Format.{Format}
 use Rattle.span.specs.declared.format.Shape.{Shape}
-use Rattle.span.specs.Format.{isKnown, row, numbered, shapeOf, Small}
+use Rattle.span.specs.Format.{isKnown, row, numbered, shapeOf}
+use Rattle.span.specs.Inside.Format.{Small}
 
 -- formats 1 to 3 at 10 or 12 bits
 pub record Known (f : Format) : Type 0 where

@@ -1,7 +1,8 @@
 -- The paper's number and values tell the answers of the lengths call apart.
 -- Assumes nothing.
 use mathlib.Core.Path.{_≡_, refl}
-use Rattle.ground.specs.Answer.{Answer, refused, given, OneToOne}
+use Rattle.ground.specs.Answer.{Answer, refused, given}
+use Rattle.ground.specs.Inside.Answer.{OneToOne}
 use Rattle.ground.proofs.Answers.{told-again}
 use Rattle.span.specs.declared.length.Lengths.{Lengths}
 use Rattle.span.specs.declared.length.Lengths.the-variants.{Known, Unknown}

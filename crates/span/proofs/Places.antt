@@ -12,7 +12,8 @@ use Rattle.line.specs.Stream.{vOf, lineAfter}
 use Rattle.symbol.specs.declared.disparity.Disparity.{Disparity}
 use Rattle.symbol.specs.declared.special.Special.the-variants.{«K28_5», «K29_7»}
 use Rattle.symbol.specs.Character.{numberOf}
-use Rattle.symbol.specs.Code.{symbolOf, TwoForms}
+use Rattle.symbol.specs.Code.{symbolOf}
+use Rattle.symbol.specs.Inside.Code.{TwoForms}
 use Rattle.symbol.proofs.Forms.{two-forms}
 use Rattle.packing.specs.Bytes.{bytesOf}
 use Rattle.crcc.specs.Crcc.{crccWords}

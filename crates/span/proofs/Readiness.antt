@@ -8,7 +8,7 @@ use borrow.Author.Tests.{eq-eqb, ne-eqb, eqb-true}
 use Rattle.ground.proofs.Tests.{both-left, both-right}
 use Rattle.span.specs.declared.format.Format.{Format}
 use Rattle.span.specs.Format.{isKnown, shapeOf, samplesIn, symbolsIn}
-use Rattle.span.specs.Fit.{ready}
+use Rattle.span.specs.Inside.Fit.{ready}
 
 module _ (f : Format) (symbols rows : ℕ) where
   -- the three tests one after the other

@@ -12,7 +12,8 @@ use Rattle.ground.proofs.Cases.{on-test}
 use Rattle.ground.proofs.Ranges.{is-within, from-low, to-high}
 use Rattle.line.specs.Stream.{isActive}
 use Rattle.span.specs.declared.format.Format.{Format}
-use Rattle.span.specs.Sample.{blankWord, allowed, sampleWord, boundsOf}
+use Rattle.span.specs.Sample.{blankWord, allowed, sampleWord}
+use Rattle.span.specs.Inside.Sample.{boundsOf}
 use Rattle.span.proofs.Formats.{Known}
 
 -- two tests that hold together are the same

@@ -1,6 +1,6 @@
 -- The formats (document 01, "A span": its table; 004, tables 4, 11 and 14).
 -- Assumes nothing.
-use Prim.Native.Nat.{ℕ, _+_, _*_, _/_, _≤_}
+use Prim.Native.Nat.{ℕ, _+_, _*_, _/_}
 use mathlib.Core.Bool.{Bool, _&&_, _||_}
 use mathlib.Core.List.{List, [], _∷_}
 use lib.Dec.{eqb}
@@ -56,9 +56,3 @@ symbolsIn p = 3 * pairsIn p
 -- the symbol at which the EAV begins
 abbrev pub eavAt : Shape → ℕ
 eavAt p = 2886 * streams p
-
--- no shape is larger than these
-pub record Small (p : Shape) : Type 0 where
-  pub half : p .half ≤ 2
-  pub ancillary : p .ancillary ≤ 708
-  pub fill : p .fill ≤ 1056

@@ -6,8 +6,9 @@ use mathlib.Core.Bool.{true, false}
 use mathlib.Core.List.{List, [], _∷_, _++_}
 use mathlib.Core.Logic.{_⊎_}
 use lib.ListN.{length, getD, take}
-use Rattle.ground.specs.Answer.{refused, given, OneToOne}
+use Rattle.ground.specs.Answer.{refused, given}
 use Rattle.ground.specs.Range.{within}
+use Rattle.ground.specs.Inside.Answer.{OneToOne}
 use Rattle.line.specs.Stream.{vOf, lineAfter}
 use Rattle.symbol.specs.declared.disparity.Disparity.{Disparity}
 use Rattle.symbol.specs.declared.disparity.Disparity.the-variants.{Negative}
@@ -27,9 +28,10 @@ use Rattle.span.specs.Format.{shapeOf, streams, samplesIn, pairsIn, symb
 use Rattle.span.specs.Image.{imageOf}
 use Rattle.span.specs.Length.{paperLengths, lengthsOf}
 use Rattle.span.specs.Numbers.{IsFormat}
-use Rattle.span.specs.Sample.{blankWord, allowed, sampleWord, boundsOf}
+use Rattle.span.specs.Sample.{blankWord, allowed, sampleWord}
 use Rattle.span.specs.Span.{listed, spanWords, spanChars, spanSymbols, signal}
 use Rattle.span.specs.Stream.{Asked, picture, eav, lineNumber, register}
+use Rattle.span.specs.Inside.Sample.{boundsOf}
 
 -- a format by its number and depth
 abbrev format : ℕ → ℕ → Format

@@ -29,13 +29,3 @@ savXyz = 3
 
 abbrev pub eavXyz : ℕ
 eavXyz = 1927
-
--- ---- in the symbols of one pair of streams, three for two words
-abbrev pub pictureSymbol : ℕ
-pictureSymbol = 12
-
-abbrev pub eavSymbol : ℕ
-eavSymbol = 5772
-
-abbrev pub ancillarySymbol : ℕ
-ancillarySymbol = 5796

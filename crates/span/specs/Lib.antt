@@ -1,9 +1,9 @@
 pub mod Blanking
 pub mod Content
 pub mod Encoding
-pub mod Fit
 pub mod Format
 pub mod Image
+pub mod Inside
 pub mod Laws
 pub mod Layout
 pub mod Length

@@ -6,7 +6,6 @@ use lib.Dec.{eqb}
 use Rattle.line.specs.Stream.{isActive}
 use Rattle.packing.specs.Sample.{allowed as allowedAt, sampleWord as wordAt}
 use Rattle.span.specs.declared.format.Format.{Format}
-use Rattle.span.specs.declared.sample.Bounds.{Bounds}
 
 -- 6.8: the blanking word of a link's streams, which all carry one component
 abbrev pub blankWord : Format → ℕ
@@ -19,10 +18,3 @@ allowed f n t x = cond (isActive n) (allowedAt (f .depth) x) (eqb x (blankWord f
 -- the word sent for it: on an active line by the depth, on a blanking line as it is
 abbrev pub sampleWord : Format → ℕ → ℕ → ℕ → ℕ
 sampleWord f n t x = cond (isActive n) (wordAt (f .depth) x) x
-
--- the same for a loop: the lowest and highest sample allowed (law `allowed-is`), and the factor that makes it a word (law `word-is`)
-abbrev pub boundsOf : Format → ℕ → Bounds
-boundsOf f n =
-    cond (isActive n)
-    (cond (eqb (f .depth) 10) (record { low = 4; high = 1019; factor = 4 }) (record { low = 16; high = 4079; factor = 1 }))
-    (record { low = blankWord f; high = blankWord f; factor = 1 })

@@ -2,7 +2,7 @@
 use crate::format::Format;
 use line::stream::StreamLine;
 ghost use mathlib.Core.Path.{_≡_};
-ghost use Rattle.span.specs.Sample.{boundsOf};
+ghost use Rattle.span.specs.Inside.Sample.{boundsOf};
 
 // The lowest and the highest sample allowed, and the factor that makes a sample the word sent.
 pub struct Bounds {

@@ -1,7 +1,8 @@
 -- An answer to C tells what the library answered: no two answers cross as the same.
 -- Assumes nothing.
 use mathlib.Core.Path.{_≡_, refl, ap}
-use Rattle.ground.specs.Answer.{Answer, given, OneToOne}
+use Rattle.ground.specs.Answer.{Answer, given}
+use Rattle.ground.specs.Inside.Answer.{OneToOne}
 use Rattle.symbol.specs.declared.disparity.Disparity.{Disparity}
 use Rattle.span.specs.declared.length.SpanLengths.{SpanLengths}
 use Rattle.span.specs.declared.length.Lengths.{Lengths}

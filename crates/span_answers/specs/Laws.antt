@@ -1,7 +1,7 @@
 -- What holds of the answers of the calls on spans to C: no two answers of the library cross as the same, so the number and the fields fix what
 -- was answered. `proofs/Laws` proves each.
 -- Assumes nothing.
-use Rattle.ground.specs.Answer.{OneToOne}
+use Rattle.ground.specs.Inside.Answer.{OneToOne}
 use Rattle.span.specs.declared.length.Lengths.{Lengths}
 use Rattle.span.specs.Length.{paperLengths}
 use Rattle.send.specs.declared.send.Sent.{Sent}

@@ -19,8 +19,9 @@ use Rattle.recording.specs.Recording.{limit, Reading, reading, nextFrom, delive
 use Rattle.recording.proofs.Calling.{next-given}
 use Rattle.recording.proofs.Readings.{span-whole}
 use Rattle.stepping.specs.declared.reader.Reader.{Reader}
-use Rattle.stepping.specs.Steps.{answerOf, movedOf, rowsOf, Step, runFrom, runOf, spanStep, endStep, lastRows}
+use Rattle.stepping.specs.Steps.{answerOf, movedOf, rowsOf, Step, runFrom, spanStep, endStep, lastRows}
 use Rattle.recording.proofs.Nexts.{next-is}
+use Rattle.stepping.specs.Inside.Steps.{runOf}
 
 module _ (f : Format) where
   abbrev n : ℕ

@@ -34,10 +34,6 @@ runFrom zero f r p rows = []
 runFrom (suc k) f r p rows =
     record { answer = nextOf f r p (length rows); rows = rowsNext f r p rows } ∷ runFrom k f r (afterNext f r p (length rows)) (rowsNext f r p rows)
 
--- k steps of a reader (that each is a step of the reader as the step before left it: law `step-by-step`)
-abbrev pub runOf : ℕ → Format → Reader → List ℕ → List Step
-runOf k f r rows = runFrom k f (now (r .symbols)) (r .place) rows
-
 -- the step that gives a span
 abbrev pub spanStep : Found Reading → Step
 spanStep e = record { answer = given (some (record { place = e .place; delivery = e .reading .values })); rows = e .reading .words }

@@ -5,12 +5,12 @@ use mathlib.Core.Bool.{Bool, true, false}
 use Prim.Native.Nat.{ℕ, _<_}
 use native.Mathlib.Omega.{arith}
 use lib.Dec.{eqb}
-use Rattle.ground.specs.Test.{everyBelow}
+use Rattle.ground.specs.Inside.Test.{everyBelow}
 use Rattle.ground.proofs.Tests.{at-number}
 use Rattle.symbol.specs.declared.disparity.Disparity.{Disparity}
 use Rattle.symbol.specs.declared.disparity.Disparity.the-variants.{Negative, Positive}
 use Rattle.symbol.specs.Character.{characters}
-use Rattle.symbol.specs.Code.{bit}
+use Rattle.symbol.specs.Inside.Code.{bit}
 
 pub at-character : (f : Disparity → ℕ → Bool) → everyBelow characters (f Negative) ≡ true → everyBelow characters (f Positive) ≡ true
     → (d : Disparity) (c : ℕ) → c < characters → f d c ≡ true

@@ -12,8 +12,9 @@ use Rattle.ground.proofs.Bits.{inverted-ones}
 use Rattle.symbol.specs.declared.disparity.Disparity.{Disparity}
 use Rattle.symbol.specs.declared.disparity.Disparity.the-variants.{Negative, Positive}
 use Rattle.symbol.specs.Character.{characters}
-use Rattle.symbol.specs.Code.{symbolOf, charOf, afterOf, turns, bit}
-use Rattle.symbol.specs.Disparity.{opposed, turnedIf}
+use Rattle.symbol.specs.Code.{symbolOf, charOf, afterOf}
+use Rattle.symbol.specs.Inside.Code.{turns, bit}
+use Rattle.symbol.specs.Inside.Disparity.{opposed, turnedIf}
 use Rattle.symbol.proofs.Inverse.{encode-decode, decoded-below}
 use Rattle.symbol.proofs.Ones.{onesBetween, ones-by, turns-both}
 

@@ -5,7 +5,8 @@ use borrow.Author.Tests.{eqb-false}
 use Rattle.symbol.specs.declared.disparity.Disparity.the-variants.{Negative, Positive}
 use Rattle.symbol.specs.declared.special.Special.the-variants.{«K28_5», «K29_7»}
 use Rattle.symbol.specs.Character.{numberOf}
-use Rattle.symbol.specs.Code.{symbolOf, TwoForms}
+use Rattle.symbol.specs.Code.{symbolOf}
+use Rattle.symbol.specs.Inside.Code.{TwoForms}
 
 pub two-forms : TwoForms 0x00 × TwoForms 0x01 × TwoForms 0x10 × TwoForms 0xFF × TwoForms (numberOf «K28_5») × TwoForms (numberOf «K29_7»)
 unfolding symbolOf

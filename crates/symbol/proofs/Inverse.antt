@@ -10,8 +10,9 @@ use Rattle.ground.proofs.Searches.{hit, miss, is-only, is-miss}
 use Rattle.symbol.specs.declared.disparity.Disparity.{Disparity}
 use Rattle.symbol.specs.declared.disparity.Disparity.the-variants.{Negative, Positive}
 use Rattle.symbol.specs.Character.{characters}
-use Rattle.symbol.specs.Code.{symbolOf, charOf, TwoForms}
-use Rattle.symbol.specs.Disparity.{opposed}
+use Rattle.symbol.specs.Code.{symbolOf, charOf}
+use Rattle.symbol.specs.Inside.Code.{TwoForms}
+use Rattle.symbol.specs.Inside.Disparity.{opposed}
 use Rattle.symbol.proofs.Distinct.{one-character}
 
 -- Decode after encode is the character.

@@ -10,8 +10,9 @@ use borrow.Author.Tests.{eqb-true, ltb-true}
 use Rattle.symbol.specs.declared.disparity.Disparity.{Disparity}
 use Rattle.symbol.specs.declared.disparity.Disparity.the-variants.{Negative, Positive}
 use Rattle.symbol.specs.Character.{characters}
-use Rattle.symbol.specs.Code.{symbolOf, afterOf, turns}
-use Rattle.symbol.specs.Disparity.{turnedIf}
+use Rattle.symbol.specs.Code.{symbolOf, afterOf}
+use Rattle.symbol.specs.Inside.Code.{turns}
+use Rattle.symbol.specs.Inside.Disparity.{turnedIf}
 use Rattle.symbol.proofs.Characters.{at-character, same, same-is}
 
 -- A symbol has ten bits.

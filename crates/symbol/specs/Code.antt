@@ -2,8 +2,7 @@
 -- A symbol is a number of ten bits, the bit sent first lowest (document 01, "A span"; 004, 7.1.1 and 7.1.2: sent from the LSB on).
 -- Assumes nothing.
 use Prim.Native.Nat.{ℕ, zero, suc, _+_, _*_, _/_, _%_, _^_}
-use mathlib.Core.Path.{_≡_}
-use mathlib.Core.Bool.{Bool, true, false, _&&_, _||_, cond}
+use mathlib.Core.Bool.{Bool, false, _&&_, _||_, cond}
 use mathlib.Core.List.{List, [], _∷_}
 use mathlib.Core.Option.{Option}
 use lib.Count.{onesIn}
@@ -11,10 +10,9 @@ use lib.Dec.{eqb}
 use lib.ListN.{getD}
 use Rattle.ground.specs.Search.{firstBelow}
 use Rattle.symbol.specs.declared.disparity.Disparity.{Disparity}
-use Rattle.symbol.specs.declared.disparity.Disparity.the-variants.{Negative, Positive}
 use Rattle.symbol.specs.Blocks.{sixBits, sixBitsK28, fourBits, alternate, alternateAt, fourBitsSpecial}
 use Rattle.symbol.specs.Character.{characters, isSpecial, xOf, yOf}
-use Rattle.symbol.specs.Disparity.{isPositive, afterBlock}
+use Rattle.symbol.specs.Disparity.{afterBlock}
 
 abbrev pub oneOf : ℕ → List ℕ → Bool
 oneOf x [] = false
@@ -42,15 +40,6 @@ unfoldable pub afterOf : Disparity → ℕ → Disparity
 unfolding betweenOf fourOf onesIn
 afterOf d c = afterBlock 4 (betweenOf d c) (fourOf (betweenOf d c) c)
 
--- whether character c leaves positive disparity behind negative (and then negative behind positive: law `turns-both`)
-unfoldable pub turns : ℕ → Bool
-turns c = isPositive (afterOf Negative c)
-
--- a test as a number: 1 where it holds, else 0
-abbrev pub bit : Bool → ℕ
-bit true = 1
-bit false = 0
-
 -- n bits the other way round
 unfoldable pub turned : ℕ → ℕ → ℕ
 turned zero b = 0
@@ -60,10 +49,6 @@ turned (suc n) b = b % 2 * 2 ^ n + turned n (b / 2)
 unfoldable pub symbolOf : Disparity → ℕ → ℕ
 unfolding turned sixOf fourOf betweenOf
 symbolOf d c = turned 10 (sixOf d c * 2 ^ 4 + fourOf (betweenOf d c) c)
-
--- a character with two different forms
-abbrev pub TwoForms : ℕ → Type 0
-TwoForms c = symbolOf Negative c ≡ symbolOf Positive c → ⊥
 
 -- the character whose symbol is s, where the disparity before it is d, if there is one
 unfoldable pub charOf : Disparity → ℕ → Option ℕ

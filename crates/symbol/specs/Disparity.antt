@@ -1,7 +1,7 @@
 -- The running disparity (ANSI INCITS 230, the 8B/10B code; the same in IEEE 802.3, 36.2.4.4).
 -- Assumes nothing.
 use Prim.Native.Nat.{ℕ, _*_}
-use mathlib.Core.Bool.{Bool, true, false, cond}
+use mathlib.Core.Bool.{cond}
 use lib.Dec.{ltb}
 use lib.Count.{onesIn}
 use Rattle.symbol.specs.declared.disparity.Disparity.{Disparity}
@@ -10,18 +10,6 @@ use Rattle.symbol.specs.declared.disparity.Disparity.the-variants.{Negat
 -- before a fresh signal (document 01, "A span"; 004, 7.1.1 and 7.1.2: encoding starts at the first K28.5, at negative RD)
 abbrev pub fresh : Disparity
 fresh = Negative
-
-abbrev pub opposed : Disparity → Disparity
-opposed Negative = Positive
-opposed Positive = Negative
-
-abbrev pub isPositive : Disparity → Bool
-isPositive Negative = false
-isPositive Positive = true
-
--- the opposite of d where it turns, else d
-abbrev pub turnedIf : Bool → Disparity → Disparity
-turnedIf turns d = cond turns (opposed d) d
 
 -- after a block of so many bits: positive where it has more ones than zeros, negative where it has more zeros, else as it was
 abbrev pub afterBlock : ℕ → Disparity → ℕ → Disparity

@@ -5,13 +5,14 @@ use mathlib.Core.Path.{_≡_}
 use mathlib.Core.Logic.{_⊎_}
 use mathlib.Core.Option.{none, some}
 use lib.Count.{onesIn}
-use Rattle.ground.specs.Answer.{OneToOne}
 use Rattle.ground.specs.Bit.{inverted}
+use Rattle.ground.specs.Inside.Answer.{OneToOne}
 use Rattle.symbol.specs.declared.disparity.Disparity.{Disparity}
 use Rattle.symbol.specs.declared.special.Special.{Special}
 use Rattle.symbol.specs.Character.{numberOf, nth}
-use Rattle.symbol.specs.Code.{symbolOf, afterOf, turns, TwoForms, charOf}
-use Rattle.symbol.specs.Disparity.{opposed, turnedIf}
+use Rattle.symbol.specs.Code.{symbolOf, afterOf, charOf}
+use Rattle.symbol.specs.Inside.Code.{turns, TwoForms}
+use Rattle.symbol.specs.Inside.Disparity.{opposed, turnedIf}
 
 pub record SymbolLaws : Type 0 where
   -- decoding a character's symbol gives the character, and encoding what was decoded gives the symbol (004, 7.1.1 and 7.1.2)

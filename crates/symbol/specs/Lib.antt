@@ -2,4 +2,5 @@ pub mod Blocks
 pub mod Character
 pub mod Code
 pub mod Disparity
+pub mod Inside
 pub mod Laws

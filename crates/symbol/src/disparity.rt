@@ -1,5 +1,6 @@
 ghost use mathlib.Core.Path.{_≡_};
-ghost use Rattle.symbol.specs.Disparity.{fresh, turnedIf};
+ghost use Rattle.symbol.specs.Disparity.{fresh};
+ghost use Rattle.symbol.specs.Inside.Disparity.{turnedIf};
 
 // The running disparity has two values, and no call can be given a third.
 pub enum Disparity {

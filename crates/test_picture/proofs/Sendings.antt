@@ -19,12 +19,13 @@ use Rattle.span.specs.declared.content.Content.{Content}
 use Rattle.span.specs.declared.format.Format.{Format}
 use Rattle.span.specs.Format.{isKnown, shapeOf, samplesIn, symbolsIn}
 use Rattle.span.specs.Image.{imageOf}
-use Rattle.span.specs.Sample.{blankWord, boundsOf}
+use Rattle.span.specs.Sample.{blankWord}
 use Rattle.span.specs.Span.{spanAfter}
 use Rattle.send.specs.Send.{asked, sendOf}
 use Rattle.send.proofs.Checking.{outside-never}
 use Rattle.send.proofs.Refusals.{sends}
 use Rattle.span.specs.Blanking.{blankRow}
+use Rattle.span.specs.Inside.Sample.{boundsOf}
 use Rattle.test_picture.specs.TestPicture.{stepOf, sampleBy, testSamples}
 use Rattle.test_picture.proofs.Codes.{code-low, code-high}
 use Rattle.test_picture.proofs.Images.{picture-long, sample-is}

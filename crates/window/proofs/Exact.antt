@@ -21,10 +21,11 @@ use Rattle.span.specs.Format.{isKnown, shapeOf, pairsIn, symbolsIn, eavAt}
 use Rattle.span.proofs.Encoding.{length-symbols, symbol-at}
 use Rattle.span.proofs.Lengths.{known-has-streams}
 use Rattle.window.specs.declared.delivery.Delivery.{Delivery}
-use Rattle.window.specs.Encoded.{charsOf, Encodes, wordIn, Meets, Restored}
+use Rattle.window.specs.Encoded.{charsOf, Encodes, wordIn, Meets}
 use Rattle.window.specs.Read.{contentIn, deliveryOf, readSpan}
 use Rattle.window.specs.Scan.{meant, byteOf, symbolAt, startOf}
 use Rattle.window.specs.Words.{wordAt}
+use Rattle.window.specs.Inside.Encoded.{Restored}
 use Rattle.window.proofs.Accepting.{Accepted, is-accepted, accepted-told}
 use Rattle.window.proofs.Bytes.{byte-sav, byte-eav, byte-else, word-below, byte-again}
 use Rattle.window.proofs.Characters.{replacing, length-chars, char-sav, char-eav, char-byte}

@@ -17,8 +17,8 @@ use Rattle.span.specs.Format.{streams}
 use Rattle.span.specs.Span.{fillWord}
 use Rattle.packing.specs.declared.bytes.TwoWords.{TwoWords}
 use Rattle.window.specs.Words.{wordAt}
-use Rattle.window.specs.Given.{plainPair}
-use Rattle.window.specs.Fill.{fillRight}
+use Rattle.window.specs.Inside.Fill.{fillRight}
+use Rattle.window.specs.Inside.Given.{plainPair}
 use Rattle.window.proofs.Plain.{Behind, pair-plain, word-a, word-b}
 
 -- both words of a pair are 100

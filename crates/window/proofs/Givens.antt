@@ -5,15 +5,15 @@ use mathlib.Core.Bool.{true}
 use mathlib.Core.List.{List}
 use Prim.Native.Nat.{ℕ}
 use lib.ListN.{length}
-use Rattle.decoder.specs.Decoder.{decodingTable}
+use Rattle.decoder.specs.Inside.Decoder.{decodingTable}
 use Rattle.span.specs.declared.format.Format.{Format}
 use Rattle.span.specs.declared.format.Shape.{Shape}
-use Rattle.span.specs.Fit.{ready}
 use Rattle.span.specs.Format.{shapeOf}
+use Rattle.span.specs.Inside.Fit.{ready}
 use Rattle.span.proofs.Formats.{small}
 use Rattle.span.proofs.Lengths.{known-has-streams}
 use Rattle.span.proofs.Readiness.{known-then, symbols-then}
-use Rattle.window.specs.Given.{Given}
+use Rattle.window.specs.Inside.Given.{Given}
 
 pub given-then : {p : Shape} {t : List ℕ} (f : Format) (w : List ℕ) (rows : ℕ)
     → ready f (length w) rows ≡ true → t ≡ decodingTable → p ≡ shapeOf f → Given p t w

@@ -19,8 +19,9 @@ use Rattle.symbol.specs.declared.disparity.Disparity.{Disparity}
 use Rattle.symbol.specs.declared.disparity.Disparity.the-variants.{Negative, Positive}
 use Rattle.symbol.specs.declared.special.Special.the-variants.{«K28_5»}
 use Rattle.symbol.specs.Character.{characters, numberOf}
-use Rattle.symbol.specs.Code.{symbolOf, charOf, afterOf, TwoForms}
-use Rattle.symbol.specs.Disparity.{opposed}
+use Rattle.symbol.specs.Code.{symbolOf, charOf, afterOf}
+use Rattle.symbol.specs.Inside.Code.{TwoForms}
+use Rattle.symbol.specs.Inside.Disparity.{opposed}
 use Rattle.symbol.proofs.Flip.{Caught, flip, flip-no-form}
 use Rattle.symbol.proofs.Inverse.{opposed-illegal}
 use Rattle.symbol.proofs.Ones.{one-form-stays}
@@ -33,10 +34,10 @@ use Rattle.span.specs.Stream.{Asked}
 use Rattle.span.proofs.Lengths.{known-has-streams, known-has-fill, length-words, length-chars, length-of-symbols}
 use Rattle.span.proofs.Places.{first-symbol, last-char, last-two-forms}
 use Rattle.window.specs.declared.delivery.Delivery.{Delivery}
-use Rattle.window.specs.Encoded.{Sendable}
 use Rattle.window.specs.Read.{readSpan}
 use Rattle.window.specs.Scan.{meant, symbolAt, startOf, runningAt}
 use Rattle.window.specs.Words.{wordAt}
+use Rattle.window.specs.Inside.Encoded.{Sendable}
 use Rattle.window.proofs.Accepting.{Accepted, accepted-told}
 use Rattle.window.proofs.Bytes.{byte-else, high-byte}
 use Rattle.window.proofs.Characters.{chars-below}

@@ -16,8 +16,8 @@ use Rattle.packing.specs.declared.bytes.TwoWords.{TwoWords}
 use Rattle.packing.specs.Bytes.{wordsOf}
 use Rattle.window.specs.Scan.{byteOf, symbolAt}
 use Rattle.window.specs.Words.{pairAt, wordAt}
+use Rattle.window.specs.Inside.Given.{Given, plainPair}
 use Rattle.window.proofs.Bytes.{byte-else}
-use Rattle.window.specs.Given.{Given, plainPair}
 
 -- ---- three symbols
 

@@ -31,9 +31,10 @@ use Rattle.span.specs.Span.{spanWords, fillWord}
 use Rattle.span.specs.Stream.{Asked, picture, register}
 use Rattle.span.proofs.Lengths.{known-has-streams}
 use Rattle.span.proofs.Places.{wordAt as sentAt, fill-word, sav-words, picture-word, eav-words, line-number-words, crcc-words}
-use Rattle.window.specs.Encoded.{wordIn, Meets, Restored, Sendable, IsXyz, Disturbed, wrongAt}
+use Rattle.window.specs.Encoded.{wordIn, Meets, IsXyz, Disturbed, wrongAt}
 use Rattle.window.specs.Tests.{sumOf, column, holds21, named, nextLine, lineRead, holds22, holds23, registerOf, holds24, holds25, holds26, repairCount, rows}
 use Rattle.word.specs.Received.{vIn, wrongBits}
+use Rattle.window.specs.Inside.Encoded.{Restored, Sendable}
 use Rattle.window.proofs.Encoded.{restored-words}
 use Rattle.window.proofs.Nearest.{same-test, near-h, near-v, near-repaired, near-wrong}
 use Rattle.window.proofs.Placing.{word-of-place, at-place, in-span, four, each-place}

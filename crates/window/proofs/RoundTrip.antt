@@ -17,9 +17,10 @@ use Rattle.span.specs.Format.{shapeOf, streams}
 use Rattle.span.specs.Span.{wordsFromSav, wordsFromEav, spanWords, charsFromSav, charsFromEav, spanChars, spanSymbols, spanAfter}
 use Rattle.span.specs.Stream.{Asked, picture}
 use Rattle.span.proofs.Lengths.{length-words-sav, length-words}
-use Rattle.window.specs.Encoded.{charsOf, Encodes, wordIn, Meets, Sendable, Disturbed, wrongAt}
+use Rattle.window.specs.Encoded.{charsOf, Encodes, wordIn, Meets, Disturbed, wrongAt}
 use Rattle.window.specs.Read.{pictureOf, readSpan, repairsOf}
 use Rattle.window.specs.Tests.{sumOf}
+use Rattle.window.specs.Inside.Encoded.{Sendable}
 use Rattle.window.proofs.Repaired.{near-meets}
 use Rattle.window.proofs.Sent.{sent-twelve-bits}
 use Rattle.window.proofs.TimingWords.{disturbed-encodes, repaired-delivered}

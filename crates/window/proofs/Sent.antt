@@ -27,9 +27,10 @@ use Rattle.span.specs.Span.{across, interleaved, fillWord, wordsFromSav, wordsF
 use Rattle.span.specs.Stream.{Asked, sav, picture, eav, lineNumber, crcc, register, ancillary, fromSav, fromEav}
 use Rattle.span.proofs.Formats.{Known, known-told}
 use Rattle.span.proofs.Samples.{word-is, word-below}
-use Rattle.window.specs.Encoded.{wordIn, Sendable}
+use Rattle.window.specs.Encoded.{wordIn}
 use Rattle.window.specs.Tests.{mayBring, wordOf, column, registerOf}
 use Rattle.word.specs.Received.{repaired}
+use Rattle.window.specs.Inside.Encoded.{Sendable}
 
 -- ---- lists of words of twelve bits
 

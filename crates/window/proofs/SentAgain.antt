@@ -27,11 +27,12 @@ use Rattle.span.proofs.Places.{sav-words, picture-word, eav-words, line-number-
 use Rattle.crcc.specs.Crcc.{crccWords}
 use Rattle.packing.specs.Sample.{allowedWord}
 use Rattle.packing.proofs.Samples.{received-ten, received-twelve}
-use Rattle.window.specs.Encoded.{charsOf, AreContent, Meets, Sendable, sampleIn, askedFor, askedAgain}
+use Rattle.window.specs.Encoded.{charsOf, AreContent, Meets}
 use Rattle.window.specs.Read.{contentIn}
 use Rattle.window.specs.Scan.{startOf}
 use Rattle.window.specs.Tests.{mayBring, wordOf, nextLine, lineRead, registerOf, repairCount}
 use Rattle.window.specs.Words.{wordAt}
+use Rattle.window.specs.Inside.Encoded.{Sendable, sampleIn, askedFor, askedAgain}
 use Rattle.window.proofs.Accepting.{Accepted}
 use Rattle.window.proofs.Bytes.{word-below}
 use Rattle.window.proofs.Exact.{encoded-again, accepted-encodes}

@@ -19,7 +19,7 @@ use Rattle.symbol.specs.declared.special.Special.the-variants.{«K28_5», «K29
 use Rattle.symbol.specs.Character.{characters, numberOf}
 use Rattle.symbol.specs.Code.{symbolOf, charOf, afterOf}
 use Rattle.symbol.proofs.Inverse.{decode-encode, one-meaning}
-use Rattle.decoder.specs.Decoder.{decodingTable, entryOf, entryIn}
+use Rattle.decoder.specs.Inside.Decoder.{decodingTable, entryOf, entryIn}
 use Rattle.decoder.proofs.Reading.{number-is, entry-in}
 use Rattle.span.specs.declared.format.Shape.{Shape}
 use Rattle.span.specs.Encoding.{symbolsFrom, afterRun}

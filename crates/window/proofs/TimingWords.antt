@@ -20,9 +20,10 @@ use Rattle.span.specs.Format.{shapeOf, streams, pairsIn}
 use Rattle.span.specs.Stream.{Asked, picture}
 use Rattle.span.proofs.Lengths.{known-has-streams}
 use Rattle.span.proofs.Places.{wordAt as sentAt, sav-words, eav-words}
-use Rattle.window.specs.Encoded.{charsOf, AreContent, Encodes, wordIn, Restored, answered, Sendable, IsXyz, Disturbed, wrongAt}
+use Rattle.window.specs.Encoded.{charsOf, AreContent, Encodes, wordIn, IsXyz, Disturbed, wrongAt}
 use Rattle.window.specs.Read.{placed, pictureOf, readSpan, repairsOf}
 use Rattle.window.specs.Tests.{sumOf, holds21}
+use Rattle.window.specs.Inside.Encoded.{Restored, answered, Sendable}
 use Rattle.window.proofs.Accepting.{fails-at, meets-given}
 use Rattle.window.proofs.Encoded.{encoded-read, encoded-picture}
 use Rattle.window.proofs.Nearest.{none-near}

@@ -27,12 +27,13 @@ use Rattle.span.specs.Sample.{blankWord}
 use Rattle.span.specs.Span.{interleaved, bytes, spanWords, spanSymbols}
 use Rattle.span.specs.Stream.{Asked}
 use Rattle.window.specs.declared.delivery.Delivery.{Delivery}
-use Rattle.window.specs.Encoded.{charsOf, wordIn, Meets, Sendable, askedAgain}
+use Rattle.window.specs.Encoded.{charsOf, wordIn, Meets}
 use Rattle.window.specs.Read.{placed, contentIn, deliveryOf, pictureOf, readSpan, judgeOf, readOf, rowsRead}
 use Rattle.window.specs.Scan.{symbolAt, startOf, runningAt, holds20}
 use Rattle.window.specs.Tests.{wordOf, holds21, holds22, holds23, holds24, holds25, holds26, lineRead, repairCount}
 use Rattle.word.specs.Received.{hasH}
 use Rattle.window.specs.Words.{fixedByte, wordAt}
+use Rattle.window.specs.Inside.Encoded.{Sendable, askedAgain}
 
 -- a test holds at all of n places
 abbrev pub Holds : ℕ → (ℕ → Bool) → Type 0

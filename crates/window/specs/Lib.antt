@@ -1,7 +1,5 @@
-pub mod Columns
 pub mod Encoded
-pub mod Fill
-pub mod Given
+pub mod Inside
 pub mod Laws
 pub mod Read
 pub mod Scan

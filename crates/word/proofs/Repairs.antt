@@ -14,8 +14,8 @@ use borrow.Author.Tests.{eqb-true, eqb-false, ne-eqb, lt-ltb, le-ltb, le-leb, lt
 use Rattle.ground.specs.Answer.{refused, given}
 use Rattle.ground.specs.Bit.{inverted}
 use Rattle.ground.specs.Search.{firstBelow}
-use Rattle.ground.specs.Test.{everyBelow}
 use Rattle.ground.specs.Xor.{_⊕_}
+use Rattle.ground.specs.Inside.Test.{everyBelow}
 use Rattle.ground.proofs.Bits.{inverted-below, ones-low}
 use Rattle.ground.proofs.Cases.{on-test}
 use Rattle.ground.proofs.Searches.{Nowhere, is-hit, is-miss, is-only}

@@ -6,7 +6,8 @@ use mathlib.Core.Bool.{Bool, cond}
 use mathlib.Core.List.{map}
 use mathlib.Core.Logic.{_⊎_}
 use lib.Dec.{eqb}
-use Rattle.ground.specs.Answer.{refused, given, OneToOne}
+use Rattle.ground.specs.Answer.{refused, given}
+use Rattle.ground.specs.Inside.Answer.{OneToOne}
 use Rattle.word.specs.LineNumber.{ln0, ln1, lineWords, paperNumbered, numberedOf, paperNamed, namedOf}
 use Rattle.word.specs.Repair.{distance, legalWord, paperRepair, repairOf}
 use Rattle.word.specs.Timing.{bit, timing}

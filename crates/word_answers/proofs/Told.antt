@@ -2,7 +2,8 @@
 -- Assumes nothing.
 use mathlib.Core.Path.{_≡_, refl}
 use Prim.Native.Nat.{ℕ}
-use Rattle.ground.specs.Answer.{Answer, OneToOne}
+use Rattle.ground.specs.Answer.{Answer}
+use Rattle.ground.specs.Inside.Answer.{OneToOne}
 use Rattle.line.specs.declared.stream.StreamLine.{StreamLine}
 use Rattle.word.specs.declared.line_number.LineWords.{LineWords}
 use Rattle.word.specs.declared.line_number.Numbered.{Numbered}

@@ -4,7 +4,7 @@ use mathlib.Core.Path.{_≡_, sym, _∙_}
 use mathlib.Core.Bool.{true, false}
 use Prim.Native.Nat.{_%_}
 use borrow.Author.Tests.{lt-ltb, le-ltb}
-use Rattle.decoder.specs.Decoder.{legalBit}
+use Rattle.decoder.specs.Inside.Decoder.{legalBit}
 use borrow.Author.Needs.{needs}
 use Rattle.decoder.proofs.decode.decode_by.Statement.{statement}
 use Rattle.decoder.proofs.decode.decode_by.Tie as tie

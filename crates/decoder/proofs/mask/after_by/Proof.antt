@@ -1,7 +1,7 @@
 -- `crate::mask::after_by` meets its contract, which is its code.
 -- Assumes nothing.
 use mathlib.Core.Path.{refl}
-use Rattle.decoder.specs.Mask.{afterBy}
+use Rattle.decoder.specs.Inside.Mask.{afterBy}
 use Rattle.decoder.proofs.mask.after_by.Statement.{statement}
 use Rattle.decoder.proofs.mask.after_by.Tie as tie
 

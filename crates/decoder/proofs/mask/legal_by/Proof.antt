@@ -1,7 +1,7 @@
 -- `crate::mask::legal_by` meets its contract, which is its code.
 -- Assumes nothing.
 use mathlib.Core.Path.{refl}
-use Rattle.decoder.specs.Mask.{legalBy}
+use Rattle.decoder.specs.Inside.Mask.{legalBy}
 use Rattle.decoder.proofs.mask.legal_by.Statement.{statement}
 use Rattle.decoder.proofs.mask.legal_by.Tie as tie
 

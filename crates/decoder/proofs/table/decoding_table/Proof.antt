@@ -2,7 +2,8 @@
 -- Assumes nothing.
 use mathlib.Core.Path.{refl}
 use Rattle.symbol.specs.declared.disparity.Disparity.the-variants.{Negative, Positive}
-use Rattle.symbol.specs.Code.{symbolOf, afterOf, turns}
+use Rattle.symbol.specs.Code.{symbolOf, afterOf}
+use Rattle.symbol.specs.Inside.Code.{turns}
 use Rattle.decoder.proofs.Entries.{tested-entries}
 use Rattle.decoder.proofs.table.decoding_table.Statement.{statement}
 use Rattle.decoder.proofs.table.decoding_table.Tie as tie

@@ -3,7 +3,7 @@
 use mathlib.Core.Path.{_∙_, ap}
 use mathlib.Core.List.{List}
 use Prim.Native.Nat.{ℕ}
-use Rattle.decoder.specs.Decoder.{entryIn}
+use Rattle.decoder.specs.Inside.Decoder.{entryIn}
 use Rattle.decoder.proofs.Reading.{entry-in}
 use borrow.Author.Needs.{needs}
 use Rattle.decoder.proofs.table.entry_of.Statement.{statement}

@@ -6,7 +6,7 @@ use native.Mathlib.Omega.{arith}
 use lib.Bits.{bitXor}
 use lib.ListN.{getD}
 use Rattle.symbol.specs.Code.{afterOf}
-use Rattle.encoder.specs.Tables.{offsetOf}
+use Rattle.encoder.specs.Inside.Tables.{offsetOf}
 use Rattle.encoder.proofs.Entries.{offset-below, turn-below, after-at, encoded-is}
 use borrow.Author.Needs.{needs}
 use Rattle.encoder.proofs.encode.encode_character.Statement.{statement}

@@ -1,7 +1,7 @@
 -- `encoder::tables::disparity_at` meets its contract: the test says which case of the definition holds.
 -- Assumes nothing.
 use borrow.Author.Tests.{ne-eqb}
-use Rattle.encoder.specs.Tables.{ofOffset}
+use Rattle.encoder.specs.Inside.Tables.{ofOffset}
 use Rattle.encoder.proofs.tables.disparity_at.Statement.{statement}
 use Rattle.encoder.proofs.tables.disparity_at.Tie as tie
 

@@ -4,7 +4,7 @@ use mathlib.Core.Path.{refl}
 use Prim.Native.Nat.{_/_, _%_}
 use Rattle.ground.proofs.Writing.{tested-table}
 use Rattle.symbol.specs.Code.{symbolOf}
-use Rattle.encoder.specs.Tables.{ofOffset, symbolTable}
+use Rattle.encoder.specs.Inside.Tables.{ofOffset, symbolTable}
 use Rattle.encoder.proofs.tables.symbol_table.Statement.{statement}
 use Rattle.encoder.proofs.tables.symbol_table.Tie as tie
 

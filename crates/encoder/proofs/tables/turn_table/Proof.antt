@@ -3,8 +3,9 @@
 use mathlib.Core.Path.{refl}
 use mathlib.Core.Bool.{cond}
 use Rattle.ground.proofs.Writing.{tested-table}
-use Rattle.symbol.specs.Code.{afterOf, turns}
-use Rattle.encoder.specs.Tables.{turnTable}
+use Rattle.symbol.specs.Code.{afterOf}
+use Rattle.symbol.specs.Inside.Code.{turns}
+use Rattle.encoder.specs.Inside.Tables.{turnTable}
 use Rattle.encoder.proofs.tables.turn_table.Statement.{statement}
 use Rattle.encoder.proofs.tables.turn_table.Tie as tie
 

@@ -3,7 +3,7 @@
 use mathlib.Core.Path.{refl, ap, _∙_}
 use native.Mathlib.Omega.{arith}
 use Rattle.generate.specs.Generated.{lowFirst}
-use Rattle.generate.specs.Pieces.{spanBytes}
+use Rattle.generate.specs.Inside.Pieces.{spanBytes}
 use Rattle.generate.proofs.Lefts.{left-is}
 use Rattle.generate.proofs.Sendings.{are-symbols, is-after}
 use borrow.Author.Needs.{needs}

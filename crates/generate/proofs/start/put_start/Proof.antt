@@ -3,7 +3,7 @@
 use mathlib.Core.Path.{sym, ap, _∙_}
 use native.Mathlib.Omega.{arith}
 use lib.Seq.{length-take-le}
-use Rattle.generate.specs.Parameters.{paperWanted}
+use Rattle.generate.specs.Inside.Parameters.{paperWanted}
 use Rattle.generate.proofs.Ready.{whole-told}
 use Rattle.generate.proofs.Starts.{refusal, header, text-1, text-2, text-3}
 use borrow.Author.Needs.{needs}

@@ -6,7 +6,6 @@ use lib.ListN.{length}
 use borrow.Author.Needs.{needs}
 use Rattle.span.specs.declared.length.SpanLengths.{SpanLengths}
 use Rattle.span.specs.Format.{shapeOf, samplesIn, symbolsIn}
-use Rattle.read.specs.Window.{IsWindow}
 use Rattle.read.proofs.Windows.{unknown, no-window, no-room, read-is, rows-kept, rows-read}
 use Rattle.read.proofs.read.read.Statement.{statement}
 use Rattle.read.proofs.read.read.Tie as tie
@@ -15,6 +14,7 @@ use Rattle.read.proofs.read.read.Lts as lts
 use Rattle.read.proofs.read.read_window.Reads as read-window-reads
 use Rattle.span.proofs.format.is_known.Reads as is-known-reads
 use Rattle.span.proofs.length.span_lengths.Reads as span-lengths-reads
+use Rattle.read.specs.Inside.Window.{IsWindow}
 
 is-known-requires : tie.Need-is-known-requires
 is-known-requires c κs = search needs

@@ -3,7 +3,7 @@
 use mathlib.Core.Path.{ap, _∙_}
 use Prim.Native.Nat.{_+_}
 use borrow.Author.Needs.{needs}
-use Rattle.read_test20.specs.Picture.{putPair}
+use Rattle.read_test20.specs.Inside.Picture.{putPair}
 use Rattle.read_test20.proofs.picture.put_six.Statement.{statement}
 use Rattle.read_test20.proofs.picture.put_six.Tie as tie
 use Rattle.read_test20.proofs.picture.put_six.Reads as reads

@@ -7,7 +7,8 @@ use native.Mathlib.Nat.{mul-le-mul-left}
 use native.Mathlib.Omega.{arith}
 use lib.ListN.{length}
 use borrow.Author.Needs.{needs}
-use Rattle.read_test20.specs.Picture.{Got, Come}
+use Rattle.read_test20.specs.Inside.Picture.{Got, Come}
+use Rattle.read_test20.specs.Inside.See.{passesBy}
 use Rattle.read_test20.proofs.Getting.{got-begin}
 use Rattle.read_test20.proofs.Kept.{bytes-in}
 use Rattle.read_test20.proofs.picture.take_picture.Statement.{statement}
@@ -16,7 +17,6 @@ use Rattle.read_test20.proofs.picture.take_picture.Reads as reads
 use Rattle.read_test20.proofs.picture.take_picture.Lts as lts
 use Rattle.read_test20.proofs.picture.take_piece.Reads as take-piece-reads
 use Rattle.read_test20.proofs.see.passes.Reads as passes-reads
-use Rattle.read_test20.specs.See.{passesBy}
 
 abbrev Inv-loop : tie.InvT-loop
 Inv-loop t half symbols turns rows₀ p₀ j₀ rows p j =

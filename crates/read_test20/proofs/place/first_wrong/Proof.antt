@@ -6,9 +6,9 @@ use Prim.Native.Nat.{ℕ, _-_}
 use native.Mathlib.Omega.{arith}
 use lib.ListN.{length}
 use borrow.Author.Needs.{needs}
-use Rattle.decoder.specs.Decoder.{decodingTable, entryIn}
+use Rattle.decoder.specs.Inside.Decoder.{decodingTable, entryIn}
 use Rattle.window.specs.Scan.{symbolAt}
-use Rattle.read_test20.specs.Run.{Reached}
+use Rattle.read_test20.specs.Inside.Run.{Reached}
 use Rattle.read_test20.proofs.Window.{on, stops, ends}
 use Rattle.read_test20.proofs.place.first_wrong.Statement.{statement}
 use Rattle.read_test20.proofs.place.first_wrong.Tie as tie

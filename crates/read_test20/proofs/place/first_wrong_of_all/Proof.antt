@@ -2,7 +2,7 @@
 -- Assumes nothing.
 use mathlib.Core.Path.{_≡_, ap, _∙_}
 use borrow.Author.Needs.{needs}
-use Rattle.decoder.specs.Mask.{maskOf}
+use Rattle.decoder.specs.Inside.Mask.{maskOf}
 use Rattle.read_test20.proofs.Window.{not-yet}
 use Rattle.read_test20.proofs.place.first_wrong_of_all.Statement.{statement}
 use Rattle.read_test20.proofs.place.first_wrong_of_all.Tie as tie

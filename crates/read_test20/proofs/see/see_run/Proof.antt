@@ -4,7 +4,7 @@ use mathlib.Core.Path.{_≡_}
 use Prim.Native.Nat.{_-_, _≤_}
 use native.Mathlib.Omega.{arith}
 use borrow.Author.Needs.{needs}
-use Rattle.read_test20.specs.See.{Clean}
+use Rattle.read_test20.specs.Inside.See.{Clean}
 use Rattle.read_test20.proofs.Seeing.{seen-turn}
 use Rattle.read_test20.proofs.see.see_run.Statement.{statement}
 use Rattle.read_test20.proofs.see.see_run.Tie as tie

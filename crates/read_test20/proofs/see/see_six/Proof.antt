@@ -1,7 +1,7 @@
 -- `read_test20::see::see_six` meets its contract.
 -- Assumes nothing.
 use borrow.Author.Needs.{needs}
-use Rattle.read_test20.specs.See.{seenSix}
+use Rattle.read_test20.specs.Inside.See.{seenSix}
 use Rattle.read_test20.proofs.see.see_six.Statement.{statement}
 use Rattle.read_test20.proofs.see.see_six.Tie as tie
 use Rattle.read_test20.proofs.see.see_six.Reads as reads

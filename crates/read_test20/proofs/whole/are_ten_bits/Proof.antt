@@ -7,7 +7,7 @@ use lib.ListN.{length, getD}
 use borrow.Author.Count.{below-more}
 use borrow.Author.Needs.{needs}
 use borrow.Author.Tests.{ltb-true, lt-ltb}
-use Rattle.read_test20.specs.See.{TenBits}
+use Rattle.read_test20.specs.Inside.See.{TenBits}
 use Rattle.read_test20.proofs.Seeing.{or-left-most, or-right-most}
 use Rattle.read_test20.proofs.whole.are_ten_bits.Statement.{statement}
 use Rattle.read_test20.proofs.whole.are_ten_bits.Tie as tie

@@ -7,7 +7,7 @@ use native.Mathlib.Omega.{arith}
 use borrow.Author.Needs.{needs}
 use borrow.Author.Tests.{not-true, not-false}
 use Rattle.read_test20.proofs.Gathering.{join}
-use Rattle.read_test20.specs.Whole.{Tied}
+use Rattle.read_test20.specs.Inside.Whole.{Tied}
 use Rattle.read_test20.proofs.Kept.{eav-stands, bytes-stand}
 use Rattle.read_test20.proofs.Wholes.{tied, goes-on}
 use Rattle.read_test20.proofs.whole.end_of.Statement.{statement}

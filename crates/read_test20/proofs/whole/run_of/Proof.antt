@@ -5,7 +5,7 @@ use mathlib.Core.Bool.{true≢false}
 use Prim.Native.Nat.{_+_, _-_, _*_, _/_}
 use native.Mathlib.Omega.{arith}
 use borrow.Author.Needs.{needs}
-use Rattle.read_test20.specs.See.{maskBy}
+use Rattle.read_test20.specs.Inside.See.{maskBy}
 use Rattle.read_test20.proofs.Blanks.{blank-going}
 use Rattle.read_test20.proofs.Runs.{begin}
 use Rattle.read_test20.proofs.Seeing.{see-begin}

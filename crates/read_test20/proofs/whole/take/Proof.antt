@@ -12,7 +12,7 @@ use Rattle.span.proofs.Formats.{small}
 use Rattle.span.proofs.Readiness.{rows-then}
 use Rattle.window.proofs.Givens.{given-then}
 use Rattle.read_test20.specs.declared.place.Scanned.{Scanned}
-use Rattle.read_test20.specs.Run.{place20}
+use Rattle.read_test20.specs.Inside.Run.{place20}
 use Rattle.read_test20.proofs.Kept.{ten-bits, is-whole}
 use Rattle.read_test20.proofs.whole.take.Statement.{statement}
 use Rattle.read_test20.proofs.whole.take.Tie as tie

@@ -6,7 +6,6 @@ use native.Mathlib.Omega.{arith}
 use borrow.Author.Needs.{needs}
 use borrow.Author.Tests.{not-true, not-false}
 use Rattle.read_test20.specs.declared.place.Scanned.{Scanned}
-use Rattle.read_test20.specs.Whole.{Tied}
 use Rattle.read_test20.proofs.Getting.{picture-is, sums-are}
 use Rattle.read_test20.proofs.Kept.{sav-stands, bytes-stand}
 use Rattle.read_test20.proofs.Wholes.{tied, goes-on, scanned-whole, reached-behind}
@@ -23,6 +22,7 @@ use Rattle.read_test20.proofs.whole.end_of.Reads as end-of-reads
 use Rattle.read_test20.proofs.whole.wanting_behind.Reads as wanting-behind-reads
 use Rattle.read_test20.proofs.whole.wanting_somewhere.Reads as wanting-somewhere-reads
 use Rattle.row_crc.proofs.sums.sums_of_rows.Reads as sums-of-rows-reads
+use Rattle.read_test20.specs.Inside.Whole.{Tied}
 
 behind-sav-requires : tie.Need-behind-sav-requires
 behind-sav-requires c κs = search needs

@@ -7,7 +7,7 @@ use lib.ListN.{length}
 use borrow.Author.Needs.{needs}
 use borrow.Author.Tests.{eq-eqb, ne-eqb}
 use Rattle.span.proofs.Formats.{small}
-use Rattle.read_test21_26.specs.Call.{isWindow}
+use Rattle.read_test21_26.specs.Inside.Call.{isWindow}
 use Rattle.read_test21_26.proofs.Calls.{given, is-place-25, is-place-26}
 use Rattle.read_test21_26.proofs.Sizes.{few-words}
 use Rattle.read_test21_26.proofs.call.lowest_place.Statement.{statement}

@@ -4,7 +4,7 @@ use mathlib.Core.Path.{_≡_, sym, _∙_}
 use mathlib.Core.Bool.{true, false}
 use lib.ListN.{length}
 use borrow.Author.Needs.{needs}
-use Rattle.read_test21_26.specs.Call.{isWindow}
+use Rattle.read_test21_26.specs.Inside.Call.{isWindow}
 use Rattle.read_test21_26.proofs.Calls.{given, service-is}
 use Rattle.read_test21_26.proofs.call.service_of.Statement.{statement}
 use Rattle.read_test21_26.proofs.call.service_of.Tie as tie

@@ -3,7 +3,7 @@
 use mathlib.Core.Path.{sym, ap, _∙_}
 use Rattle.span.specs.declared.format.Shape.{Shape}
 use Rattle.span.specs.declared.length.SpanLengths.{SpanLengths}
-use Rattle.window.specs.Fill.{fillRight}
+use Rattle.window.specs.Inside.Fill.{fillRight}
 use Rattle.read_test21_26.proofs.FillCalls.{fill-ready, no-fill}
 use Rattle.window.proofs.Givens.{given-then}
 use borrow.Author.Needs.{needs}

@@ -7,7 +7,7 @@ use lib.Dec.{eqb}
 use Rattle.span.specs.Format.{streams}
 use Rattle.crcc.specs.declared.crcc.CrccWords.{CrccWords}
 use Rattle.window.proofs.Placing.{stream-below}
-use Rattle.read_test21_26.specs.Holds.{crccBehind}
+use Rattle.read_test21_26.specs.Inside.Holds.{crccBehind}
 use Rattle.read_test21_26.proofs.Reading.{here}
 use Rattle.read_test21_26.proofs.Tests.{first-24, second-24, else-24}
 use borrow.Author.Needs.{needs}

@@ -4,7 +4,7 @@ use mathlib.Core.Path.{_≡_, sym, _∙_}
 use Prim.Native.Nat.{_-_, _≤_}
 use native.Mathlib.Omega.{arith}
 use borrow.Author.Needs.{needs}
-use Rattle.read_test21_26.specs.Holds.{holdsAt}
+use Rattle.read_test21_26.specs.Inside.Holds.{holdsAt}
 use Rattle.read_test21_26.proofs.Searching.{Held, begin, turn, stops, ends}
 use Rattle.read_test21_26.proofs.holds.first_wrong.Statement.{statement}
 use Rattle.read_test21_26.proofs.holds.first_wrong.Tie as tie

@@ -3,7 +3,7 @@
 use mathlib.Core.Path.{sym, ap, _∙_}
 use Prim.Native.Nat.{ℕ}
 use borrow.Author.Needs.{needs}
-use Rattle.read_test21_26.specs.Picture.{allAllowed}
+use Rattle.read_test21_26.specs.Inside.Picture.{allAllowed}
 use Rattle.read_test21_26.proofs.Allowing.{allowed-else}
 use Rattle.read_test21_26.proofs.picture.all_allowed.Statement.{statement}
 use Rattle.read_test21_26.proofs.picture.all_allowed.Tie as tie

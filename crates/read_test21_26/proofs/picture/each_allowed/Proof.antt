@@ -7,7 +7,7 @@ use native.Mathlib.Omega.{arith}
 use lib.Dec.{eqb}
 use lib.ListN.{length, drop}
 use borrow.Author.Needs.{needs}
-use Rattle.read_test21_26.specs.Picture.{allAllowed}
+use Rattle.read_test21_26.specs.Inside.Picture.{allAllowed}
 use Rattle.read_test21_26.proofs.Allowing.{look-turn, look-done}
 use Rattle.read_test21_26.proofs.picture.each_allowed.Statement.{statement}
 use Rattle.read_test21_26.proofs.picture.each_allowed.Tie as tie

@@ -5,8 +5,8 @@ use mathlib.Core.Option.{Option}
 use Prim.Native.Nat.{ℕ, _≤_}
 use native.Mathlib.Omega.{arith}
 use borrow.Author.Needs.{needs}
-use Rattle.read_test21_26.specs.Holds.{holdsAt}
-use Rattle.read_test21_26.specs.Verdict.{passed, verdictOf}
+use Rattle.read_test21_26.specs.Inside.Holds.{holdsAt}
+use Rattle.read_test21_26.specs.Inside.Verdict.{passed, verdictOf}
 use Rattle.read_test21_26.proofs.Searching.{found, not-found}
 use Rattle.read_test21_26.proofs.Sizes.{few-words, rising, within-window}
 use Rattle.read_test21_26.proofs.service.judge_one.Statement.{statement}

@@ -9,7 +9,7 @@ use borrow.Author.Needs.{needs}
 use Rattle.span.specs.declared.length.SpanLengths.{SpanLengths}
 use Rattle.span.proofs.Formats.{small}
 use Rattle.recording.specs.Recording.{limit}
-use Rattle.recording.specs.Seek.{soughtOf}
+use Rattle.recording.specs.Inside.Seek.{soughtOf}
 use Rattle.recording.proofs.Calling.{find-meets-1, find-meets-3, find-meets-5, finds-place, finds-none}
 use Rattle.recording.proofs.find.find.Statement.{statement}
 use Rattle.recording.proofs.find.find.Tie as tie

@@ -5,7 +5,7 @@ use Prim.Native.Nat.{ℕ, _-_, _≤_}
 use native.Mathlib.Omega.{arith}
 use lib.Bits.{bitOr}
 use borrow.Author.Needs.{needs}
-use Rattle.recording.specs.Look.{gathered, commaAt}
+use Rattle.recording.specs.Inside.Look.{gathered, commaAt}
 use Rattle.recording.proofs.Looking.{one-more}
 use Rattle.recording.proofs.look.commas.Statement.{statement}
 use Rattle.recording.proofs.look.commas.Tie as tie

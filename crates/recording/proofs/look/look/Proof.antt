@@ -3,7 +3,7 @@
 use Prim.Native.Nat.{_-_}
 use native.Mathlib.Omega.{arith}
 use borrow.Author.Needs.{needs}
-use Rattle.recording.specs.Look.{Passed}
+use Rattle.recording.specs.Inside.Look.{Passed}
 use Rattle.recording.proofs.Looking.{nothing-yet, further, up-to, no-commas, no-pairs}
 use Rattle.recording.proofs.look.look.Statement.{statement}
 use Rattle.recording.proofs.look.look.Tie as tie

@@ -3,7 +3,7 @@
 use mathlib.Core.Path.{sym, _∙_}
 use borrow.Author.Needs.{needs}
 use Prim.Native.Nat.{_-_}
-use Rattle.recording.specs.Look.{Passed}
+use Rattle.recording.specs.Inside.Look.{Passed}
 use Rattle.recording.proofs.Looking.{nothing-yet, without}
 use Rattle.recording.proofs.look.look_in.Statement.{statement}
 use Rattle.recording.proofs.look.look_in.Tie as tie

@@ -12,7 +12,7 @@ use Rattle.span.specs.Format.{shapeOf, symbolsIn}
 use Rattle.recording.specs.declared.seek.Spanned.{Spanned}
 use Rattle.recording.specs.Call.{endOr}
 use Rattle.recording.specs.Recording.{nextFrom}
-use Rattle.recording.specs.Seek.{soughtOf}
+use Rattle.recording.specs.Inside.Seek.{soughtOf}
 use Rattle.recording.proofs.Calling.{ends-inside, words-found, none-left}
 use Rattle.recording.proofs.next.next_from.Statement.{statement}
 use Rattle.recording.proofs.next.next_from.Tie as tie

@@ -11,7 +11,8 @@ use borrow.Rule.Slice.PartMut.{putMid}
 use Rattle.span.specs.Span.{spanSymbols}
 use Rattle.reception.specs.Link.{link}
 use Rattle.reception.proofs.Parts.{part-put}
-use Rattle.rig.specs.Sending.{askedOn, sentFrom, afterFrom}
+use Rattle.rig.specs.Sending.{askedOn, afterFrom}
+use Rattle.rig.specs.Inside.Sending.{sentFrom}
 use Rattle.rig.proofs.Lines.{length-span, next-line, no-line-more, all-sent, after-turn, sent-turn}
 use Rattle.rig.proofs.transmit.send_piece.Statement.{statement}
 use Rattle.rig.proofs.transmit.send_piece.Tie as tie

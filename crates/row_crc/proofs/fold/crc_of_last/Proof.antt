@@ -6,7 +6,7 @@ use native.Mathlib.Omega.{arith}
 use borrow.Author.Needs.{needs}
 use Rattle.ground.specs.Written.{table}
 use Rattle.crcc.specs.Crcc.{crc}
-use Rattle.row_crc.specs.Fold.{left}
+use Rattle.row_crc.specs.Inside.Fold.{left}
 use Rattle.row_crc.proofs.Folding.{two-same, none-before, next-left, all-left}
 use Rattle.row_crc.proofs.fold.crc_of_last.Statement.{statement}
 use Rattle.row_crc.proofs.fold.crc_of_last.Tie as tie

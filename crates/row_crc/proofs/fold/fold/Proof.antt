@@ -5,7 +5,7 @@ use Prim.Native.Nat.{_-_, _≤_}
 use native.Mathlib.Omega.{arith}
 use borrow.Author.Needs.{needs}
 use lib.ListN.{length}
-use Rattle.row_crc.specs.Fold.{Folds}
+use Rattle.row_crc.specs.Inside.Fold.{Folds}
 use Rattle.row_crc.proofs.Folding.{begin, folds-on}
 use Rattle.row_crc.proofs.fold.fold.Statement.{statement}
 use Rattle.row_crc.proofs.fold.fold.Tie as tie

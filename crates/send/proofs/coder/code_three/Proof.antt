@@ -5,7 +5,7 @@ use Prim.Native.Nat.{ℕ}
 use native.Mathlib.Omega.{arith}
 use Rattle.symbol.specs.Code.{afterOf}
 use Rattle.symbol.specs.declared.disparity.Disparity.{Disparity}
-use Rattle.encoder.specs.Tables.{offsetOf, ofOffset}
+use Rattle.encoder.specs.Inside.Tables.{offsetOf, ofOffset}
 use Rattle.encoder.proofs.Entries.{offset-again}
 use Rattle.send.specs.declared.coder.Coded.{Coded}
 use Rattle.send.specs.declared.coder.Three.{Three}

@@ -12,7 +12,7 @@ use Rattle.ground.proofs.Cases.{on-test}
 use Rattle.line.specs.Stream.{isActive}
 use Rattle.span.specs.declared.format.Format.{Format}
 use Rattle.span.specs.declared.sample.Bounds.{Bounds}
-use Rattle.span.specs.Sample.{boundsOf}
+use Rattle.span.specs.Inside.Sample.{boundsOf}
 use Rattle.send.specs.Check.{firstOutside}
 use Rattle.send.specs.Send.{asked}
 use Rattle.send.proofs.Refusals.{send-meets-6, sends, is-good}

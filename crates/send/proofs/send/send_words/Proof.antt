@@ -1,7 +1,7 @@
 -- `send::send::send_words` meets its contract: the parts that are put, by what the calls before them answer.
 -- Assumes nothing.
 use mathlib.Core.Path.{sym, ap, _∙_}
-use Rattle.encoder.specs.Tables.{offsetOf, ofOffset}
+use Rattle.encoder.specs.Inside.Tables.{offsetOf, ofOffset}
 use Rattle.encoder.proofs.Entries.{offset-again}
 use Rattle.span.specs.Format.{symbolsIn}
 use Rattle.span.proofs.Formats.{small}

@@ -8,7 +8,8 @@ use borrow.Author.Tests.{eq-eqb, ne-eqb}
 use Rattle.line.specs.Stream.{isActive}
 use Rattle.span.specs.declared.format.Format.{Format}
 use Rattle.span.specs.declared.sample.Bounds.{Bounds}
-use Rattle.span.specs.Sample.{blankWord, boundsOf}
+use Rattle.span.specs.Sample.{blankWord}
+use Rattle.span.specs.Inside.Sample.{boundsOf}
 use borrow.Author.Needs.{needs}
 use Rattle.span.proofs.sample.bounds_of.Statement.{statement}
 use Rattle.span.proofs.sample.bounds_of.Tie as tie

@@ -7,11 +7,11 @@ use mathlib.Core.List.{List}
 use lib.ListN.{length, drop}
 use Rattle.ground.specs.Answer.{Row}
 use Rattle.line.specs.Stream.{isActive}
-use Rattle.read_test21_26.specs.Picture.{allAllowed}
 use Rattle.span.specs.declared.format.Format.{Format}
 use Rattle.span.specs.Format.{isKnown, shapeOf, symbolsIn}
 use Rattle.window.specs.Read.{wordTests}
 use Rattle.window.specs.Words.{wordAt}
+use Rattle.read_test21_26.specs.Inside.Picture.{allAllowed}
 
 -- as many symbols as a span of a known format has
 pub record IsWindow (f : Format) (w : List ℕ) : Type 0 where

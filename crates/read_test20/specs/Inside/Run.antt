@@ -9,7 +9,7 @@ use lib.ListN.{length}
 use Rattle.ground.specs.Range.{within}
 use Rattle.ground.specs.Search.{firstBelow, isSome}
 use Rattle.symbol.specs.Code.{charOf}
-use Rattle.decoder.specs.Mask.{legalBy, maskOf}
+use Rattle.decoder.specs.Inside.Mask.{legalBy, maskOf}
 use Rattle.span.specs.declared.format.Shape.{Shape}
 use Rattle.window.specs.Scan.{meant, symbolAt, startOf, runningAt, fits, holds20}
 use Rattle.read_test20.specs.declared.place.Scanned.{Scanned}

@@ -13,8 +13,8 @@ use Rattle.window.specs.Read.{placed, contentIn, repairsOf}
 use Rattle.window.specs.Tests.{lineRead, repairCount}
 use Rattle.window.specs.Words.{wordAt}
 use Rattle.read_test21_26.specs.declared.call.Service.{Service}
-use Rattle.read_test21_26.specs.Holds.{picture25, fill26, firstWrong}
-use Rattle.read_test21_26.specs.Verdict.{passed, firstRow, serviceTests}
+use Rattle.read_test21_26.specs.Inside.Holds.{picture25, fill26, firstWrong}
+use Rattle.read_test21_26.specs.Inside.Verdict.{passed, firstRow, serviceTests}
 
 abbrev pub isWindow : Format → ℕ → Bool
 isWindow f symbols = isKnown f && eqb symbols (symbolsIn (shapeOf f))

@@ -4,11 +4,12 @@ use Prim.Native.Nat.{ℕ, _+_, _≤_}
 use mathlib.Core.Path.{_≡_}
 use mathlib.Core.List.{List}
 use lib.ListN.{length}
-use Rattle.decoder.specs.Decoder.{decodingTable}
+use Rattle.decoder.specs.Inside.Decoder.{decodingTable}
 use Rattle.span.specs.declared.format.Shape.{Shape}
-use Rattle.span.specs.Format.{symbolsIn, Small}
+use Rattle.span.specs.Format.{symbolsIn}
 use Rattle.packing.specs.declared.bytes.TwoWords.{TwoWords}
 use Rattle.packing.specs.Bytes.{wordsOf}
+use Rattle.span.specs.Inside.Format.{Small}
 use Rattle.window.specs.Scan.{symbolAt, byteOf}
 
 pub record Given (p : Shape) (t w : List ℕ) : Type 0 where

@@ -17,11 +17,11 @@ use Rattle.crcc.specs.Crcc.{crc, crccWords}
 use Rattle.packing.specs.Sample.{allowedWord}
 use Rattle.crcc.specs.declared.sums.Sums.{Sums}
 use Rattle.window.specs.Read.{placed}
-use Rattle.crcc.specs.Sums.{sumIn}
 use Rattle.window.specs.Tests.{wordOf, column, nextLine, holds21, holds22, holds23}
 use Rattle.word.specs.Received.{repaired}
+use Rattle.crcc.specs.Inside.Sums.{sumIn}
 use Rattle.window.specs.Words.{wordAt}
-use Rattle.window.specs.Given.{Given}
+use Rattle.window.specs.Inside.Given.{Given}
 
 -- what is known besides: the line that stream 1 names
 pub record Told (p : Shape) (t w : List ℕ) (next : StreamLine) : Type 0 where

@@ -8,7 +8,8 @@ use Rattle.ground.specs.Written.{table}
 use Rattle.symbol.specs.declared.disparity.Disparity.{Disparity}
 use Rattle.symbol.specs.declared.disparity.Disparity.the-variants.{Negative, Positive}
 use Rattle.symbol.specs.Character.{characters}
-use Rattle.symbol.specs.Code.{symbolOf, turns}
+use Rattle.symbol.specs.Code.{symbolOf}
+use Rattle.symbol.specs.Inside.Code.{turns}
 
 -- where the symbols of a disparity begin
 abbrev pub offsetOf : Disparity → ℕ

@@ -10,8 +10,8 @@ use Rattle.crcc.specs.declared.sums.Sums.{Sums}
 use Rattle.window.specs.Read.{lowest, placed}
 use Rattle.window.specs.Tests.{holds21, holds22, holds23}
 use Rattle.window.specs.Words.{wordAt}
-use Rattle.read_test21_26.specs.Holds.{holds24By}
 use Rattle.read_test21_26.specs.declared.service.Verdict.{Verdict}
+use Rattle.read_test21_26.specs.Inside.Holds.{holds24By}
 
 abbrev pub passed : Verdict
 passed = record { number = 0; place = 0 }

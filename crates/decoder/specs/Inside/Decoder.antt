@@ -12,9 +12,10 @@ use Rattle.ground.specs.Written.{table}
 use Rattle.symbol.specs.declared.disparity.Disparity.{Disparity}
 use Rattle.symbol.specs.declared.disparity.Disparity.the-variants.{Negative, Positive}
 use Rattle.symbol.specs.Character.{characterOf}
-use Rattle.symbol.specs.Code.{turns, bit, charOf}
+use Rattle.symbol.specs.Code.{charOf}
+use Rattle.symbol.specs.Inside.Code.{turns, bit}
+use Rattle.symbol.specs.Inside.Disparity.{turnedIf}
 use Rattle.decoder.specs.Decode.{After}
-use Rattle.symbol.specs.Disparity.{turnedIf}
 use Rattle.decoder.specs.Meaning.{Means, meantBy}
 
 -- an entry: the character's number in bits 0 to 8, bit 9 where it is legal at negative disparity, bit 10 at positive, and bits 11 and 12

@@ -6,13 +6,13 @@ use mathlib.Core.List.{List}
 use lib.ListN.{set}
 use lib.Seq.{sets}
 use Rattle.packing.specs.declared.bytes.TwoWords.{TwoWords}
-use Rattle.window.specs.Given.{plainPair}
 use Rattle.read_test20.specs.declared.picture.Passed.{Passed}
-use Rattle.read_test20.specs.See.{seenThree, seenSix, Clean, maskBy}
-use Rattle.read_test20.specs.Run.{Going}
 use Rattle.ground.specs.Written.{table}
 use Rattle.span.specs.declared.format.Shape.{Shape}
-use Rattle.window.specs.Columns.{columnOf}
+use Rattle.window.specs.Inside.Columns.{columnOf}
+use Rattle.window.specs.Inside.Given.{plainPair}
+use Rattle.read_test20.specs.Inside.Run.{Going}
+use Rattle.read_test20.specs.Inside.See.{seenThree, seenSix, Clean, maskBy}
 
 -- word i of the picture, of streams 2u and 2u + 1 of so many pairs
 abbrev pub pairIn : ℕ → List ℕ → ℕ → ℕ → TwoWords

@@ -9,7 +9,7 @@ use lib.ListN.{getD}
 use Rattle.ground.specs.Written.{table}
 use Rattle.ground.specs.Xor.{_⊕_}
 use Rattle.crcc.specs.Crcc.{crc}
-use Rattle.row_crc.specs.Sums.{wordsIn}
+use Rattle.row_crc.specs.Inside.Sums.{wordsIn}
 
 -- word i of a row with what has been moved to it: the words 139, 86 and 93 before it, where these have been moved. Word j that has been
 -- moved stands at 139 + j, so these stand at i, i + 53 and i + 46; 0 stands there until then, and before.

@@ -7,13 +7,13 @@ use mathlib.Core.List.{List}
 use lib.Bits.{bitAnd, bitOr, bitXor}
 use lib.Dec.{eqb}
 use lib.ListN.{length, getD}
-use Rattle.decoder.specs.Decoder.{entryOf}
-use Rattle.window.specs.Given.{plainPair}
-use Rattle.read_test20.specs.Run.{suits, Going}
+use Rattle.decoder.specs.Inside.Decoder.{entryOf}
 use Rattle.window.specs.Scan.{symbolAt}
+use Rattle.window.specs.Inside.Given.{plainPair}
 use Rattle.read_test20.specs.declared.see.Seen.{Seen}
 use Rattle.read_test20.specs.declared.see.Six.{Six}
 use Rattle.read_test20.specs.declared.see.Three.{Three}
+use Rattle.read_test20.specs.Inside.Run.{suits, Going}
 
 -- each symbol has ten bits
 pub record TenBits (w : List ℕ) : Type 0 where

@@ -4,9 +4,9 @@ use mathlib.Core.Path.{_≡_}
 use Prim.Native.Nat.{ℕ, _+_, _*_, _≤_, _<_}
 use mathlib.Core.List.{List}
 use Rattle.symbol.specs.Code.{symbolOf}
-use Rattle.decoder.specs.Mask.{ofMask}
+use Rattle.decoder.specs.Inside.Mask.{ofMask}
 use Rattle.window.specs.Scan.{symbolAt}
-use Rattle.read_test20.specs.See.{maskBy}
+use Rattle.read_test20.specs.Inside.See.{maskBy}
 
 -- the symbols of two blanking words
 pub record Blank : Type 0 where

@@ -6,18 +6,18 @@ use mathlib.Core.Bool.{Bool, true, cond, _&&_}
 use mathlib.Core.List.{List}
 use lib.Dec.{eqb}
 use lib.ListN.{length}
-use Rattle.decoder.specs.Mask.{maskOf, ofMask}
-use Rattle.window.specs.Columns.{sumsOf}
-use Rattle.span.specs.Fit.{ready}
-use Rattle.read_test20.specs.Run.{suits, Going, place20, scannedOf}
+use Rattle.decoder.specs.Inside.Mask.{maskOf, ofMask}
 use Rattle.span.specs.declared.format.Format.{Format}
 use Rattle.span.specs.declared.format.Shape.{Shape}
 use Rattle.span.specs.Format.{shapeOf, streams}
+use Rattle.span.specs.Inside.Fit.{ready}
 use Rattle.window.specs.Scan.{startOf, runningAt, holds20}
 use Rattle.window.specs.Tests.{rows as rowsOf}
 use Rattle.window.specs.Words.{wordAt}
+use Rattle.window.specs.Inside.Columns.{sumsOf}
 use Rattle.read_test20.specs.declared.whole.Taken.{Taken}
-use Rattle.read_test20.specs.See.{maskBy}
+use Rattle.read_test20.specs.Inside.Run.{suits, Going, place20, scannedOf}
+use Rattle.read_test20.specs.Inside.See.{maskBy}
 
 -- a special character at a place and behind it, legal there
 pub record Twice (w : List ℕ) (c at : ℕ) : Type 0 where

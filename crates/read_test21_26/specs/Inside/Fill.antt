@@ -7,7 +7,7 @@ use lib.Dec.{eqb}
 use lib.ListN.{length}
 use Rattle.span.specs.declared.format.Format.{Format}
 use Rattle.span.specs.Format.{isKnown, shapeOf, symbolsIn}
-use Rattle.window.specs.Fill.{fillRight}
+use Rattle.window.specs.Inside.Fill.{fillRight}
 
 -- the same of a call: only a window has fill
 abbrev pub fillIf : Format → List ℕ → Bool

@@ -1,0 +1,10 @@
+-- Dividing a row of a picture into the rows of two images, and joining them: what only the code behind the calls and its proofs speak of.
+-- What the contracts and the demands say stands in specs/Row.
+-- Assumes nothing.
+use Prim.Native.Nat.{ℕ, zero, suc}
+use mathlib.Core.List.{List}
+
+-- which of the two rows has a w: the first has 0, the second 1
+abbrev pub rowBy : ℕ → List ℕ → List ℕ → List ℕ
+rowBy zero first second = first
+rowBy (suc w) first second = second

@@ -1,0 +1,8 @@
+-- What a call answers in the paper's terms, and how its refusals are tried: what only the code behind the calls and its proofs speak of.
+-- What the contracts and the demands say stands in specs/Answer.
+-- Assumes nothing.
+use mathlib.Core.Path.{_≡_}
+
+-- a reading of answers that tells any two of them apart, so that a promise about the reading fixes the answer
+abbrev pub OneToOne : {A B : Type 0} → (A → B) → Type 0
+OneToOne {A} f = (a b : A) → f a ≡ f b → a ≡ b

@@ -1,0 +1,5 @@
+pub mod Blank
+pub mod Picture
+pub mod Run
+pub mod See
+pub mod Whole

@@ -1,0 +1,5 @@
+pub mod Call
+pub mod Fill
+pub mod Holds
+pub mod Picture
+pub mod Verdict

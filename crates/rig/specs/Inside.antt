@@ -1,0 +1,2 @@
+pub mod Knock
+pub mod Sending

@@ -1,0 +1,13 @@
+-- A plug that is knocked: what only the code behind the calls and its proofs speak of. What the contracts and the demands say stands in
+-- specs/Knock.
+-- Assumes nothing.
+use Prim.Native.Nat.{ℕ, suc}
+use mathlib.Core.Bool.{cond}
+use mathlib.Core.List.{List, [], _∷_}
+use Rattle.rig.specs.declared.knock.Knock.{Knock}
+use Rattle.rig.specs.Knock.{struck}
+
+-- symbols of the frame, the first of which stands at place q: those that are struck are 0, and the others as they were
+unfoldable pub knocked : Knock → ℕ → List ℕ → List ℕ
+knocked k q [] = []
+knocked k q (s ∷ more) = cond (struck k q) 0 s ∷ knocked k (suc q) more

@@ -1,0 +1,19 @@
+-- What the rig sends: what only the code behind the calls and its proofs speak of. What the contracts and the demands say stands in
+-- specs/Sending.
+-- Assumes nothing.
+use Prim.Native.Nat.{ℕ, zero, suc}
+use mathlib.Core.List.{List, [], _∷_}
+use Rattle.symbol.specs.declared.disparity.Disparity.{Disparity}
+use Rattle.span.specs.Span.{signalFrom}
+use Rattle.span.specs.Stream.{Asked}
+use Rattle.reception.specs.Link.{link}
+use Rattle.rig.specs.Sending.{askedOn}
+
+-- on m lines from line n on
+unfoldable pub askedFrom : ℕ → ℕ → List Asked
+askedFrom n zero = []
+askedFrom n (suc m) = askedOn n ∷ askedFrom (suc n) m
+
+-- their symbols, where the disparity before them is d
+abbrev pub sentFrom : Disparity → ℕ → ℕ → List ℕ
+sentFrom d n m = signalFrom d link (askedFrom n m)

@@ -1,0 +1,4 @@
+pub mod Fit
+pub mod Format
+pub mod Layout
+pub mod Sample

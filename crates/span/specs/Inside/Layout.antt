@@ -1,0 +1,16 @@
+-- Where the parts of a span begin: what only the code behind the calls and its proofs speak of. What the contracts and the demands say
+-- stands in specs/Layout.
+-- Assumes nothing.
+use Prim.Native.Nat.{ℕ}
+
+-- ---- in the words of one stream, the first of the SAV being word 0
+
+-- ---- in the symbols of one pair of streams, three for two words
+abbrev pub pictureSymbol : ℕ
+pictureSymbol = 12
+
+abbrev pub eavSymbol : ℕ
+eavSymbol = 5772
+
+abbrev pub ancillarySymbol : ℕ
+ancillarySymbol = 5796

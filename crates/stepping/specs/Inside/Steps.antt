@@ -1,0 +1,13 @@
+-- Steps through a recording: what only the code behind the calls and its proofs speak of. What the contracts and the demands say stands in
+-- specs/Steps.
+-- Assumes nothing.
+use Prim.Native.Nat.{ℕ}
+use mathlib.Core.List.{List}
+use denote.Ref.{now}
+use Rattle.span.specs.declared.format.Format.{Format}
+use Rattle.stepping.specs.declared.reader.Reader.{Reader}
+use Rattle.stepping.specs.Steps.{Step, runFrom}
+
+-- k steps of a reader (that each is a step of the reader as the step before left it: law `step-by-step`)
+abbrev pub runOf : ℕ → Format → Reader → List ℕ → List Step
+runOf k f r rows = runFrom k f (now (r .symbols)) (r .place) rows

@@ -1,0 +1,22 @@
+-- The symbol of each character, the disparity after it, and the character of each symbol: what only the code behind the calls and its
+-- proofs speak of. What the contracts and the demands say stands in specs/Code.
+-- Assumes nothing.
+use Prim.Native.Nat.{ℕ}
+use mathlib.Core.Path.{_≡_}
+use mathlib.Core.Bool.{Bool, true, false}
+use Rattle.symbol.specs.declared.disparity.Disparity.the-variants.{Negative, Positive}
+use Rattle.symbol.specs.Code.{afterOf, symbolOf}
+use Rattle.symbol.specs.Inside.Disparity.{isPositive}
+
+-- whether character c leaves positive disparity behind negative (and then negative behind positive: law `turns-both`)
+unfoldable pub turns : ℕ → Bool
+turns c = isPositive (afterOf Negative c)
+
+-- a test as a number: 1 where it holds, else 0
+abbrev pub bit : Bool → ℕ
+bit true = 1
+bit false = 0
+
+-- a character with two different forms
+abbrev pub TwoForms : ℕ → Type 0
+TwoForms c = symbolOf Negative c ≡ symbolOf Positive c → ⊥

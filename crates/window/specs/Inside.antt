@@ -1,0 +1,4 @@
+pub mod Columns
+pub mod Encoded
+pub mod Fill
+pub mod Given
