@@ -1,4 +1,4 @@
--- The same sending, asked in other words.
+-- The same sending, request in other words.
 -- Assumes nothing.
 use mathlib.Core.Path.{_≡_}
 use mathlib.Core.List.{List}
@@ -6,11 +6,11 @@ use Prim.Native.Nat.{ℕ}
 use Rattle.symbol.specs.declared.disparity.Disparity.{Disparity}
 use Rattle.span.specs.declared.content.Content.{Content}
 use Rattle.span.specs.declared.format.Format.{Format}
-use Rattle.send.specs.Send.{asked, sendOf, sentBuffer}
+use Rattle.send.specs.Send.{request, sendOf, sentBuffer}
 
 module _ (k : Content) (xs : List ℕ) {d e : Disparity} {f g : Format} {n m : ℕ} (p : d ≡ e) (q : f ≡ g) (r : n ≡ m) where
-  pub same-answer : (room : ℕ) → sendOf d f (asked n k xs) room ≡ sendOf e g (asked m k xs) room
+  pub same-answer : (room : ℕ) → sendOf d f (request n k xs) room ≡ sendOf e g (request m k xs) room
   same-answer room = rw (p, q, r)
 
-  pub same-buffer : (symbols : List ℕ) → sentBuffer d f (asked n k xs) symbols ≡ sentBuffer e g (asked m k xs) symbols
+  pub same-buffer : (symbols : List ℕ) → sentBuffer d f (request n k xs) symbols ≡ sentBuffer e g (request m k xs) symbols
   same-buffer symbols = rw (p, q, r)

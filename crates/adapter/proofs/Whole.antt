@@ -1,4 +1,4 @@
--- Numbers are taken whole. The library is asked with the largest number that it has room for where a caller's is larger, and each of these
+-- Numbers are taken whole. The library is request with the largest number that it has room for where a caller's is larger, and each of these
 -- laws says that a call answers the same for both, and leaves the same in lent memory.
 -- Assumes nothing.
 use mathlib.Core.Path.{_≡_, refl, sym, ap, _∙_}
@@ -26,7 +26,7 @@ use Rattle.span.specs.declared.format.Format.{Format}
 use Rattle.span.specs.Format.{isKnown, formatFrom}
 use Rattle.span.specs.Length.{lengthsOf}
 use Rattle.span.specs.Blanking.{fillOf, filledRow}
-use Rattle.send.specs.Send.{asked, sendOf, sentBuffer}
+use Rattle.send.specs.Send.{request, sendOf, sentBuffer}
 use Rattle.window.specs.Read.{judgeOf, readOf, rowsRead}
 use Rattle.recording.specs.Call.{findOf, nextOf, afterNext, rowsNext}
 
@@ -149,24 +149,24 @@ module _ (number depth : ℕ) where
 
 module _ (d : Disparity) (content : Content) (samples : List ℕ) where
   -- where there is no such line, what is answered and left does not depend on its number
-  lineless : (f : Format) (room m : ℕ) → 65535 ≤ m → sendOf d f (asked m content samples) room ≡ cond (isKnown f) (refused 2 0) (refused 1 0)
+  lineless : (f : Format) (room m : ℕ) → 65535 ≤ m → sendOf d f (request m content samples) room ≡ cond (isKnown f) (refused 2 0) (refused 1 0)
   lineless f room m h = on-test (isKnown f) (λ t. simp (t, no-line m h)) (λ t. simp t)
 
-  untouched : (f : Format) (symbols : List ℕ) (m : ℕ) → 65535 ≤ m → sentBuffer d f (asked m content samples) symbols ≡ symbols
+  untouched : (f : Format) (symbols : List ℕ) (m : ℕ) → 65535 ≤ m → sentBuffer d f (request m content samples) symbols ≡ symbols
   untouched f symbols m h = on-test (isKnown f) (λ t. simp (t, no-line m h)) (λ t. simp t)
 
   module _ (number depth line : ℕ) where
     pub send-whole : (room : ℕ)
-        → sendOf d (clipped number depth) (asked (min line 65535) content samples) room
-        ≡ sendOf d (asGiven number depth) (asked line content samples) room
+        → sendOf d (clipped number depth) (request (min line 65535) content samples) room
+        ≡ sendOf d (asGiven number depth) (request line content samples) room
     send-whole room =
-        format-whole (λ f. sendOf d f (asked (min line 65535) content samples) room) (refused 1 0) (λ f t. simp t) number depth
-        ∙ whole-to (λ n. sendOf d (asGiven number depth) (asked n content samples) room) 65535 line _ (lineless (asGiven number depth) room)
+        format-whole (λ f. sendOf d f (request (min line 65535) content samples) room) (refused 1 0) (λ f t. simp t) number depth
+        ∙ whole-to (λ n. sendOf d (asGiven number depth) (request n content samples) room) 65535 line _ (lineless (asGiven number depth) room)
 
     pub sent-whole : (symbols : List ℕ)
-        → sentBuffer d (clipped number depth) (asked (min line 65535) content samples) symbols
-        ≡ sentBuffer d (asGiven number depth) (asked line content samples) symbols
+        → sentBuffer d (clipped number depth) (request (min line 65535) content samples) symbols
+        ≡ sentBuffer d (asGiven number depth) (request line content samples) symbols
     sent-whole symbols =
-        format-whole (λ f. sentBuffer d f (asked (min line 65535) content samples) symbols) symbols (λ f t. simp t) number depth
-        ∙ whole-to (λ n. sentBuffer d (asGiven number depth) (asked n content samples) symbols) 65535 line symbols
+        format-whole (λ f. sentBuffer d f (request (min line 65535) content samples) symbols) symbols (λ f t. simp t) number depth
+        ∙ whole-to (λ n. sentBuffer d (asGiven number depth) (request n content samples) symbols) 65535 line symbols
         (untouched (asGiven number depth) symbols)

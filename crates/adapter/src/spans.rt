@@ -9,7 +9,7 @@ ghost use lib.ListN.{length};
 ghost use Rattle.span.specs.Length.{lengthsOf};
 ghost use Rattle.span.specs.declared.content.Content.the-variants.{NoneNamed, Named};
 ghost use Rattle.span.specs.Blanking.{fillOf, filledRow};
-ghost use Rattle.send.specs.Send.{asked, sendOf, sentBuffer};
+ghost use Rattle.send.specs.Send.{request, sendOf, sentBuffer};
 ghost use Rattle.window.specs.Read.{judgeOf, readOf, rowsRead};
 ghost use Rattle.boundary.specs.Numbers.{disparityFrom, numberIn};
 ghost use Rattle.span.specs.Format.{formatFrom};
@@ -34,8 +34,8 @@ fn send_content(
     samples: &[u16],
     symbols: &mut [u16],
 ) -> SendAnswer
-    ensures answer { λ r. ⌜ r ≡ sendAnswerOf (sendOf (disparityFrom positive) (formatFrom format depth) (asked line content (now (samples .entry))) (length (now (symbols .entry)))) ⌝ }
-    ensures symbols { λ _. ⌜ now (symbols .exit) ≡ sentBuffer (disparityFrom positive) (formatFrom format depth) (asked line content (now (samples .entry))) (now (symbols .entry)) ⌝ }
+    ensures answer { λ r. ⌜ r ≡ sendAnswerOf (sendOf (disparityFrom positive) (formatFrom format depth) (request line content (now (samples .entry))) (length (now (symbols .entry)))) ⌝ }
+    ensures symbols { λ _. ⌜ now (symbols .exit) ≡ sentBuffer (disparityFrom positive) (formatFrom format depth) (request line content (now (samples .entry))) (now (symbols .entry)) ⌝ }
 {
     let f = boundary::numbers::format_from(format, depth);
     let l = boundary::numbers::stream_line_from(line);
@@ -53,8 +53,8 @@ pub extern "C" fn brazulint_send(
     samples: &[u16],
     symbols: &mut [u16],
 ) -> SendAnswer
-    ensures answer { λ r. ⌜ r ≡ sendAnswerOf (sendOf (disparityFrom positive) (formatFrom format depth) (asked line NoneNamed (now (samples .entry))) (length (now (symbols .entry)))) ⌝ }
-    ensures symbols { λ _. ⌜ now (symbols .exit) ≡ sentBuffer (disparityFrom positive) (formatFrom format depth) (asked line NoneNamed (now (samples .entry))) (now (symbols .entry)) ⌝ }
+    ensures answer { λ r. ⌜ r ≡ sendAnswerOf (sendOf (disparityFrom positive) (formatFrom format depth) (request line NoneNamed (now (samples .entry))) (length (now (symbols .entry)))) ⌝ }
+    ensures symbols { λ _. ⌜ now (symbols .exit) ≡ sentBuffer (disparityFrom positive) (formatFrom format depth) (request line NoneNamed (now (samples .entry))) (now (symbols .entry)) ⌝ }
 {
     send_content(
         format,
@@ -78,8 +78,8 @@ pub extern "C" fn brazulint_send_named(
     samples: &[u16],
     symbols: &mut [u16],
 ) -> SendAnswer
-    ensures answer { λ r. ⌜ r ≡ sendAnswerOf (sendOf (disparityFrom positive) (formatFrom format depth) (asked line (Named content) (now (samples .entry))) (length (now (symbols .entry)))) ⌝ }
-    ensures symbols { λ _. ⌜ now (symbols .exit) ≡ sentBuffer (disparityFrom positive) (formatFrom format depth) (asked line (Named content) (now (samples .entry))) (now (symbols .entry)) ⌝ }
+    ensures answer { λ r. ⌜ r ≡ sendAnswerOf (sendOf (disparityFrom positive) (formatFrom format depth) (request line (Named content) (now (samples .entry))) (length (now (symbols .entry)))) ⌝ }
+    ensures symbols { λ _. ⌜ now (symbols .exit) ≡ sentBuffer (disparityFrom positive) (formatFrom format depth) (request line (Named content) (now (samples .entry))) (now (symbols .entry)) ⌝ }
 {
     send_content(
         format,

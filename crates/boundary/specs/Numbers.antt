@@ -4,7 +4,6 @@
 use Prim.Native.Nat.{ℕ}
 use mathlib.Core.Bool.{Bool, true, false}
 use Rattle.ground.specs.Answer.{Answer, refused, given}
-use Rattle.span.specs.declared.format.Format.{Format}
 use Rattle.symbol.specs.declared.disparity.Disparity.{Disparity}
 use Rattle.symbol.specs.declared.disparity.Disparity.the-variants.{Negative, Positive}
 
@@ -12,10 +11,6 @@ use Rattle.symbol.specs.declared.disparity.Disparity.the-variants.{Negative, Po
 abbrev pub disparityFrom : Bool → Disparity
 disparityFrom true = Positive
 disparityFrom false = Negative
-
-abbrev pub isPositive : Disparity → Bool
-isPositive Positive = true
-isPositive Negative = false
 
 -- the number of a refusal; 0, which no refusal has, where none is given
 abbrev pub numberIn : {A : Type 0} → Answer A → ℕ

@@ -6,7 +6,8 @@ use span::format::Format;
 use symbol::disparity::Disparity;
 ghost use mathlib.Core.Path.{_≡_};
 ghost use Prim.Native.Nat.{min};
-ghost use Rattle.boundary.specs.Numbers.{disparityFrom, isPositive};
+ghost use Rattle.boundary.specs.Numbers.{disparityFrom};
+ghost use Rattle.symbol.specs.Disparity.{isPositive};
 ghost use Rattle.span.specs.Format.{formatFrom};
 
 fn at_most_255(n: u32) -> u8

@@ -12,7 +12,7 @@ use Rattle.encoder.specs.Encode.{encoded}
 use Rattle.decoder.specs.Decode.{After}
 use Rattle.character_answers.specs.declared.characters.DecodeAnswer.{DecodeAnswer}
 use Rattle.character_answers.specs.declared.characters.EncodeAnswer.{EncodeAnswer}
-use Rattle.boundary.specs.Numbers.{isPositive}
+use Rattle.symbol.specs.Disparity.{isPositive}
 
 abbrev pub characterNumber : Character → ℕ
 characterNumber (byte b) = b

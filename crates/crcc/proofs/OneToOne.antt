@@ -3,7 +3,7 @@
 use mathlib.Core.Path.{_≡_, refl}
 use Prim.Native.Nat.{ℕ}
 use Rattle.ground.specs.Answer.{Answer, refused, given}
-use Rattle.ground.specs.Inside.Answer.{OneToOne}
+use Rattle.ground.specs.Inside.Answer.{Injective}
 use Rattle.ground.proofs.Answers.{told-again}
 use Rattle.crcc.specs.declared.crcc.Crcc.{Crcc}
 use Rattle.crcc.specs.declared.crcc.Crcc.the-variants as Crcc
@@ -13,7 +13,7 @@ abbrev crccAgain : Answer ℕ → Crcc
 crccAgain (refused n place) = Crcc.Above4095
 crccAgain (given c) = Crcc.Register c
 
-pub crcc-one-to-one : OneToOne paperCrcc
+pub crcc-one-to-one : Injective paperCrcc
 crcc-one-to-one = told-again crccAgain again
   where
     again : (r : Crcc) → crccAgain (paperCrcc r) ≡ r

@@ -5,7 +5,7 @@ use mathlib.Core.Path.{_≡_}
 use mathlib.Core.List.{List, [], _∷_, _++_, map}
 use lib.ListN.{length, getD}
 use Rattle.ground.specs.Answer.{refused, given}
-use Rattle.ground.specs.Inside.Answer.{OneToOne}
+use Rattle.ground.specs.Inside.Answer.{Injective}
 use Rattle.crcc.specs.Crcc.{crc, crccWords, paperCrcc, crccOf}
 
 pub record CrccLaws : Type 0 where
@@ -27,4 +27,4 @@ pub record CrccLaws : Type 0 where
   pub crccGood : (ws : List ℕ) → ((i : ℕ) → i < length ws → getD ws i 0 ≤ 4095) → crccOf ws ≡ given (crc 0 ws)
   pub crccMeets7 : (ws : List ℕ) (i : ℕ) → i < length ws → 4095 < getD ws i 0 → crccOf ws ≡ refused 7 0
   -- the paper's number and value tell any two answers apart, so that a promise about them fixes the answer
-  pub crccTold : OneToOne paperCrcc
+  pub crccTold : Injective paperCrcc

@@ -11,8 +11,9 @@ use borrow.Author.Tests.{eq-eqb, ne-eqb}
 use Rattle.symbol.specs.declared.disparity.Disparity.{Disparity}
 use Rattle.symbol.specs.declared.disparity.Disparity.the-variants.{Negative, Positive}
 use Rattle.symbol.specs.Code.{charOf, afterOf}
-use Rattle.symbol.specs.Inside.Code.{turns, bit}
-use Rattle.symbol.specs.Inside.Disparity.{turnedIf}
+use Rattle.symbol.specs.Inside.Code.{flips}
+use Rattle.ground.specs.Bit.{bit}
+use Rattle.symbol.specs.Inside.Disparity.{flippedIf}
 use Rattle.symbol.proofs.Inverse.{decoded-below}
 use Rattle.symbol.proofs.Ones.{turns-both}
 use Rattle.decoder.specs.Inside.Decoder.{entryOf, legalBit}
@@ -34,7 +35,7 @@ unfolding legalBy
 legal-mask Negative e = ap (λ (x : ℕ). not (eqb x 0)) (and-high e 1 9) ∙ bit-tests 512 (e / 512 % 2) (omega arith) (omega arith)
 legal-mask Positive e = ap (λ (x : ℕ). not (eqb x 0)) (and-high e 1 10) ∙ bit-tests 1024 (e / 1024 % 2) (omega arith) (omega arith)
 
-turn-mask : (d : Disparity) (t : Bool) → bitXor (maskOf d) (3 * bit t * 512) ≡ maskOf (turnedIf t d)
+turn-mask : (d : Disparity) (t : Bool) → bitXor (maskOf d) (3 * bit t * 512) ≡ maskOf (flippedIf t d)
 turn-mask Negative true = refl
 turn-mask Negative false = refl
 turn-mask Positive true = refl
@@ -44,7 +45,7 @@ turn-mask Positive false = refl
 pub after-mask : (d : Disparity) (s c : ℕ) → charOf d s ≡ some c → afterBy (maskOf d) (entryOf s) ≡ maskOf (afterOf d c)
 unfolding afterBy
 after-mask d s c e =
-    let q : entryOf s / 4 / 512 % 4 ≡ 3 * bit (turns c) = omega (arith, turn-is d s c e) in
+    let q : entryOf s / 4 / 512 % 4 ≡ 3 * bit (flips c) = omega (arith, turn-is d s c e) in
     ap (bitXor (maskOf d)) (and-high (entryOf s / 4) 2 9 ∙ ap (λ (x : ℕ). x * 512) q)
-    ∙ turn-mask d (turns c)
+    ∙ turn-mask d (flips c)
     ∙ ap maskOf (sym (turns-both d c (decoded-below d s c e)))

@@ -9,7 +9,7 @@ use lib.Dec.{eqb}
 use borrow.Author.Tests.{lt-ltb, le-ltb}
 use Rattle.ground.specs.Answer.{Answer, refused, given}
 use Rattle.ground.specs.Search.{isSome}
-use Rattle.ground.specs.Inside.Answer.{OneToOne}
+use Rattle.ground.specs.Inside.Answer.{Injective}
 use Rattle.ground.proofs.Answers.{told-again}
 use Rattle.symbol.specs.declared.disparity.Disparity.{Disparity}
 use Rattle.symbol.specs.declared.disparity.Disparity.the-variants.{Negative, Positive}
@@ -35,7 +35,7 @@ abbrev decodedAgain : Answer After → Decoded
 decodedAgain (refused n place) = cond (eqb n 7) Decoded.Above1023 Decoded.Illegal
 decodedAgain (given a) = decodedFrom (a .character) (a .after)
 
-pub decoded-one-to-one : OneToOne paperDecoded
+pub decoded-one-to-one : Injective paperDecoded
 decoded-one-to-one = told-again decodedAgain again
   where
     again : (r : Decoded) → decodedAgain (paperDecoded r) ≡ r
@@ -53,7 +53,7 @@ abbrev meaningAgain : Answer Means → Meaning
 meaningAgain (refused n place) = Meaning.Above1023
 meaningAgain (given m) = meaningFrom (m .character) (record { negative = m .negative; positive = m .positive })
 
-pub meaning-one-to-one : OneToOne paperMeaning
+pub meaning-one-to-one : Injective paperMeaning
 meaning-one-to-one = told-again meaningAgain again
   where
     again : (r : Meaning) → meaningAgain (paperMeaning r) ≡ r

@@ -13,8 +13,9 @@ use Rattle.symbol.specs.declared.disparity.Disparity.{Disparity}
 use Rattle.symbol.specs.declared.disparity.Disparity.the-variants.{Negative, Positive}
 use Rattle.symbol.specs.Character.{characters}
 use Rattle.symbol.specs.Code.{symbolOf, charOf, afterOf}
-use Rattle.symbol.specs.Inside.Code.{turns, bit}
-use Rattle.symbol.specs.Inside.Disparity.{turnedIf}
+use Rattle.symbol.specs.Inside.Code.{flips}
+use Rattle.ground.specs.Bit.{bit}
+use Rattle.symbol.specs.Inside.Disparity.{flippedIf}
 use Rattle.decoder.specs.Decode.{decodeOf}
 use Rattle.decoder.specs.Meaning.{meaningOf}
 use Rattle.symbol.proofs.Characters.{bit-is, bit-below}
@@ -38,8 +39,8 @@ module _ (c : ℕ) (h : c < 512) (n p : Bool) where
   entry-legal Positive =
       let q : entryFrom (some c) n p / 1024 % 2 ≡ bit p = omega (arith, bit-below n, bit-below p) in ap (λ (x : ℕ). eqb x 1) q ∙ bit-is p
 
-  entry-turns : entryFrom (some c) n p / 2048 % 4 ≡ 3 * bit (turns c)
-  entry-turns = omega (arith, bit-below n, bit-below p, bit-below (turns c))
+  entry-turns : entryFrom (some c) n p / 2048 % 4 ≡ 3 * bit (flips c)
+  entry-turns = omega (arith, bit-below n, bit-below p, bit-below (flips c))
 
   entry-look : (d : Disparity) → look d (entryFrom (some c) n p) ≡ cond (side d n p) (some c) none
   entry-look d = rw (entry-legal d, entry-character)
@@ -47,7 +48,7 @@ module _ (c : ℕ) (h : c < 512) (n p : Bool) where
 -- what an entry e says of a character, or of none, at disparity d
 pub record Says (d : Disparity) (e : ℕ) (o : Option ℕ) : Type 0 where
   pub looked : look d e ≡ o
-  pub turned : (c : ℕ) → o ≡ some c → e / 2048 % 4 ≡ 3 * bit (turns c)
+  pub turned : (c : ℕ) → o ≡ some c → e / 2048 % 4 ≡ 3 * bit (flips c)
 
 given-is : (t : Bool) (b c : ℕ) → cond t (some b) none ≡ some c → b ≡ c
 given-is true b c e = Option·some-injective b c e
@@ -58,7 +59,7 @@ says-some : (c : ℕ) → c < 512 → (n p : Bool) (d : Disparity) (o : Option �
 says-some c h n p d o e =
     record {
       looked = entry-look c h n p d ∙ e;
-      turned = λ b q. entry-turns c h n p ∙ ap (λ (x : ℕ). 3 * bit (turns x)) (given-is (side d n p) c b (e ∙ q));
+      turned = λ b q. entry-turns c h n p ∙ ap (λ (x : ℕ). 3 * bit (flips x)) (given-is (side d n p) c b (e ∙ q));
     }
 
 says-none : (d : Disparity) → Says d 0 none
@@ -108,15 +109,15 @@ legal-is d s = sym (some-if (legalBit d (entryOf s))) ∙ ap isSome (look-is d s
 pub number-is : (d : Disparity) (s c : ℕ) → charOf d s ≡ some c → entryOf s % 512 ≡ c
 number-is d s c e = given-is (legalBit d (entryOf s)) (entryOf s % 512) c (look-is d s ∙ e)
 
--- its bits 11 and 12 say whether the character turns the disparity
-pub turn-is : (d : Disparity) (s c : ℕ) → charOf d s ≡ some c → entryOf s / 2048 % 4 ≡ 3 * bit (turns c)
+-- its bits 11 and 12 say whether the character flips the disparity
+pub turn-is : (d : Disparity) (s c : ℕ) → charOf d s ≡ some c → entryOf s / 2048 % 4 ≡ 3 * bit (flips c)
 turn-is d s c e = entry-says d s .turned c e
 
 -- and so it gives the disparity after it
 pub after-is : (d : Disparity) (s c : ℕ) → charOf d s ≡ some c → entryAfter d (entryOf s) ≡ afterOf d c
 after-is d s c e =
-    let q : entryOf s / 2048 % 2 ≡ bit (turns c) = omega (arith, turn-is d s c e, bit-below (turns c)) in
-    ap (λ (t : Bool). turnedIf t d) (ap (λ (x : ℕ). eqb x 1) q ∙ bit-is (turns c)) ∙ sym (turns-both d c (decoded-below d s c e))
+    let q : entryOf s / 2048 % 2 ≡ bit (flips c) = omega (arith, turn-is d s c e, bit-below (flips c)) in
+    ap (λ (t : Bool). flippedIf t d) (ap (λ (x : ℕ). eqb x 1) q ∙ bit-is (flips c)) ∙ sym (turns-both d c (decoded-below d s c e))
 
 -- its bit 13 is set where the character is a byte, and no higher bit is
 record Flagged (e : ℕ) : Type 0 where
@@ -127,8 +128,8 @@ record Flagged (e : ℕ) : Type 0 where
 flagged-some : (c : ℕ) → c < 512 → (n p : Bool) → Flagged (entryFrom (some c) n p)
 flagged-some c h n p = on-test (ltb c 256) yes-byte no-byte
   where
-    small : c + 512 * bit n + 1024 * bit p + 6144 * bit (turns c) < 8192
-    small = omega (arith, bit-below n, bit-below p, bit-below (turns c))
+    small : c + 512 * bit n + 1024 * bit p + 6144 * bit (flips c) < 8192
+    small = omega (arith, bit-below n, bit-below p, bit-below (flips c))
 
     yes-byte : ltb c 256 ≡ true → Flagged (entryFrom (some c) n p)
     yes-byte t =
@@ -136,7 +137,7 @@ flagged-some c h n p = on-test (ltb c 256) yes-byte no-byte
         rw t
         (record {
           fits = omega (arith, small);
-          byte = λ _. omega (arith, bit-below n, bit-below p, bit-below (turns c));
+          byte = λ _. omega (arith, bit-below n, bit-below p, bit-below (flips c));
           flag = λ _ _. omega (arith, small);
         })
 
@@ -147,7 +148,7 @@ flagged-some c h n p = on-test (ltb c 256) yes-byte no-byte
         (record {
           fits = omega (arith, small);
           byte = λ z. absurd (omega (arith, small));
-          flag = λ z _. absurd (omega (arith, bit-below n, bit-below p, bit-below (turns c)));
+          flag = λ z _. absurd (omega (arith, bit-below n, bit-below p, bit-below (flips c)));
         })
 
 flagged : (s : ℕ) → Flagged (entryOf s)

@@ -6,7 +6,7 @@ use mathlib.Core.Option.{some, Option·map}
 use lib.ListN.{getD}
 use Rattle.ground.specs.Answer.{refused, given}
 use Rattle.ground.specs.Search.{isSome}
-use Rattle.ground.specs.Inside.Answer.{OneToOne}
+use Rattle.ground.specs.Inside.Answer.{Injective}
 use Rattle.symbol.specs.declared.disparity.Disparity.{Disparity}
 use Rattle.symbol.specs.declared.disparity.Disparity.the-variants.{Negative, Positive}
 use Rattle.symbol.specs.Character.{characterOf}
@@ -37,5 +37,5 @@ pub record DecoderLaws : Type 0 where
   pub entryNumber : (d : Disparity) (s c : ℕ) → charOf d s ≡ some c → entryOf s % 512 ≡ c
   pub entryTurns : (d : Disparity) (s c : ℕ) → charOf d s ≡ some c → entryAfter d (entryOf s) ≡ afterOf d c
   -- the paper's number and values tell any two answers of a call apart, so that a promise about them fixes the answer
-  pub decodedTold : OneToOne paperDecoded
-  pub meaningTold : OneToOne paperMeaning
+  pub decodedTold : Injective paperDecoded
+  pub meaningTold : Injective paperMeaning

@@ -11,7 +11,7 @@ use lib.Seq.{take-nil, take-take}
 use borrow.Author.Tests.{ltb-true, ltb-false}
 use Rattle.ground.proofs.Cases.{on-test}
 use Rattle.delivery.specs.Delivery.{Found, either, deliver}
-use Rattle.delivery.specs.Marked.{AllBehind}
+use Rattle.delivery.specs.Marked.{AllAfter}
 use Rattle.delivery.specs.Inside.Marked.{Whole}
 use Rattle.delivery.proofs.Steps.{too-few}
 
@@ -20,15 +20,15 @@ module _ {A : Type 0} (n : ℕ) (read : List ℕ → Option A) (whole : Whole n 
   on = deliver n read
 
   -- what is delivered from place p on ends at p + n or later
-  late : (e p skip : ℕ) (l : List ℕ) → e < p + n → AllBehind n e (on p skip l)
+  late : (e p skip : ℕ) (l : List ℕ) → e < p + n → AllAfter n e (on p skip l)
   unfolding deliver
   late e p skip [] h = tt
   late e p (suc skip) (x ∷ l) h = late e (suc p) skip l (omega arith)
   late e p zero (x ∷ l) h =
       go (read (take n (x ∷ l))) (late e (suc p) zero l (omega arith)) (late e (suc p) (n - 1) l (omega arith))
     where
-      go : (o : Option A) → AllBehind n e (on (suc p) 0 l) → AllBehind n e (on (suc p) (n - 1) l)
-          → AllBehind n e (either p o (on (suc p) 0 l) (on (suc p) (n - 1) l))
+      go : (o : Option A) → AllAfter n e (on (suc p) 0 l) → AllAfter n e (on (suc p) (n - 1) l)
+          → AllAfter n e (either p o (on (suc p) 0 l) (on (suc p) (n - 1) l))
       go none next behind = next
       go (some a) next behind = (h, behind)
 
@@ -43,7 +43,7 @@ module _ {A : Type 0} (n : ℕ) (read : List ℕ → Option A) (whole : Whole n 
   -- what a delivery has beyond that of the first m symbols
   abbrev Beyond : ℕ → ℕ → ℕ → List ℕ → Type 0
   Beyond p skip m l =
-      (rest : List (Found A)) × (on p skip l ≡ on p skip (take m l) ++ rest) × AllBehind n (p + m) rest
+      (rest : List (Found A)) × (on p skip l ≡ on p skip (take m l) ++ rest) × AllAfter n (p + m) rest
 
   cut-on : (m p skip : ℕ) (l : List ℕ) → Beyond p skip m l
   unfolding deliver
@@ -75,5 +75,5 @@ module _ {A : Type 0} (n : ℕ) (read : List ℕ → Option A) (whole : Whole n 
 
   -- the law: of the first m symbols the same is delivered, in the same order, as long as it ends within them
   pub cut : (m p : ℕ) (l : List ℕ)
-      → (rest : List (Found A)) × (deliver n read p 0 l ≡ deliver n read p 0 (take m l) ++ rest) × AllBehind n (p + m) rest
+      → (rest : List (Found A)) × (deliver n read p 0 l ≡ deliver n read p 0 (take m l) ++ rest) × AllAfter n (p + m) rest
   cut m p l = cut-on m p 0 l

@@ -14,7 +14,7 @@ use borrow.Author.Tests.{ltb-true, ltb-false}
 use Rattle.ground.specs.Search.{firstFrom, isSome}
 use Rattle.ground.proofs.Cases.{on-test}
 use Rattle.ground.proofs.Searches.{hit-from, miss-from, is-hit-from, is-miss-from}
-use Rattle.delivery.specs.Delivery.{Found, followed, windowAt, acceptsAt, findFrom, readFrom, nextFrom, foundFrom, deliver, deliveryFrom}
+use Rattle.delivery.specs.Delivery.{Found, followed, windowAt, acceptsAt, findBy, readFrom, nextBy, foundFrom, deliver, deliverBy}
 use Rattle.delivery.specs.Inside.Marked.{Whole}
 use Rattle.delivery.proofs.Steps.{too-few, found, passed-over}
 
@@ -44,24 +44,24 @@ module _ {A : Type 0} (n : ℕ) (read : List ℕ → Option A) (whole : Whole n 
   module _ (p : ℕ) where
     -- the answer is q if and only if q is at or after p, the reader accepts there, and at no place between
     pub found-at : (q : ℕ) → p ≤ q → acceptsAt n read r q ≡ true → ((j : ℕ) → p ≤ j → j < q → acceptsAt n read r j ≡ false)
-        → findFrom n read r p ≡ some q
-    unfolding findFrom
+        → findBy n read r p ≡ some q
+    unfolding findBy
     found-at q h t before =
         is-hit-from (acceptsAt n read r) (length r - p) p q
         (record { from = h; below = omega (arith, stands-whole q t, whole .least); holds = t; least = before })
 
-    pub found-told : (q : ℕ) → findFrom n read r p ≡ some q
+    pub found-told : (q : ℕ) → findBy n read r p ≡ some q
         → (p ≤ q) × (acceptsAt n read r q ≡ true) × ((j : ℕ) → p ≤ j → j < q → acceptsAt n read r j ≡ false)
-    unfolding findFrom
+    unfolding findBy
     found-told q e = let l = hit-from (acceptsAt n read r) (length r - p) p q e in (l .from, l .holds, l .least)
 
     -- it is none if and only if the reader accepts nowhere from p on
-    pub found-nowhere : ((j : ℕ) → p ≤ j → acceptsAt n read r j ≡ false) → findFrom n read r p ≡ none
-    unfolding findFrom
+    pub found-nowhere : ((j : ℕ) → p ≤ j → acceptsAt n read r j ≡ false) → findBy n read r p ≡ none
+    unfolding findBy
     found-nowhere never = is-miss-from (acceptsAt n read r) (length r - p) p (record { never = λ j h _. never j h })
 
-    pub nowhere-told : findFrom n read r p ≡ none → (j : ℕ) → p ≤ j → acceptsAt n read r j ≡ false
-    unfolding findFrom
+    pub nowhere-told : findBy n read r p ≡ none → (j : ℕ) → p ≤ j → acceptsAt n read r j ≡ false
+    unfolding findBy
     nowhere-told e j h =
         on-test (ltb j (length r))
         (λ s. miss-from (acceptsAt n read r) (length r - p) p e .never j h (omega (arith, ltb-true j (length r) s)))
@@ -69,16 +69,16 @@ module _ {A : Type 0} (n : ℕ) (read : List ℕ → Option A) (whole : Whole n 
 
   -- what follows from place p on
   abbrev behind : Found A → List (Found A)
-  behind e = deliveryFrom n read r (e .place + n)
+  behind e = deliverBy n read r (e .place + n)
 
   -- at the end there is nothing
-  pub at-the-end : (p : ℕ) → length r ≤ p → deliveryFrom n read r p ≡ []
-  unfolding deliveryFrom deliver
+  pub at-the-end : (p : ℕ) → length r ≤ p → deliverBy n read r p ≡ []
+  unfolding deliverBy deliver
   at-the-end p h = rw (drop-of-length-le r h)
 
   searched : (m p : ℕ) → m ≡ length r - p
-      → deliveryFrom n read r p ≡ followed (readFrom n read r (firstFrom p m (acceptsAt n read r))) behind
-  unfolding deliveryFrom firstFrom
+      → deliverBy n read r p ≡ followed (readFrom n read r (firstFrom p m (acceptsAt n read r))) behind
+  unfolding deliverBy firstFrom
   searched zero p e = at-the-end p (omega arith)
   searched (suc m) p e = go (read (windowAt n read r p)) refl (searched m (suc p) (omega arith))
     where
@@ -86,8 +86,8 @@ module _ {A : Type 0} (n : ℕ) (read : List ℕ → Option A) (whole : Whole n 
       here = drop-cons r p 0 (omega arith)
 
       go : (o : Option A) → read (windowAt n read r p) ≡ o
-          → deliveryFrom n read r (suc p) ≡ followed (readFrom n read r (firstFrom (suc p) m (acceptsAt n read r))) behind
-          → deliveryFrom n read r p ≡ followed (readFrom n read r (firstFrom p (suc m) (acceptsAt n read r))) behind
+          → deliverBy n read r (suc p) ≡ followed (readFrom n read r (firstFrom (suc p) m (acceptsAt n read r))) behind
+          → deliverBy n read r p ≡ followed (readFrom n read r (firstFrom p (suc m) (acceptsAt n read r))) behind
       go none e next =
           rw e
           (ap (deliver n read p 0) here
@@ -99,20 +99,20 @@ module _ {A : Type 0} (n : ℕ) (read : List ℕ → Option A) (whole : Whole n 
           ∙ ap (λ (l : List ℕ). record { place = p; reading = a } ∷ deliver n read (p + n) 0 l) (drop-drop n p r))
 
   -- the next span, and then delivery from its end on
-  pub next-then : (p : ℕ) → deliveryFrom n read r p ≡ followed (nextFrom n read r p) (λ e. deliveryFrom n read r (e .place + n))
-  unfolding nextFrom findFrom
+  pub next-then : (p : ℕ) → deliverBy n read r p ≡ followed (nextBy n read r p) (λ e. deliverBy n read r (e .place + n))
+  unfolding nextBy findBy
   next-then p = searched (length r - p) p refl
 
   -- with as many calls as there are symbols left, or more, literally that is delivery
-  pub literally : (k p : ℕ) → length r ≤ p + k → foundFrom n read k r p ≡ deliveryFrom n read r p
-  unfolding foundFrom nextFrom
+  pub literally : (k p : ℕ) → length r ≤ p + k → foundFrom n read k r p ≡ deliverBy n read r p
+  unfolding foundFrom nextBy
   literally zero p h = sym (at-the-end p (omega arith))
-  literally (suc k) p h = go (findFrom n read r p) refl (λ q l. literally k (q + n) l) ∙ sym (next-then p)
+  literally (suc k) p h = go (findBy n read r p) refl (λ q l. literally k (q + n) l) ∙ sym (next-then p)
     where
-      go : (o : Option ℕ) → findFrom n read r p ≡ o
-          → ((q : ℕ) → length r ≤ q + n + k → foundFrom n read k r (q + n) ≡ deliveryFrom n read r (q + n))
-          → followed (readFrom n read r (findFrom n read r p)) (λ e. foundFrom n read k r (e .place + n))
-          ≡ followed (readFrom n read r (findFrom n read r p)) (λ e. deliveryFrom n read r (e .place + n))
+      go : (o : Option ℕ) → findBy n read r p ≡ o
+          → ((q : ℕ) → length r ≤ q + n + k → foundFrom n read k r (q + n) ≡ deliverBy n read r (q + n))
+          → followed (readFrom n read r (findBy n read r p)) (λ e. foundFrom n read k r (e .place + n))
+          ≡ followed (readFrom n read r (findBy n read r p)) (λ e. deliverBy n read r (e .place + n))
       go none e more = rw e
       go (some q) e more =
           let at = found-told p q e in

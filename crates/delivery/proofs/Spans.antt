@@ -8,7 +8,7 @@ use Prim.Native.Nat.{ℕ, suc, _+_, _*_, _≤_}
 use native.Mathlib.Omega.{arith}
 use lib.ListN.{length, take}
 use lib.Seq.{take-at, drop-at, take-all}
-use Rattle.delivery.specs.Delivery.{Found, deliver, strung, placedFrom, Each}
+use Rattle.delivery.specs.Delivery.{Found, deliver, concatenated, placedFrom, Each}
 use Rattle.delivery.specs.Inside.Marked.{Whole, Marked}
 use Rattle.delivery.proofs.Steps.{found, of-nothing, passed-over}
 use Rattle.delivery.proofs.Splitting.{split}
@@ -29,14 +29,14 @@ module _ {A : Type 0} (n : ℕ) (read : List ℕ → Option A) where
     module _ {S : Type 0} (symbols : S → List ℕ) (reading : S → A) where
       -- windows that are read, and then whatever stands behind them
       pub then-rest : (xs : List S) → Each (ReadAs symbols reading) xs → (p : ℕ) (t : List ℕ)
-          → deliver n read p 0 (strung symbols xs ++ t)
+          → deliver n read p 0 (concatenated symbols xs ++ t)
           ≡ placedFrom n reading p xs ++ deliver n read (p + n * length xs) 0 t
-      unfolding strung placedFrom
+      unfolding concatenated placedFrom
       then-rest [] each p t = let q : p ≡ p + n * 0 = omega arith in ap (λ (k : ℕ). deliver n read k 0 t) q
       then-rest (x ∷ xs) (is, each) p t =
           let long = whole .long (symbols x) (reading x) is in
-          let tail = strung symbols xs ++ t in
-          let joined : strung symbols (x ∷ xs) ++ t ≡ symbols x ++ tail = append-assoc (symbols x) (strung symbols xs) t in
+          let tail = concatenated symbols xs ++ t in
+          let joined : concatenated symbols (x ∷ xs) ++ t ≡ symbols x ++ tail = append-assoc (symbols x) (concatenated symbols xs) t in
           let here : read (take n (symbols x ++ tail)) ≡ some (reading x) = ap read (take-at (symbols x) tail n long) ∙ is in
           let q : p + n + n * length xs ≡ p + n * suc (length xs) = omega arith in
           ap (deliver n read p 0) joined
@@ -48,9 +48,9 @@ module _ {A : Type 0} (n : ℕ) (read : List ℕ → Option A) where
 
       -- windows that are read alone: exactly those are delivered
       pub exactly : (xs : List S) → Each (ReadAs symbols reading) xs → (p : ℕ)
-          → deliver n read p 0 (strung symbols xs) ≡ placedFrom n reading p xs
+          → deliver n read p 0 (concatenated symbols xs) ≡ placedFrom n reading p xs
       exactly xs each p =
-          ap (deliver n read p 0) (sym (append-nil (strung symbols xs)))
+          ap (deliver n read p 0) (sym (append-nil (concatenated symbols xs)))
           ∙ then-rest xs each p []
           ∙ ap (λ (l : List (Found A)). placedFrom n reading p xs ++ l) (of-nothing n read (p + n * length xs) 0)
           ∙ append-nil (placedFrom n reading p xs)
@@ -58,20 +58,20 @@ module _ {A : Type 0} (n : ℕ) (read : List ℕ → Option A) where
   module _ (mark : ℕ → Bool) (m : Marked n read mark) {S : Type 0} (symbols : S → List ℕ) (reading : S → A) where
     -- whatever stands before windows that are read delivers what it delivers by itself
     before-spans : (d : List ℕ) (xs : List S) → Each (ReadAs symbols reading) xs → (p : ℕ)
-        → deliver n read p 0 (d ++ strung symbols xs) ≡ deliver n read p 0 d ++ placedFrom n reading (p + length d) xs
-    unfolding strung placedFrom
+        → deliver n read p 0 (d ++ concatenated symbols xs) ≡ deliver n read p 0 d ++ placedFrom n reading (p + length d) xs
+    unfolding concatenated placedFrom
     before-spans d [] each p =
         ap (deliver n read p 0) (append-nil d) ∙ sym (append-nil (deliver n read p 0 d))
     before-spans d (x ∷ xs) (is, each) p =
-        split n read mark m (symbols x) (strung symbols xs) (reading x) is d p
+        split n read mark m (symbols x) (concatenated symbols xs) (reading x) is d p
         ∙ ap (λ (l : List (Found A)). deliver n read p 0 d ++ (record { place = p + length d; reading = reading x } ∷ l))
         (exactly (m .whole) symbols reading xs each (p + length d + n))
 
     -- any symbols in the place of one window: those before, what these deliver by themselves, those behind
     pub in-place : (xs ys : List S) → Each (ReadAs symbols reading) xs → Each (ReadAs symbols reading) ys → (d : List ℕ) (p : ℕ)
-        → deliver n read p 0 (strung symbols xs ++ (d ++ strung symbols ys))
+        → deliver n read p 0 (concatenated symbols xs ++ (d ++ concatenated symbols ys))
         ≡ placedFrom n reading p xs
         ++ (deliver n read (p + n * length xs) 0 d ++ placedFrom n reading (p + n * length xs + length d) ys)
     in-place xs ys before behind d p =
-        then-rest (m .whole) symbols reading xs before p (d ++ strung symbols ys)
+        then-rest (m .whole) symbols reading xs before p (d ++ concatenated symbols ys)
         ∙ ap (λ (l : List (Found A)). placedFrom n reading p xs ++ l) (before-spans d ys behind (p + n * length xs))

@@ -8,7 +8,7 @@ use native.Mathlib.Nat.{add-zero, add-suc}
 use native.Mathlib.Omega.{arith}
 use lib.ListN.{length, take, drop, length-drop}
 use lib.Seq.{take-nil}
-use Rattle.delivery.specs.Delivery.{Found, either, deliver, deliveryFrom, movedBy}
+use Rattle.delivery.specs.Delivery.{Found, either, deliver, deliverBy, movedBy}
 use Rattle.delivery.specs.Inside.Marked.{Whole}
 
 -- nothing is read of too few symbols
@@ -82,6 +82,6 @@ module _ {A : Type 0} (n : ℕ) (read : List ℕ → Option A) where
       go none on behind = omega (arith, on)
       go (some a) on behind = omega (arith, behind)
 
-  pub few : (r : List ℕ) (p : ℕ) → length (deliveryFrom n read r p) ≤ length r - p
-  unfolding deliveryFrom
+  pub few : (r : List ℕ) (p : ℕ) → length (deliverBy n read r p) ≤ length r - p
+  unfolding deliverBy
   few r p = rw (← length-drop p r) (few-of p 0 (drop p r))

@@ -38,8 +38,8 @@ module _ {A : Type 0} (n : ℕ) (read : List ℕ → Option A) where
   acceptsAt r q = isSome (read (windowAt r q))
 
   -- the first place at or after p where it would
-  unfoldable pub findFrom : List ℕ → ℕ → Option ℕ
-  findFrom r p = firstFrom p (length r - p) (acceptsAt r)
+  unfoldable pub findBy : List ℕ → ℕ → Option ℕ
+  findBy r p = firstFrom p (length r - p) (acceptsAt r)
 
   -- what is read there
   abbrev pub readFrom : List ℕ → Option ℕ → Option (Found A)
@@ -47,13 +47,13 @@ module _ {A : Type 0} (n : ℕ) (read : List ℕ → Option A) where
   readFrom r (some q) = foundAt q (read (windowAt r q))
 
   -- the next span: find from p, and read
-  unfoldable pub nextFrom : List ℕ → ℕ → Option (Found A)
-  nextFrom r p = readFrom r (findFrom r p)
+  unfoldable pub nextBy : List ℕ → ℕ → Option (Found A)
+  nextBy r p = readFrom r (findBy r p)
 
   -- delivery in document 01's words: find from p, read, find again from the end of that span, until none; or until k were found
   unfoldable pub foundFrom : ℕ → List ℕ → ℕ → List (Found A)
   foundFrom zero r p = []
-  foundFrom (suc k) r p = followed (nextFrom r p) (λ e. foundFrom k r (e .place + n))
+  foundFrom (suc k) r p = followed (nextBy r p) (λ e. foundFrom k r (e .place + n))
 
   -- the same without a count, symbol by symbol: what stands from place p on, of which so many symbols belong to the window found last
   unfoldable pub deliver : ℕ → ℕ → List ℕ → List (Found A)
@@ -63,8 +63,8 @@ module _ {A : Type 0} (n : ℕ) (read : List ℕ → Option A) where
       either p (read (take n (x ∷ rest))) (deliver (suc p) zero rest) (deliver (suc p) (n - 1) rest)
 
   -- delivery from place p on (that it is what `foundFrom` says: law `literally`)
-  unfoldable pub deliveryFrom : List ℕ → ℕ → List (Found A)
-  deliveryFrom r p = deliver p 0 (drop p r)
+  unfoldable pub deliverBy : List ℕ → ℕ → List (Found A)
+  deliverBy r p = deliver p 0 (drop p r)
 
 -- what is delivered, in a recording that has so many symbols more before it
 unfoldable pub movedBy : {A : Type 0} → ℕ → List (Found A) → List (Found A)
@@ -74,9 +74,9 @@ movedBy k (e ∷ more) = record { place = k + e .place; reading = e .reading } �
 -- ---- windows one after the other: each of a list stands for symbols and has a reading
 module _ {S : Type 0} where
   -- their symbols
-  unfoldable pub strung : (S → List ℕ) → List S → List ℕ
-  strung symbols [] = []
-  strung symbols (x ∷ more) = symbols x ++ strung symbols more
+  unfoldable pub concatenated : (S → List ℕ) → List S → List ℕ
+  concatenated symbols [] = []
+  concatenated symbols (x ∷ more) = symbols x ++ concatenated symbols more
 
   -- their readings, at places n apart, the first at p
   unfoldable pub placedFrom : {A : Type 0} → ℕ → (S → A) → ℕ → List S → List (Found A)

@@ -6,6 +6,6 @@ use mathlib.Core.List.{List, [], _∷_}
 use Rattle.delivery.specs.Delivery.{Found}
 
 -- every window of a delivery ends behind place e
-abbrev pub AllBehind : {A : Type 0} → ℕ → ℕ → List (Found A) → Type 0
-AllBehind n e [] = Unit
-AllBehind n e (x ∷ xs) = (e < x .place + n) × AllBehind n e xs
+abbrev pub AllAfter : {A : Type 0} → ℕ → ℕ → List (Found A) → Type 0
+AllAfter n e [] = Unit
+AllAfter n e (x ∷ xs) = (e < x .place + n) × AllAfter n e xs

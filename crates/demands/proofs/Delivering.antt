@@ -14,8 +14,8 @@ use Rattle.ground.specs.Bit.{inverted}
 use Rattle.span.specs.declared.format.Format.{Format}
 use Rattle.span.specs.Format.{isKnown, shapeOf, samplesIn, symbolsIn}
 use Rattle.read.proofs.Windows.{read-is}
-use Rattle.delivery.specs.Delivery.{Found, deliver, deliveryFrom as deliverBy, movedBy, strung, placedFrom, Each}
-use Rattle.delivery.specs.Marked.{AllBehind}
+use Rattle.delivery.specs.Delivery.{Found, deliver, deliverBy as deliverBy, movedBy, concatenated, placedFrom, Each}
+use Rattle.delivery.specs.Marked.{AllAfter}
 use Rattle.delivery.proofs.Cutting.{cut}
 use Rattle.delivery.proofs.Finding.{told}
 use Rattle.delivery.proofs.Spans.{ReadAs, nothing-of, exactly, in-place}
@@ -33,7 +33,7 @@ use borrow.Author.Tests.{leb-true, eqb-true}
 use Rattle.ground.proofs.Answers.{given-is}
 use Rattle.read.specs.Inside.Window.{IsWindow}
 use Rattle.recording.specs.Inside.Look.{isComma}
-use Rattle.demands.specs.Form.{Sending, WasSent, symbolsOf, readingOf, spansOf, stepsFrom}
+use Rattle.demands.specs.Form.{Sending, WasSent, sentSymbols, readingOf, spansOf, stepsFrom}
 use Rattle.stepping.specs.Steps.{spanStep, endStep, lastRows}
 use Rattle.stepping.proofs.Delivering.{steps-deliver}
 use Rattle.recording.proofs.Nexts.{next-is}
@@ -68,35 +68,35 @@ module _ (f : Format) (known : isKnown f ≡ true) where
   module _ (x : Sending) (sent : WasSent f x) where
     -- one anywhere
     pub anywhere : (before behind : List ℕ)
-        → deliveryFrom f (before ++ (symbolsOf f x ++ behind)) 0
+        → deliveryFrom f (before ++ (sentSymbols f x ++ behind)) 0
         ≡ deliveryFrom f before 0
         ++ (record { place = length before; reading = readingOf f x } ∷ movedBy (length before + n) (deliveryFrom f behind 0))
     unfolding deliverBy
     anywhere before behind =
-        split n (reading f) isComma (span-marked f known) (symbolsOf f x) behind (readingOf f x) (sent-read f x sent) before 0
+        split n (reading f) isComma (span-marked f known) (sentSymbols f x) behind (readingOf f x) (sent-read f x sent) before 0
         ∙ rw (zero-add (length before))
         (ap (λ (l : List (Found Reading)). deliver n (reading f) 0 0 before ++ (record { place = length before; reading = readingOf f x } ∷ l))
         (ap (λ (k : ℕ). deliver n (reading f) k 0 behind) (sym (add-zero (length before + n)))
         ∙ moved n (reading f) (length before + n) 0 0 behind))
 
   -- each of a list is read as it was sent
-  each-read : (xs : List Sending) → Each (WasSent f) xs → Each (ReadAs n (reading f) (symbolsOf f) (readingOf f)) xs
+  each-read : (xs : List Sending) → Each (WasSent f) xs → Each (ReadAs n (reading f) (sentSymbols f) (readingOf f)) xs
   each-read [] each = tt
   each-read (x ∷ xs) (sent, each) = (sent-read f x sent, each-read xs each)
 
   -- sent spans alone
-  pub alone : (xs : List Sending) → Each (WasSent f) xs → deliveryFrom f (strung (symbolsOf f) xs) 0 ≡ placedFrom n (readingOf f) 0 xs
+  pub alone : (xs : List Sending) → Each (WasSent f) xs → deliveryFrom f (concatenated (sentSymbols f) xs) 0 ≡ placedFrom n (readingOf f) 0 xs
   unfolding deliverBy
-  alone xs each = exactly n (reading f) (span-whole f known) (symbolsOf f) (readingOf f) xs (each-read xs each) 0
+  alone xs each = exactly n (reading f) (span-whole f known) (sentSymbols f) (readingOf f) xs (each-read xs each) 0
 
   -- any symbols in the place of one of them
   pub damaged : (xs ys : List Sending) (d : List ℕ) → Each (WasSent f) xs → Each (WasSent f) ys
-      → deliveryFrom f (strung (symbolsOf f) xs ++ (d ++ strung (symbolsOf f) ys)) 0
+      → deliveryFrom f (concatenated (sentSymbols f) xs ++ (d ++ concatenated (sentSymbols f) ys)) 0
       ≡ placedFrom n (readingOf f) 0 xs
       ++ (movedBy (n * length xs) (deliveryFrom f d 0) ++ placedFrom n (readingOf f) (n * length xs + length d) ys)
   unfolding deliverBy
   damaged xs ys d before behind =
-      in-place n (reading f) isComma (span-marked f known) (symbolsOf f) (readingOf f) xs ys (each-read xs before) (each-read ys behind) d 0
+      in-place n (reading f) isComma (span-marked f known) (sentSymbols f) (readingOf f) xs ys (each-read xs before) (each-read ys behind) d 0
       ∙ rw (zero-add (n * length xs))
       (ap (λ (l : List (Found Reading)). placedFrom n (readingOf f) 0 xs ++ (l ++ placedFrom n (readingOf f) (n * length xs + length d) ys))
       (ap (λ (k : ℕ). deliver n (reading f) k 0 d) (sym (add-zero (n * length xs))) ∙ moved n (reading f) (n * length xs) 0 0 d))
@@ -108,31 +108,31 @@ module _ (f : Format) (known : isKnown f ≡ true) where
 
   -- so what stands in the place of one of them and delivers nothing costs it alone
   alone-lost : (xs ys : List Sending) (d : List ℕ) → Each (WasSent f) xs → Each (WasSent f) ys → length d ≤ n → reading f d ≡ none
-      → deliveryFrom f (strung (symbolsOf f) xs ++ (d ++ strung (symbolsOf f) ys)) 0
+      → deliveryFrom f (concatenated (sentSymbols f) xs ++ (d ++ concatenated (sentSymbols f) ys)) 0
       ≡ placedFrom n (readingOf f) 0 xs ++ placedFrom n (readingOf f) (n * length xs + length d) ys
   unfolding movedBy
   alone-lost xs ys d before behind h e = damaged xs ys d before behind ∙ rw (nothing d h e)
 
   -- fewer symbols than a span has
   pub fewer : (xs ys : List Sending) (d : List ℕ) → Each (WasSent f) xs → Each (WasSent f) ys → length d < n
-      → deliveryFrom f (strung (symbolsOf f) xs ++ (d ++ strung (symbolsOf f) ys)) 0
+      → deliveryFrom f (concatenated (sentSymbols f) xs ++ (d ++ concatenated (sentSymbols f) ys)) 0
       ≡ placedFrom n (readingOf f) 0 xs ++ placedFrom n (readingOf f) (n * length xs + length d) ys
   fewer xs ys d before behind h =
       alone-lost xs ys d before behind (omega arith) (too-few n (reading f) (span-whole f known) d h)
 
   -- one inverted bit
   pub one-inverted : (xs ys : List Sending) (x : Sending) (i k : ℕ) → Each (WasSent f) xs → WasSent f x → Each (WasSent f) ys → i < n → k < 10
-      → let harmed = set (symbolsOf f x) i (inverted k (getD (symbolsOf f x) i 0)) in
-      deliveryFrom f (strung (symbolsOf f) xs ++ (harmed ++ strung (symbolsOf f) ys)) 0
+      → let harmed = set (sentSymbols f x) i (inverted k (getD (sentSymbols f x) i 0)) in
+      deliveryFrom f (concatenated (sentSymbols f) xs ++ (harmed ++ concatenated (sentSymbols f) ys)) 0
       ≡ placedFrom n (readingOf f) 0 xs ++ placedFrom n (readingOf f) (n * length xs + n) ys
   one-inverted xs ys x i k before sent behind h l =
-      let harmed = set (symbolsOf f x) i (inverted k (getD (symbolsOf f x) i 0)) in
+      let harmed = set (sentSymbols f x) i (inverted k (getD (sentSymbols f x) i 0)) in
       let long = harmed-long f x sent i k h l in
       alone-lost xs ys harmed before behind (omega (arith, long)) (harmed-not-read f x sent i k h l) ∙ rw long
 
   -- the beginning of a recording
   pub beginning : (r : List ℕ) (m : ℕ)
-      → (rest : List (Found Reading)) × (deliveryFrom f r 0 ≡ deliveryFrom f (take m r) 0 ++ rest) × AllBehind n m rest
+      → (rest : List (Found Reading)) × (deliveryFrom f r 0 ≡ deliveryFrom f (take m r) 0 ++ rest) × AllAfter n m rest
   unfolding deliverBy
   beginning r m =
       let (rest, e, behind) = cut n (reading f) (span-whole f known) m 0 r in

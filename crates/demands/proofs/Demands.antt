@@ -25,7 +25,7 @@ use Rattle.span.specs.declared.format.Format.{Format}
 use Rattle.span.specs.Content.{contentOf}
 use Rattle.span.specs.Format.{isKnown, shapeOf, streams, symbolsIn}
 use Rattle.span.specs.Span.{spanSymbols, spanAfter}
-use Rattle.span.specs.Stream.{Asked, picture}
+use Rattle.span.specs.Stream.{Request, picture}
 use Rattle.span.specs.Numbers.{IsFormat, Symbols}
 use Rattle.window.specs.Encoded.{AreContent}
 use Rattle.window.specs.Read.{pictureOf, readOf}
@@ -40,7 +40,7 @@ use Rattle.recording.specs.Recording.{accepts, limit, Reading, reading, findFro
 use Rattle.recording.proofs.Calling.{finds}
 use Rattle.recording.proofs.Readings.{span-whole}
 use Rattle.span.specs.Blanking.{fillOf, blankRow}
-use Rattle.send.specs.Send.{asked, refusals, sendOf, sentBuffer}
+use Rattle.send.specs.Send.{request, refusals, sendOf, sentBuffer}
 use Rattle.send.proofs.GoodCalls.{GoodCall, good-is-sent}
 use Rattle.demands.specs.Form.{Sending, WasSent, readingOf, Delivered}
 use Rattle.demands.specs.Demands.{Demand1, Delivers, Demand2, Demand3, Beyond}
@@ -98,7 +98,7 @@ unfolding w
 which u p q = omega arith
 
 -- a call that is answered has sent the span
-as-asked : (d e : Disparity) (f : Format) (a : Asked) (entry : List ℕ) → sendOf d f a (length entry) ≡ given e
+as-asked : (d e : Disparity) (f : Format) (a : Request) (entry : List ℕ) → sendOf d f a (length entry) ≡ given e
     → (sentBuffer d f a entry ≡ spanSymbols d f a) × (e ≡ spanAfter d f a)
 as-asked d e f a entry sent = (sym (when-given entry (spanSymbols d f a) sent), sym (given-is (refusals f a (length entry)) (spanAfter d f a) e sent))
 
@@ -111,8 +111,8 @@ by-calls f known r short list e rows room k h =
 -- a good call of a line of the picture: it is sent, and delivered wherever it stands
 module _ (f : Format) (known : IsFormat f) (l : ℕ) (content : Content) (samples : List ℕ) (bytes : AreContent (contentOf f content))
     (good : (room : ℕ) → Symbols f room → GoodCall (f .number) (f .depth) (l + 41) samples room) where
-  abbrev a : Asked
-  a = asked (l + 41) content samples
+  abbrev a : Request
+  a = request (l + 41) content samples
 
   is-sent : (d : Disparity) (entry : List ℕ) → Symbols f (length entry) → sendOf d f a (length entry) ≡ given (spanAfter d f a)
   is-sent d entry s = good-is-sent d f a (length entry) (good (length entry) s)
@@ -121,7 +121,7 @@ module _ (f : Format) (known : IsFormat f) (l : ℕ) (content : Content) (sample
   delivers = record {
     sent = is-sent;
     found = λ d before entry behind s short.
-        let x : Sending = record { before = d; asked = a } in
+        let x : Sending = record { before = d; request = a } in
         let sent : WasSent f x = record { room = length entry; after = spanAfter d f a; sent = is-sent d entry s; content = bytes } in
         let put = as-asked d (spanAfter d f a) f a entry (is-sent d entry s) .0 in
         let r = before ++ (sentBuffer d f a entry ++ behind) in

@@ -21,29 +21,29 @@ use Rattle.picture.specs.Division.{h, w, lineFrom, sampleFrom}
 use Rattle.picture.specs.Place.{placedOf}
 use Rattle.dividing.specs.Row.{divided, joined, streamIn}
 use Rattle.picture.proofs.Places.{found}
-use Rattle.dividing.specs.Inside.Row.{rowBy}
+use Rattle.dividing.specs.Inside.Row.{rowWith}
 use Rattle.dividing.proofs.Rows.{length-divided, sample-divided, length-joined, sample-joined}
 use Rattle.span.specs.declared.content.Content.{Content}
 use Rattle.span.specs.declared.format.Format.{Format}
 use Rattle.span.specs.Format.{numbered, shapeOf, streams, samplesIn}
 use Rattle.span.specs.Image.{imageOf}
 use Rattle.span.specs.Sample.{sampleWord}
-use Rattle.span.specs.Stream.{Asked, picture}
+use Rattle.span.specs.Stream.{Request, picture}
 use Rattle.span.specs.Numbers.{IsFormat, Symbols}
-use Rattle.send.specs.Send.{asked}
+use Rattle.send.specs.Send.{request}
 use Rattle.send.proofs.GoodCalls.{GoodCall}
 use Rattle.demands.specs.Form.{wordsFor}
 use Rattle.demands.specs.Demands.{IsRow}
 
 -- ---- one stream of all
 
-length-picture : (f : Format) (a : Asked) (t : ℕ) → length (picture f a t) ≡ 1920
+length-picture : (f : Format) (a : Request) (t : ℕ) → length (picture f a t) ≡ 1920
 unfolding picture
 length-picture f a t = length-table 1920 (λ j. sampleWord f (a .line) t (getD (a .samples) (1920 * t + j) 0))
 
 -- the part of all words that stands in the place of stream t is the words of stream t
 pub sampled :
-    (f : Format) (a : Asked) (t : ℕ)
+    (f : Format) (a : Request) (t : ℕ)
     → t < streams (shapeOf f)
     → streamIn (upto (streams (shapeOf f)) (picture f a)) t ≡ picture f a t
 sampled f a t h =
@@ -61,7 +61,7 @@ sampled f a t h =
 
 -- ---- two streams joined
 
-module _ (f : Format) (a : Asked) (whole : List ℕ) (t : ℕ) (known : IsFormat f) (active : isActive (a .line) ≡ true) (r : IsRow f whole) where
+module _ (f : Format) (a : Request) (whole : List ℕ) (t : ℕ) (known : IsFormat f) (active : isActive (a .line) ≡ true) (r : IsRow f whole) where
   abbrev wordOf : ℕ → ℕ
   wordOf i = cond (eqb (f .depth) 10) (4 * getD whole i 0) (getD whole i 0)
 
@@ -76,7 +76,7 @@ module _ (f : Format) (a : Asked) (whole : List ℕ) (t : ℕ) (known : IsFormat
       simp (active, ne-eqb (f .depth) 10 other) (omega arith))
       (known .2)
 
-  -- and it stands where the sample was asked to be sent
+  -- and it stands where the sample was request to be sent
   carried : (s j i : ℕ) → j < 1920 → i < 3840 → getD (a .samples) (1920 * s + j) 0 ≡ getD whole i 0 → getD (picture f a s) j 0 ≡ wordOf i
   unfolding picture
   carried s j i p h e =
@@ -100,7 +100,7 @@ module _ (f : Format) (a : Asked) (whole : List ℕ) (t : ℕ) (known : IsFormat
       SameAt : ℕ → Type 0
       SameAt i = getD both i 0 ≡ wordOf i
 
-      by : (j w : ℕ) → j < 1920 → w < 2 → getD (rowBy w (picture f a t) (picture f a (t + 1))) j 0 ≡ wordOf (2 * j + w)
+      by : (j w : ℕ) → j < 1920 → w < 2 → getD (rowWith w (picture f a t) (picture f a (t + 1))) j 0 ≡ wordOf (2 * j + w)
       by j zero p q = carried t j (2 * j + 0) p (omega arith) (even j p ∙ ap (λ (i : ℕ). getD whole i 0) (omega arith))
       by j (suc zero) p q = carried (t + 1) j (2 * j + 1) p (omega arith) (odd j p)
       by j (suc (suc w)) p q = absurd (omega arith)
@@ -182,10 +182,10 @@ module _ {f : Format} {h : ℕ} {rows : ℕ → List ℕ} {samples : List ℕ} (
       → 1 ≤ l
       → l ≤ 1080
       → u < h
-      → let words = upto (streams (shapeOf f)) (picture f (asked (l + 41) content samples)) in
+      → let words = upto (streams (shapeOf f)) (picture f (request (l + 41) content samples)) in
       joined 1920 (streamIn words (2 * u)) (streamIn words (2 * u + 1)) ≡ wordsFor f (rows u)
   back l content u known p q b =
-      let a = asked (l + 41) content samples in
+      let a = request (l + 41) content samples in
       ap₂ (joined 1920) (sampled f a (2 * u) (omega (arith, c .half))) (sampled f a (2 * u + 1) (omega (arith, c .half)))
       ∙ joined-back f a (rows u) (2 * u) known (is-within 42 1121 (l + 41) (omega arith) (omega arith)) (c .are u b)
       (λ j v. simp add-zero at (row-is u 0 j b (omega arith) v))
@@ -270,7 +270,7 @@ module _ (f : Format) (whole : List ℕ) (l : ℕ) (known : IsFormat f) (n : f .
 
   pub two-back :
       (content : Content)
-      → let words = upto (streams (shapeOf f)) (picture f (asked (l + 41) content ofTwo)) in
+      → let words = upto (streams (shapeOf f)) (picture f (request (l + 41) content ofTwo)) in
       joined 1920 (streamIn words 0) (streamIn words 1) ≡ wordsFor f whole
   two-back content = back carries-two l content 0 known p q (omega arith)
 
@@ -280,11 +280,11 @@ module _ (f : Format) (odd even : List ℕ) (l : ℕ) (known : IsFormat f) (n : 
   abbrev ofFour : List ℕ
   ofFour = divided 0 1920 odd ++ (divided 1 1920 odd ++ (divided 0 1920 even ++ divided 1 1920 even))
 
-  are-rows : (u : ℕ) → u < 2 → IsRow f (rowBy u odd even)
+  are-rows : (u : ℕ) → u < 2 → IsRow f (rowWith u odd even)
   are-rows zero b = r
   are-rows (suc u) b = s
 
-  carries-four : Carries f 2 (λ u. rowBy u odd even) ofFour
+  carries-four : Carries f 2 (λ u. rowWith u odd even) ofFour
   unfolding upto
   carries-four = record { half = four-streams f n; made = simp append-assoc; are = are-rows }
 
@@ -293,7 +293,7 @@ module _ (f : Format) (odd even : List ℕ) (l : ℕ) (known : IsFormat f) (n : 
 
   pub four-back :
       (content : Content)
-      → let words = upto (streams (shapeOf f)) (picture f (asked (l + 41) content ofFour)) in
+      → let words = upto (streams (shapeOf f)) (picture f (request (l + 41) content ofFour)) in
       (joined 1920 (streamIn words 0) (streamIn words 1) ≡ wordsFor f odd)
       × (joined 1920 (streamIn words 2) (streamIn words 3) ≡ wordsFor f even)
   four-back content = (back carries-four l content 0 known p q (omega arith), back carries-four l content 1 known p q (omega arith))

@@ -25,7 +25,7 @@ use Rattle.decoder.specs.Decode.{decodeOf}
 use Rattle.decoder.specs.Meaning.{meaningOf}
 use Rattle.packing.specs.Bytes.{packedOf}
 use Rattle.crcc.specs.Crcc.{allWords, crccOf}
-use Rattle.word.specs.LineNumber.{ln0, ln1, names, lineOf, numberedOf, namedOf}
+use Rattle.word.specs.LineNumber.{ln0, ln1, areWordsOf, lineOf, numberedOf, namedOf}
 use Rattle.word.specs.Repair.{distance, legalWord, near, nearest, repairOf}
 use Rattle.word.specs.Timing.{timing}
 use Rattle.picture.specs.Place.{placedOf}
@@ -35,28 +35,28 @@ use Rattle.span.specs.declared.format.Format.{Format}
 use Rattle.span.specs.Format.{isKnown, numbered, shapeOf, streams, samplesIn, pairsIn, symbolsIn}
 use Rattle.span.specs.Length.{lengthsOf}
 use Rattle.span.specs.Sample.{allowed}
-use Rattle.span.specs.Stream.{Asked}
+use Rattle.span.specs.Stream.{Request}
 use Rattle.span.specs.Numbers.{IsFormat, Symbols, Samples}
 use Rattle.span.proofs.Formats.{is-known, known-told}
 use Rattle.span.specs.Blanking.{fillOf}
 use Rattle.send.specs.Send.{firstForbidden, sendOf}
-use Rattle.window.specs.Read.{placed, tests as testsOf, pictureOf, judgeOf, readOf, rowsLeft}
+use Rattle.window.specs.Read.{placed, spanRules as testsOf, pictureOf, judgeOf, readOf, rowsLeft}
 use Rattle.window.specs.Scan.{holds20}
 use Rattle.window.specs.Tests.{holds21, holds22, holds23, holds24, holds25, holds26}
 use Rattle.window.specs.Words.{wordAt}
 use Rattle.window.proofs.Accepting.{all-hold, none-fails}
 use Rattle.window.proofs.Calls.{is-of, of-is}
-use Rattle.delivery.specs.Delivery.{nextFrom as nextBy, findFrom as findBy, readFrom, foundAt}
+use Rattle.delivery.specs.Delivery.{nextBy as nextBy, findBy as findBy, readFrom, foundAt}
 use Rattle.recording.specs.declared.seek.Spanned.{Spanned}
 use Rattle.recording.specs.Call.{spanned, wordsOr, endOr, findOf, nextOf, afterNext, nextRows, rowsNext}
 use Rattle.recording.specs.Recording.{limit, Reading, reading, nextFrom}
 use Rattle.recording.proofs.Readings.{reading-told}
-use Rattle.demands.specs.Form.{MaySend, Refusal, row, lowest, Tried, Lent, Rows}
-use Rattle.demands.specs.Demands.{Legal, tests}
+use Rattle.demands.specs.Form.{MaySend, Refusal, rule, ruleAt, Tried, Lent, Rows}
+use Rattle.demands.specs.Demands.{Legal, spanRules}
 
 -- ---- the rows of a call against the rows of the table
 
--- one row: where a call is good for it, it is passed, and where not, it is met at such a place
+-- one rule: where a call is good for it, it is passed, and where not, it is met at such a place
 pub record Agrees (r : Row) (x : Refusal) : Type 0 where
   pub same : r .number ≡ x .number
   pub passed : x .good → r .fails ≡ none
@@ -76,15 +76,15 @@ tried a (then one more) = (
   λ g. rw (one .passed g) (tried a (more g)),
 )
 
--- ---- tests
+-- ---- spanRules
 
 -- a test holds where the call is good, and nowhere else
 pub record Says (b : Bool) (good : Type 0) : Type 0 where
   pub told : b ≡ true → good
   pub holds : good → b ≡ true
 
--- such a test is a row without a place
-pub plain : (n : ℕ) {b : Bool} {good : Type 0} → Says b good → Agrees (unless n b) (row n good)
+-- such a test is a rule without a place
+pub plain : (n : ℕ) {b : Bool} {good : Type 0} → Says b good → Agrees (unless n b) (rule n good)
 plain n {b} says = record {
   same = refl;
   passed = λ g. rw (says .holds g);
@@ -95,7 +95,7 @@ plain n {b} says = record {
 pub or-so : {b : Bool} {p q : Type 0} → Says b p → (p → q) → (q → p) → Says b q
 or-so says to from = record { told = λ t. to (says .told t); holds = λ g. says .holds (from g) }
 
--- the tests that the calls make: a bound, a number, a range, two of them together
+-- the spanRules that the calls make: a bound, a number, a range, two of them together
 pub up-to : (x n : ℕ) → Says (ltb x (suc n)) (x ≤ n)
 up-to x n = record { told = λ t. omega (arith, ltb-true x (suc n) t); holds = λ h. lt-ltb x (suc n) (omega arith) }
 
@@ -131,9 +131,9 @@ some-below n p {Good} says = record { told = λ t. told (firstBelow n p) refl t;
     holds none e (k, h, g) = absurd (true≢false (sym (says k .holds g) ∙ miss p n e .never k (omega arith) h))
     holds (some k) e g = refl
 
--- a test of n places is a row with the lowest at which it does not hold
+-- a test of n places is a rule with the ruleAt at which it does not hold
 pub at-places : (number n : ℕ) (holds : ℕ → Bool) {Good : ℕ → Type 0} → ((k : ℕ) → Says (holds k) (Good k))
-    → Agrees (record { number = number; fails = firstBelow n (λ k. not (holds k)) }) (lowest number n Good)
+    → Agrees (record { number = number; fails = firstBelow n (λ k. not (holds k)) }) (ruleAt number n Good)
 at-places number n holds {Good} says = record {
   same = refl;
   passed = λ g. none-fails n holds (λ k h. says k .holds (g k h));
@@ -157,13 +157,13 @@ at-places number n holds {Good} says = record {
 -- ---- single calls
 
 -- the meaning of a symbol
-pub meaning-tried : (s : ℕ) → Tried (meaningOf s) (row 7 (s ≤ 1023) ∷ [])
+pub meaning-tried : (s : ℕ) → Tried (meaningOf s) (rule 7 (s ≤ 1023) ∷ [])
 meaning-tried s = tried _ (then (plain 7 (up-to s 1023)) (λ _. end))
 
 -- one symbol decoded
 pub decode-tried :
     (d : Disparity) (s : ℕ)
-    → Tried (decodeOf d s) (row 7 (s ≤ 1023) ∷ row 20 ((c : ℕ) × (c < 268) × (symbolOf d c ≡ s)) ∷ [])
+    → Tried (decodeOf d s) (rule 7 (s ≤ 1023) ∷ rule 20 ((c : ℕ) × (c < 268) × (symbolOf d c ≡ s)) ∷ [])
 unfolding charOf
 decode-tried d s =
     tried _
@@ -195,18 +195,18 @@ near-says w =
 
 -- repair of a timing word
 pub repair-tried :
-    (w : ℕ) → Tried (repairOf w) (row 7 (w ≤ 4095) ∷ row 8 ((x : ℕ) × Legal x × (distance w x ≤ 1)) ∷ [])
+    (w : ℕ) → Tried (repairOf w) (rule 7 (w ≤ 4095) ∷ rule 8 ((x : ℕ) × Legal x × (distance w x ≤ 1)) ∷ [])
 repair-tried w = tried _ (then (plain 7 (up-to w 4095)) (λ _. then (plain 8 (near-says w)) (λ _. end)))
 
 -- the words of a line
-pub line-words-tried : (n : ℕ) → Tried (numberedOf n) (row 2 ((1 ≤ n) × (n ≤ 1125)) ∷ [])
+pub line-words-tried : (n : ℕ) → Tried (numberedOf n) (rule 2 ((1 ≤ n) × (n ≤ 1125)) ∷ [])
 line-words-tried n = tried _ (then (plain 2 (in-range 1 1125 n)) (λ _. end))
 
 -- the two words are those of a line where the search finds one
 named-says : (a b : ℕ) → Says (isSome (lineOf a b)) ((n : ℕ) × (1 ≤ n) × (n ≤ 1125) × (ln0 n ≡ a) × (ln1 n ≡ b))
 unfolding lineOf
 named-says a b =
-    or-so (some-below 1126 (names a b) (λ n. both (in-range 1 1125 n) (both (equal (ln0 n) a) (equal (ln1 n) b))))
+    or-so (some-below 1126 (areWordsOf a b) (λ n. both (in-range 1 1125 n) (both (equal (ln0 n) a) (equal (ln1 n) b))))
     (λ g. let (n, h, ((p, q), (s, t))) = g in (n, p, q, s, t))
     (λ g. let (n, p, q, s, t) = g in (n, omega arith, ((p, q), (s, t))))
 
@@ -214,7 +214,7 @@ named-says a b =
 pub read-line-words-tried :
     (a b : ℕ)
     → Tried (namedOf a b)
-    (row 7 ((a ≤ 4095) × (b ≤ 4095)) ∷ row 22 ((n : ℕ) × (1 ≤ n) × (n ≤ 1125) × (ln0 n ≡ a) × (ln1 n ≡ b)) ∷ [])
+    (rule 7 ((a ≤ 4095) × (b ≤ 4095)) ∷ rule 22 ((n : ℕ) × (1 ≤ n) × (n ≤ 1125) × (ln0 n ≡ a) × (ln1 n ≡ b)) ∷ [])
 read-line-words-tried a b =
     tried _ (then (plain 7 (both (up-to a 4095) (up-to b 4095))) (λ _. then (plain 22 (named-says a b)) (λ _. end)))
 
@@ -228,15 +228,15 @@ all-words-say (w ∷ ws) = or-so (both (up-to w 4095) (all-words-say ws)) each (
     each g (suc i) h = g .1 i (omega arith)
 
 -- the CRCC of a run of words
-pub crcc-tried : (ws : List ℕ) → Tried (crccOf ws) (row 7 ((i : ℕ) → i < length ws → getD ws i 0 ≤ 4095) ∷ [])
+pub crcc-tried : (ws : List ℕ) → Tried (crccOf ws) (rule 7 ((i : ℕ) → i < length ws → getD ws i 0 ≤ 4095) ∷ [])
 crcc-tried ws = tried _ (then (plain 7 (all-words-say ws)) (λ _. end))
 
 -- two words as three bytes
-pub pack-tried : (a b : ℕ) → Tried (packedOf a b) (row 7 ((a ≤ 4095) × (b ≤ 4095)) ∷ [])
+pub pack-tried : (a b : ℕ) → Tried (packedOf a b) (rule 7 ((a ≤ 4095) × (b ≤ 4095)) ∷ [])
 pack-tried a b = tried _ (then (plain 7 (both (up-to a 4095) (up-to b 4095))) (λ _. end))
 
 -- the place of a sample
-pub place-tried : (line sample : ℕ) → Tried (placedOf line sample) (row 2 ((1 ≤ line) × (line ≤ 2160) × (sample ≤ 3839)) ∷ [])
+pub place-tried : (line sample : ℕ) → Tried (placedOf line sample) (rule 2 ((1 ≤ line) × (line ≤ 2160) × (sample ≤ 3839)) ∷ [])
 place-tried line sample =
     tried _
     (then
@@ -261,11 +261,11 @@ lent r entry makes = record {
 rows-say : (first second : List ℕ) → Says (areRows first second) ((length first ≡ 1920) × (length second ≡ 1920))
 rows-say first second = both (equal (length first) 1920) (equal (length second) 1920)
 
--- dividing a row
+-- dividing a rule
 pub split-tried :
     (whole first second : List ℕ)
     → Tried (splitOf whole first second)
-    (row 3 (length whole ≡ 3840) ∷ row 4 ((length first ≡ 1920) × (length second ≡ 1920)) ∷ [])
+    (rule 3 (length whole ≡ 3840) ∷ rule 4 ((length first ≡ 1920) × (length second ≡ 1920)) ∷ [])
 split-tried whole first second =
     tried _ (then (plain 3 (equal (length whole) 3840)) (λ _. then (plain 4 (rows-say first second)) (λ _. end)))
 
@@ -273,7 +273,7 @@ split-tried whole first second =
 pub join-tried :
     (first second whole : List ℕ)
     → Tried (joinOf first second whole)
-    (row 3 ((length first ≡ 1920) × (length second ≡ 1920)) ∷ row 4 (length whole ≡ 3840) ∷ [])
+    (rule 3 ((length first ≡ 1920) × (length second ≡ 1920)) ∷ rule 4 (length whole ≡ 3840) ∷ [])
 join-tried first second whole =
     tried _ (then (plain 3 (rows-say first second)) (λ _. then (plain 4 (equal (length whole) 3840)) (λ _. end)))
 
@@ -331,23 +331,23 @@ module _ (f : Format) (known : IsFormat f) (x : ℕ) where
 -- ---- calls with a format
 
 -- the lengths of a format
-pub lengths-tried : (f : Format) → Tried (lengthsOf f) (row 1 (IsFormat f) ∷ [])
+pub lengths-tried : (f : Format) → Tried (lengthsOf f) (rule 1 (IsFormat f) ∷ [])
 lengths-tried f = tried _ (then (plain 1 (known-says f)) (λ _. end))
 
--- a row filled with blanking
-pub fill-tried : (f : Format) (entry : List ℕ) → Tried (fillOf f entry) (row 1 (IsFormat f) ∷ row 4 (Samples f (length entry)) ∷ [])
+-- a rule filled with blanking
+pub fill-tried : (f : Format) (entry : List ℕ) → Tried (fillOf f entry) (rule 1 (IsFormat f) ∷ rule 4 (Samples f (length entry)) ∷ [])
 fill-tried f entry =
     tried _ (then (plain 1 (known-says f)) (λ known. then (plain 4 (samples-say f known (length entry))) (λ _. end)))
 
 -- sending a span
 pub send-tried :
-    (d : Disparity) (f : Format) (a : Asked) (room : ℕ)
+    (d : Disparity) (f : Format) (a : Request) (room : ℕ)
     → Tried (sendOf d f a room)
-    (row 1 (IsFormat f)
-    ∷ row 2 ((1 ≤ a .line) × (a .line ≤ 1125))
-    ∷ row 3 (Samples f (length (a .samples)))
-    ∷ row 4 (Symbols f room)
-    ∷ lowest 6 (length (a .samples)) (λ i. MaySend f (a .line) (getD (a .samples) i 0))
+    (rule 1 (IsFormat f)
+    ∷ rule 2 ((1 ≤ a .line) × (a .line ≤ 1125))
+    ∷ rule 3 (Samples f (length (a .samples)))
+    ∷ rule 4 (Symbols f room)
+    ∷ ruleAt 6 (length (a .samples)) (λ i. MaySend f (a .line) (getD (a .samples) i 0))
     ∷ [])
 unfolding firstForbidden
 send-tried d f a room =
@@ -362,8 +362,8 @@ send-tried d f a room =
     (λ i. may-send f known (getD xs i 0) (a .line) (i / 1920)))
     (λ _. end))))))
 
--- tests 20 to 26 of a window
-tests-agree : (f : Format) (w : List ℕ) → Agree (testsOf f w) (tests f w)
+-- spanRules 20 to 26 of a window
+tests-agree : (f : Format) (w : List ℕ) → Agree (testsOf f w) (spanRules f w)
 tests-agree f w =
     let s = streams (shapeOf f) in
     let n = 2 * pairsIn (shapeOf f) in
@@ -378,7 +378,7 @@ tests-agree f w =
 
 -- judging a span
 pub judge-tried :
-    (f : Format) (w : List ℕ) → Tried (judgeOf f w) (row 1 (IsFormat f) ∷ row 3 (Symbols f (length w)) ∷ tests f w)
+    (f : Format) (w : List ℕ) → Tried (judgeOf f w) (rule 1 (IsFormat f) ∷ rule 3 (Symbols f (length w)) ∷ spanRules f w)
 judge-tried f w =
     tried _
     (then (plain 1 (known-says f)) (λ known. then (plain 3 (symbols-say f known (length w))) (λ _. tests-agree f w)))
@@ -387,7 +387,7 @@ judge-tried f w =
 pub read-tried :
     (f : Format) (w : List ℕ) (room : ℕ)
     → Tried (readOf f w room)
-    (row 1 (IsFormat f) ∷ row 3 (Symbols f (length w)) ∷ row 4 (Samples f room) ∷ tests f w)
+    (rule 1 (IsFormat f) ∷ rule 3 (Symbols f (length w)) ∷ rule 4 (Samples f room) ∷ spanRules f w)
 read-tried f w room =
     tried _
     (then (plain 1 (known-says f)) (λ known.
@@ -408,7 +408,7 @@ rows-left {A} r entry makes = record {
 -- finding a span
 pub find-tried :
     (f : Format) (r : List ℕ) (start : ℕ)
-    → Tried (findOf f r start) (row 1 (IsFormat f) ∷ row 3 (length r ≤ limit) ∷ row 5 (start ≤ length r) ∷ [])
+    → Tried (findOf f r start) (rule 1 (IsFormat f) ∷ rule 3 (length r ≤ limit) ∷ rule 5 (start ≤ length r) ∷ [])
 find-tried f r start =
     tried _
     (then (plain 1 (known-says f)) (λ _.
@@ -425,7 +425,7 @@ module _ (f : Format) (r : List ℕ) (start : ℕ) where
   pub next-tried :
       (room : ℕ)
       → Tried (nextOf f r start room)
-      (row 1 (IsFormat f) ∷ row 3 (length r ≤ limit) ∷ row 4 (Samples f room) ∷ row 5 (start ≤ length r) ∷ [])
+      (rule 1 (IsFormat f) ∷ rule 3 (length r ≤ limit) ∷ rule 4 (Samples f room) ∷ rule 5 (start ≤ length r) ∷ [])
   next-tried room =
       tried _
       (then (plain 1 (known-says f)) (λ known.

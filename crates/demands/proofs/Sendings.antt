@@ -14,7 +14,7 @@ use Rattle.ground.proofs.Searches.{miss}
 use Rattle.span.specs.declared.format.Format.{Format}
 use Rattle.span.specs.Format.{shapeOf, samplesIn, symbolsIn}
 use Rattle.span.specs.Span.{spanAfter}
-use Rattle.span.specs.Stream.{Asked}
+use Rattle.span.specs.Stream.{Request}
 use Rattle.span.proofs.Lengths.{known-has-streams, length-of-symbols}
 use Rattle.window.specs.Inside.Encoded.{Sendable}
 use Rattle.send.specs.Send.{forbidden, firstForbidden, refusals}
@@ -23,7 +23,7 @@ use Rattle.window.proofs.Inverted.{inverted-is-refused}
 use Rattle.window.proofs.RoundTrip.{round-trip, picture-back}
 use Rattle.recording.specs.Recording.{reading}
 use Rattle.recording.proofs.Readings.{is-read, not-read}
-use Rattle.demands.specs.Form.{Sending, WasSent, symbolsOf, readingOf}
+use Rattle.demands.specs.Form.{Sending, WasSent, sentSymbols, readingOf}
 
 -- a row that is passed holds
 pub row-holds : (b : Bool) → cond {A = Option ℕ} b none (some 0) ≡ none → b ≡ true
@@ -31,7 +31,7 @@ row-holds true e = refl
 row-holds false e = let z : _≡_ {A = ℕ} 0 1 = cc e in absurd (omega arith)
 
 module _ (f : Format) (x : Sending) (sent : WasSent f x) where
-  abbrev a : Asked
+  abbrev a : Request
   a = x .asked
 
   passed : (i : ℕ) → getD (refusals f a (sent .room)) i (record { number = 0; fails = none }) .fails ≡ none
@@ -49,22 +49,22 @@ module _ (f : Format) (x : Sending) (sent : WasSent f x) where
   }
 
   -- it has a span's length
-  pub sent-long : length (symbolsOf f x) ≡ symbolsIn (shapeOf f)
+  pub sent-long : length (sentSymbols f x) ≡ symbolsIn (shapeOf f)
   sent-long = length-of-symbols f a (known-has-streams f (sendable .known)) (x .before)
 
   -- it is read as it was sent
-  pub sent-read : reading f (symbolsOf f x) ≡ some (readingOf f x)
+  pub sent-read : reading f (sentSymbols f x) ≡ some (readingOf f x)
   sent-read =
-      is-read f (symbolsOf f x) sent-long (round-trip f a sendable (x .before))
+      is-read f (sentSymbols f x) sent-long (round-trip f a sendable (x .before))
       ∙ ap (λ (words : List ℕ). some (record { values = readingOf f x .values; words = words })) (picture-back f a sendable (x .before))
 
   -- with one bit inverted it is not
   module _ (i k : ℕ) (h : i < symbolsIn (shapeOf f)) (l : k < 10) where
     abbrev harmed : List ℕ
-    harmed = set (symbolsOf f x) i (inverted k (getD (symbolsOf f x) i 0))
+    harmed = set (sentSymbols f x) i (inverted k (getD (sentSymbols f x) i 0))
 
     pub harmed-long : length harmed ≡ symbolsIn (shapeOf f)
-    harmed-long = length-set (symbolsOf f x) i (inverted k (getD (symbolsOf f x) i 0)) ∙ sent-long
+    harmed-long = length-set (sentSymbols f x) i (inverted k (getD (sentSymbols f x) i 0)) ∙ sent-long
 
     pub harmed-not-read : reading f harmed ≡ none
     harmed-not-read =

@@ -32,7 +32,7 @@ use Rattle.span.specs.Format.{shapeOf, streams, pairsIn, symbolsIn}
 use Rattle.span.specs.Image.{imageOf}
 use Rattle.span.specs.Length.{lengthsOf}
 use Rattle.span.specs.Span.{spanSymbols, spanAfter}
-use Rattle.span.specs.Stream.{Asked}
+use Rattle.span.specs.Stream.{Request}
 use Rattle.span.specs.Numbers.{IsFormat, Symbols, Samples}
 use Rattle.window.specs.declared.delivery.Delivery.{Delivery}
 use Rattle.window.specs.Encoded.{charsOf, AreContent, Encodes, wordIn, Meets, IsXyz, Disturbed, wrongAt}
@@ -40,15 +40,15 @@ use Rattle.window.specs.Read.{placed, repairsOf, pictureOf, readSpan, judgeOf, 
 use Rattle.window.specs.Scan.{holds20}
 use Rattle.window.specs.Tests.{holds21, holds22, holds23, holds24, holds25, holds26, sumOf}
 use Rattle.window.specs.Words.{wordAt}
-use Rattle.delivery.specs.Delivery.{Found, foundFrom, movedBy, strung, placedFrom, Each}
-use Rattle.delivery.specs.Marked.{AllBehind}
+use Rattle.delivery.specs.Delivery.{Found, foundFrom, movedBy, concatenated, placedFrom, Each}
+use Rattle.delivery.specs.Marked.{AllAfter}
 use Rattle.recording.specs.declared.seek.Spanned.{Spanned}
 use Rattle.recording.specs.Call.{findOf, nextOf, afterNext, rowsNext}
 use Rattle.recording.specs.Recording.{limit, Reading, reading, accepts, deliveryFrom}
 use Rattle.stepping.specs.Steps.{runFrom, spanStep, endStep, lastRows}
 use Rattle.span.specs.Blanking.{fillOf, blankRow, filledRow}
-use Rattle.send.specs.Send.{asked, sendOf, sentBuffer}
-use Rattle.demands.specs.Form.{MaySend, Refusal, row, lowest, Tried, Lent, Rows, Sending, WasSent, symbolsOf, readingOf, stepsFrom, Delivered, wordsFor}
+use Rattle.send.specs.Send.{request, sendOf, sentBuffer}
+use Rattle.demands.specs.Form.{MaySend, Refusal, rule, ruleAt, Tried, Lent, Rows, Sending, WasSent, sentSymbols, readingOf, stepsFrom, Delivered, wordsFor}
 
 -- ==== 1 ====
 
@@ -56,101 +56,101 @@ use Rattle.demands.specs.Form.{MaySend, Refusal, row, lowest, Tried, Len
 abbrev pub Legal : ℕ → Type 0
 Legal x = (x ≡ 0x800) ⊎ ((x ≡ 0x9D0) ⊎ ((x ≡ 0xAB0) ⊎ (x ≡ 0xB60)))
 
--- tests 20 to 26 of the reader, each over the whole span
-abbrev pub tests : Format → List ℕ → List Refusal
-tests f w =
+-- spanRules 20 to 26 of the reader, each over the whole span
+abbrev pub spanRules : Format → List ℕ → List Refusal
+spanRules f w =
     let s = streams (shapeOf f) in
     let n = 2 * pairsIn (shapeOf f) in
     let word = wordAt (shapeOf f) w in
-    lowest 20 (symbolsIn (shapeOf f)) (λ i. holds20 (shapeOf f) w i ≡ true)
-    ∷ lowest 21 n (λ k. placed s (holds21 s word) k ≡ true)
-    ∷ lowest 22 n (λ k. placed s (holds22 s word) k ≡ true)
-    ∷ lowest 23 n (λ k. placed s (holds23 s word) k ≡ true)
-    ∷ lowest 24 n (λ k. placed s (holds24 s word) k ≡ true)
-    ∷ lowest 25 n (λ k. placed s (holds25 s word f) k ≡ true)
-    ∷ lowest 26 n (λ k. placed s (holds26 s word f) k ≡ true)
+    ruleAt 20 (symbolsIn (shapeOf f)) (λ i. holds20 (shapeOf f) w i ≡ true)
+    ∷ ruleAt 21 n (λ k. placed s (holds21 s word) k ≡ true)
+    ∷ ruleAt 22 n (λ k. placed s (holds22 s word) k ≡ true)
+    ∷ ruleAt 23 n (λ k. placed s (holds23 s word) k ≡ true)
+    ∷ ruleAt 24 n (λ k. placed s (holds24 s word) k ≡ true)
+    ∷ ruleAt 25 n (λ k. placed s (holds25 s word f) k ≡ true)
+    ∷ ruleAt 26 n (λ k. placed s (holds26 s word f) k ≡ true)
     ∷ []
 
--- Every public call ends with a defined answer for all input. A bad call, and no good one, returns its refusal number, that of the first row
+-- Every public call ends with a defined answer for all input. A bad call, and no good one, returns its refusal number, that of the first rule
 -- of the table that applies, and touches no lent buffer; a refused span returns its number and place and leaves its rows all zero. What is
 -- good is said in document 01's own numbers; the finder's limit, 2,097,152 there, by its name. A call that is not named here has no refusal to
 -- answer: the disparity before a fresh signal, encoding a character, the tables, a timing word, the CRCC words of a register, three bytes as
 -- words, the choice between two rows, and making a reader of a recording and asking its place.
 pub record Demand1 : Type 0 where
   -- the meaning of a symbol: 7
-  pub meaning : (s : ℕ) → Tried (meaningOf s) (row 7 (s ≤ 1023) ∷ [])
+  pub meaning : (s : ℕ) → Tried (meaningOf s) (rule 7 (s ≤ 1023) ∷ [])
   -- one symbol decoded at a disparity: 7, 20
   pub decode :
       (d : Disparity) (s : ℕ)
-      → Tried (decodeOf d s) (row 7 (s ≤ 1023) ∷ row 20 ((c : ℕ) × (c < 268) × (symbolOf d c ≡ s)) ∷ [])
+      → Tried (decodeOf d s) (rule 7 (s ≤ 1023) ∷ rule 20 ((c : ℕ) × (c < 268) × (symbolOf d c ≡ s)) ∷ [])
   -- repair of a timing word: 7, 8
   pub repair :
-      (w : ℕ) → Tried (repairOf w) (row 7 (w ≤ 4095) ∷ row 8 ((x : ℕ) × Legal x × (distance w x ≤ 1)) ∷ [])
+      (w : ℕ) → Tried (repairOf w) (rule 7 (w ≤ 4095) ∷ rule 8 ((x : ℕ) × Legal x × (distance w x ≤ 1)) ∷ [])
   -- the words of a line: 2
-  pub lineWords : (n : ℕ) → Tried (numberedOf n) (row 2 ((1 ≤ n) × (n ≤ 1125)) ∷ [])
+  pub lineWords : (n : ℕ) → Tried (numberedOf n) (rule 2 ((1 ≤ n) × (n ≤ 1125)) ∷ [])
   -- the line of two words: 7, 22
   pub readLineWords :
       (a b : ℕ)
       → Tried (namedOf a b)
-      (row 7 ((a ≤ 4095) × (b ≤ 4095)) ∷ row 22 ((n : ℕ) × (1 ≤ n) × (n ≤ 1125) × (ln0 n ≡ a) × (ln1 n ≡ b)) ∷ [])
+      (rule 7 ((a ≤ 4095) × (b ≤ 4095)) ∷ rule 22 ((n : ℕ) × (1 ≤ n) × (n ≤ 1125) × (ln0 n ≡ a) × (ln1 n ≡ b)) ∷ [])
   -- the CRCC of a run of words: 7
-  pub crcc : (ws : List ℕ) → Tried (crccOf ws) (row 7 ((i : ℕ) → i < length ws → getD ws i 0 ≤ 4095) ∷ [])
+  pub crcc : (ws : List ℕ) → Tried (crccOf ws) (rule 7 ((i : ℕ) → i < length ws → getD ws i 0 ≤ 4095) ∷ [])
   -- two words as three bytes: 7
-  pub pack : (a b : ℕ) → Tried (packedOf a b) (row 7 ((a ≤ 4095) × (b ≤ 4095)) ∷ [])
+  pub pack : (a b : ℕ) → Tried (packedOf a b) (rule 7 ((a ≤ 4095) × (b ≤ 4095)) ∷ [])
   -- the place of a sample: 2
   pub place :
-      (line sample : ℕ) → Tried (placedOf line sample) (row 2 ((1 ≤ line) × (line ≤ 2160) × (sample ≤ 3839)) ∷ [])
-  -- dividing a row: 3, 4
+      (line sample : ℕ) → Tried (placedOf line sample) (rule 2 ((1 ≤ line) × (line ≤ 2160) × (sample ≤ 3839)) ∷ [])
+  -- dividing a rule: 3, 4
   pub split :
       (whole first second : List ℕ)
       → Tried (splitOf whole first second)
-      (row 3 (length whole ≡ 3840) ∷ row 4 ((length first ≡ 1920) × (length second ≡ 1920)) ∷ [])
+      (rule 3 (length whole ≡ 3840) ∷ rule 4 ((length first ≡ 1920) × (length second ≡ 1920)) ∷ [])
       × Lent (splitOf whole first second) first (divided 0 1920 whole) (splitFirst whole first second)
       × Lent (splitOf whole first second) second (divided 1 1920 whole) (splitSecond whole first second)
   -- joining two: 3, 4
   pub join :
       (first second whole : List ℕ)
       → Tried (joinOf first second whole)
-      (row 3 ((length first ≡ 1920) × (length second ≡ 1920)) ∷ row 4 (length whole ≡ 3840) ∷ [])
+      (rule 3 ((length first ≡ 1920) × (length second ≡ 1920)) ∷ rule 4 (length whole ≡ 3840) ∷ [])
       × Lent (joinOf first second whole) whole (joined 1920 first second) (joinRow first second whole)
   -- the lengths of a format: 1
-  pub lengths : (f : Format) → Tried (lengthsOf f) (row 1 (IsFormat f) ∷ [])
-  -- a row filled with blanking: 1, 4
+  pub lengths : (f : Format) → Tried (lengthsOf f) (rule 1 (IsFormat f) ∷ [])
+  -- a rule filled with blanking: 1, 4
   pub fill :
       (f : Format) (entry : List ℕ)
-      → Tried (fillOf f entry) (row 1 (IsFormat f) ∷ row 4 (Samples f (length entry)) ∷ [])
+      → Tried (fillOf f entry) (rule 1 (IsFormat f) ∷ rule 4 (Samples f (length entry)) ∷ [])
       × Lent (fillOf f entry) entry (blankRow f) (filledRow f entry)
-  -- sending a span: 1, 2, 3, 4, 6 with the lowest index
+  -- sending a span: 1, 2, 3, 4, 6 with the ruleAt index
   pub send :
-      (d : Disparity) (f : Format) (a : Asked) (entry : List ℕ)
+      (d : Disparity) (f : Format) (a : Request) (entry : List ℕ)
       → Tried (sendOf d f a (length entry))
-      (row 1 (IsFormat f)
-      ∷ row 2 ((1 ≤ a .line) × (a .line ≤ 1125))
-      ∷ row 3 (Samples f (length (a .samples)))
-      ∷ row 4 (Symbols f (length entry))
-      ∷ lowest 6 (length (a .samples)) (λ i. MaySend f (a .line) (getD (a .samples) i 0))
+      (rule 1 (IsFormat f)
+      ∷ rule 2 ((1 ≤ a .line) × (a .line ≤ 1125))
+      ∷ rule 3 (Samples f (length (a .samples)))
+      ∷ rule 4 (Symbols f (length entry))
+      ∷ ruleAt 6 (length (a .samples)) (λ i. MaySend f (a .line) (getD (a .samples) i 0))
       ∷ [])
       × Lent (sendOf d f a (length entry)) entry (spanSymbols d f a) (sentBuffer d f a entry)
   -- judging a span: 1, 3, 20 to 26
   pub judge :
       (f : Format) (w : List ℕ)
-      → Tried (judgeOf f w) (row 1 (IsFormat f) ∷ row 3 (Symbols f (length w)) ∷ tests f w)
+      → Tried (judgeOf f w) (rule 1 (IsFormat f) ∷ rule 3 (Symbols f (length w)) ∷ spanRules f w)
   -- reading it: 1, 3, 4, 20 to 26
   pub read :
       (f : Format) (w entry : List ℕ)
       → Tried (readOf f w (length entry))
-      (row 1 (IsFormat f) ∷ row 3 (Symbols f (length w)) ∷ row 4 (Samples f (length entry)) ∷ tests f w)
+      (rule 1 (IsFormat f) ∷ rule 3 (Symbols f (length w)) ∷ rule 4 (Samples f (length entry)) ∷ spanRules f w)
       × Rows (readOf f w (length entry)) entry (pictureOf f w) (rowsRead f w entry)
   -- finding a span: 1, 3, 5
   pub find :
       (f : Format) (r : List ℕ) (start : ℕ)
-      → Tried (findOf f r start) (row 1 (IsFormat f) ∷ row 3 (length r ≤ limit) ∷ row 5 (start ≤ length r) ∷ [])
+      → Tried (findOf f r start) (rule 1 (IsFormat f) ∷ rule 3 (length r ≤ limit) ∷ rule 5 (start ≤ length r) ∷ [])
   -- the next span, and a step of the stepping reader, which answers it from the reader's place: 1, 3, 4, 5; the rows are touched, and the place
   -- after is another one, only where a span is delivered
   pub next :
       (f : Format) (r : List ℕ) (start : ℕ) (entry : List ℕ)
       → Tried (nextOf f r start (length entry))
-      (row 1 (IsFormat f) ∷ row 3 (length r ≤ limit) ∷ row 4 (Samples f (length entry)) ∷ row 5 (start ≤ length r) ∷ [])
+      (rule 1 (IsFormat f) ∷ rule 3 (length r ≤ limit) ∷ rule 4 (Samples f (length entry)) ∷ rule 5 (start ≤ length r) ∷ [])
   pub nextRefused :
       (f : Format) (r : List ℕ) (start : ℕ) (entry : List ℕ) (number place : ℕ)
       → nextOf f r start (length entry) ≡ refused number place
@@ -167,7 +167,7 @@ pub record Demand1 : Type 0 where
 
 -- ==== 2 ====
 
--- a row of the picture: 3840 samples, each of which may be sent at the depth
+-- a rule of the picture: 3840 samples, each of which may be sent at the depth
 pub record IsRow (f : Format) (whole : List ℕ) : Type 0 where
   pub long : length whole ≡ 3840
   pub ten : f .depth ≡ 10 → (i : ℕ) → i < 3840 → (4 ≤ getD whole i 0) × (getD whole i 0 ≤ 1019)
@@ -179,11 +179,11 @@ pub record Delivers (f : Format) (l : ℕ) (content : Content) (samples words : 
   pub sent :
       (d : Disparity) (entry : List ℕ)
       → Symbols f (length entry)
-      → sendOf d f (asked (l + 41) content samples) (length entry) ≡ given (spanAfter d f (asked (l + 41) content samples))
+      → sendOf d f (request (l + 41) content samples) (length entry) ≡ given (spanAfter d f (request (l + 41) content samples))
   pub found :
       (d : Disparity) (before entry behind : List ℕ)
       → Symbols f (length entry)
-      → let r = before ++ (sentBuffer d f (asked (l + 41) content samples) entry ++ behind) in
+      → let r = before ++ (sentBuffer d f (request (l + 41) content samples) entry ++ behind) in
       length r ≤ limit
       → (v : Delivery)
       × (v .line .0 ≡ l + 41)
@@ -201,16 +201,16 @@ pub record Demand2 : Type 0 where
       → decodeOf d (symbolOf d c) ≡ given (record { character = characterOf c; after = afterOf d c })
   -- the symbols sent are those of the standard, as `span/specs` writes them down from 004
   pub sent :
-      (d e : Disparity) (f : Format) (a : Asked) (entry : List ℕ)
+      (d e : Disparity) (f : Format) (a : Request) (entry : List ℕ)
       → sendOf d f a (length entry) ≡ given e
       → (sentBuffer d f a entry ≡ spanSymbols d f a) × (e ≡ spanAfter d f a)
   -- what was sent is read as it was sent
   pub back :
       (f : Format) (x : Sending)
       → WasSent f x
-      → (readSpan f (symbolsOf f x) ≡ given (readingOf f x .values))
-      × (pictureOf f (symbolsOf f x) ≡ readingOf f x .words)
-  -- and read is exactly what is the encoding of words that meet the tests
+      → (readSpan f (sentSymbols f x) ≡ given (readingOf f x .values))
+      × (pictureOf f (sentSymbols f x) ≡ readingOf f x .words)
+  -- and read is exactly what is the encoding of words that meet the spanRules
   pub exactIf :
       (f : Format) (w : List ℕ) (d : Disparity) (c : ContentBytes) (words : List ℕ)
       → IsFormat f
@@ -260,7 +260,7 @@ pub record Demand2 : Type 0 where
       → (w : List ℕ) (d : Disparity) (c : ContentBytes)
       → Encodes f w d c words
       → readSpan f w ≡ refused 21 k
-  -- joining what was divided is the row, and dividing what was joined the two rows
+  -- joining what was divided is the rule, and dividing what was joined the two rows
   pub joinSplit : (whole : List ℕ) → length whole ≡ 3840 → joined 1920 (divided 0 1920 whole) (divided 1 1920 whole) ≡ whole
   pub splitJoin :
       (first second : List ℕ)
@@ -279,8 +279,8 @@ pub record Demand2 : Type 0 where
       ≡ given (record { image = u; line = record { 0 = l }; stream = record { 0 = l + 41 }; sample = j }))
       × (getD (divided ((u + 1) % 2) 1920 whole) j 0 ≡ getD whole (sampleFrom u j) 0)
   -- the picture comes back. Formats 1 and 2: picture line 2l - 1 gives images 1 and 2, which one link carries (pair 1), and line 2l gives
-  -- images 3 and 4, which the other does (pair 2). Its row is divided, sent on stream line l + 41 of its link, delivered wherever it stands,
-  -- and joined: it is the row again.
+  -- images 3 and 4, which the other does (pair 2). Its rule is divided, sent on stream line l + 41 of its link, delivered wherever it stands,
+  -- and joined: it is the rule again.
   pub pictureOfTwo :
       (f : Format) (content : Content) (whole : List ℕ) (pair l : ℕ)
       → IsFormat f
@@ -388,7 +388,7 @@ pub record Demand3 : Type 0 where
   pub anywhere :
       (f : Format) (x : Sending) (before behind : List ℕ)
       → WasSent f x
-      → let r = before ++ (symbolsOf f x ++ behind) in
+      → let r = before ++ (sentSymbols f x ++ behind) in
       length r ≤ limit
       → Delivered f r
       (deliveryFrom f before 0
@@ -399,8 +399,8 @@ pub record Demand3 : Type 0 where
       (f : Format) (xs : List Sending)
       → IsFormat f
       → Each (WasSent f) xs
-      → length (strung (symbolsOf f) xs) ≤ limit
-      → Delivered f (strung (symbolsOf f) xs) (placedFrom (symbolsIn (shapeOf f)) (readingOf f) 0 xs)
+      → length (concatenated (sentSymbols f) xs) ≤ limit
+      → Delivered f (concatenated (sentSymbols f) xs) (placedFrom (symbolsIn (shapeOf f)) (readingOf f) 0 xs)
   -- one of the ten bits of one symbol inverted: exactly the others
   pub oneInverted :
       (f : Format) (xs ys : List Sending) (x : Sending) (i k : ℕ)
@@ -410,8 +410,8 @@ pub record Demand3 : Type 0 where
       → i < symbolsIn (shapeOf f)
       → k < 10
       → let n = symbolsIn (shapeOf f) in
-      let harmed = set (symbolsOf f x) i (inverted k (getD (symbolsOf f x) i 0)) in
-      let r = strung (symbolsOf f) xs ++ (harmed ++ strung (symbolsOf f) ys) in
+      let harmed = set (sentSymbols f x) i (inverted k (getD (sentSymbols f x) i 0)) in
+      let r = concatenated (sentSymbols f) xs ++ (harmed ++ concatenated (sentSymbols f) ys) in
       length r ≤ limit
       → Delivered f r (placedFrom n (readingOf f) 0 xs ++ placedFrom n (readingOf f) (n * length xs + n) ys)
 
@@ -426,7 +426,7 @@ pub record Beyond : Type 0 where
       → Each (WasSent f) xs
       → Each (WasSent f) ys
       → let n = symbolsIn (shapeOf f) in
-      let r = strung (symbolsOf f) xs ++ (d ++ strung (symbolsOf f) ys) in
+      let r = concatenated (sentSymbols f) xs ++ (d ++ concatenated (sentSymbols f) ys) in
       length r ≤ limit
       → Delivered f r
       (placedFrom n (readingOf f) 0 xs
@@ -445,7 +445,7 @@ pub record Beyond : Type 0 where
       → Each (WasSent f) ys
       → length d < symbolsIn (shapeOf f)
       → let n = symbolsIn (shapeOf f) in
-      let r = strung (symbolsOf f) xs ++ (d ++ strung (symbolsOf f) ys) in
+      let r = concatenated (sentSymbols f) xs ++ (d ++ concatenated (sentSymbols f) ys) in
       length r ≤ limit
       → Delivered f r (placedFrom n (readingOf f) 0 xs ++ placedFrom n (readingOf f) (n * length xs + length d) ys)
   -- the beginning of a recording delivers a beginning of what the whole delivers: what is left out ends behind the cut
@@ -454,7 +454,7 @@ pub record Beyond : Type 0 where
       → IsFormat f
       → (rest : List (Found Reading))
       × (deliveryFrom f r 0 ≡ deliveryFrom f (take m r) 0 ++ rest)
-      × AllBehind (symbolsIn (shapeOf f)) m rest
+      × AllAfter (symbolsIn (shapeOf f)) m rest
   -- as many steps as there are spans give them, rows included, and every further step answers none and leaves the rows
   pub forEver :
       (f : Format) (r rows : List ℕ) (k p : ℕ)

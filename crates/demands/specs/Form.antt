@@ -15,7 +15,7 @@ use Rattle.span.specs.Content.{contentOf}
 use Rattle.span.specs.Format.{shapeOf, streams}
 use Rattle.span.specs.Numbers.{Samples}
 use Rattle.span.specs.Span.{spanSymbols, spanAfter}
-use Rattle.span.specs.Stream.{Asked, picture}
+use Rattle.span.specs.Stream.{Request, picture}
 use Rattle.window.specs.Encoded.{AreContent}
 use Rattle.delivery.specs.Delivery.{Found}
 use Rattle.recording.specs.declared.seek.Spanned.{Spanned}
@@ -34,26 +34,26 @@ pub record MaySend (f : Format) (n x : ℕ) : Type 0 where
 
 -- ---- refusals
 
--- a row of the table of refusals for a call: its number, what a good call has, and which place is answered where it has it not
+-- a rule of the table of refusals for a call: its number, what a good call has, and which place is answered where it has it not
 pub record Refusal : Type 1 where
   pub number : ℕ
   pub good : Type 0
   pub place : ℕ → Type 0
 
--- a row without a place
-abbrev pub row : ℕ → Type 0 → Refusal
-row number good = record { number = number; good = good; place = λ k. k ≡ 0 }
+-- a rule without a place
+abbrev pub rule : ℕ → Type 0 → Refusal
+rule number good = record { number = number; good = good; place = λ k. k ≡ 0 }
 
--- a row that asks n places: the lowest at which it does not hold is answered
-abbrev pub lowest : ℕ → ℕ → (ℕ → Type 0) → Refusal
-lowest number n Holds =
+-- a rule that asks n places: the ruleAt at which it does not hold is answered
+abbrev pub ruleAt : ℕ → ℕ → (ℕ → Type 0) → Refusal
+ruleAt number n Holds =
     record {
       number = number;
       good = (k : ℕ) → k < n → Holds k;
       place = λ k. (k < n) × (Holds k → ⊥) × ((j : ℕ) → j < k → Holds j);
     }
 
--- the rows in the order tried: a call that is not good for a row, and good for all before it, is answered that row's number and place; one
+-- the rows in the order tried: a call that is not good for a rule, and good for all before it, is answered that row's number and place; one
 -- that is good for all rows is not refused (what it is answered, its contract says)
 abbrev pub Tried : {A : Type 0} → Answer A → List Refusal → Type 0
 Tried {A} r [] = (a : A) × (r ≡ given a)
@@ -78,7 +78,7 @@ pub record Rows {A : Type 0} (r : Answer A) (entry makes exit : List ℕ) : Type
 -- a call of the sender: the disparity before, and what is asked for
 pub record Sending : Type 0 where
   pub before : Disparity
-  pub asked : Asked
+  pub asked : Request
 
 -- it was answered, into some room for symbols. Content bytes are bytes.
 pub record WasSent (f : Format) (x : Sending) : Type 0 where
@@ -88,8 +88,8 @@ pub record WasSent (f : Format) (x : Sending) : Type 0 where
   pub content : AreContent (contentOf f (x .asked .content))
 
 -- the symbols that it put there
-abbrev pub symbolsOf : Format → Sending → List ℕ
-symbolsOf f x = spanSymbols (x .before) f (x .asked)
+abbrev pub sentSymbols : Format → Sending → List ℕ
+sentSymbols f x = spanSymbols (x .before) f (x .asked)
 
 -- what is to be read of it: its line, its content bytes, both disparities, nothing repaired, and its picture words stream by stream
 abbrev pub readingOf : Format → Sending → Reading
@@ -107,13 +107,13 @@ readingOf f x =
     }
 
 -- ---- delivery by the calls: step by step with next span, from a place on, with rows that were lent; k steps at most
-abbrev pub stepOf : Option Spanned → List ℕ → List (Found Reading) → List (Found Reading)
-stepOf none words more = []
-stepOf (some s) words more = record { place = s .place; reading = record { values = s .delivery; words = words } } ∷ more
+abbrev pub spanFound : Option Spanned → List ℕ → List (Found Reading) → List (Found Reading)
+spanFound none words more = []
+spanFound (some s) words more = record { place = s .place; reading = record { values = s .delivery; words = words } } ∷ more
 
 abbrev pub onward : Answer (Option Spanned) → List ℕ → List (Found Reading) → List (Found Reading)
 onward (refused number place) words more = []
-onward (given o) words more = stepOf o words more
+onward (given o) words more = spanFound o words more
 
 -- the spans of a run of steps, up to the first that gives none
 abbrev pub spansOf : List Step → List (Found Reading)
@@ -129,6 +129,6 @@ Delivered f r list = (rows : List ℕ) → Samples f (length rows) → (k : ℕ)
 
 -- ---- the picture
 
--- the words of a row of samples: at depth 10 shifted by two
+-- the words of a rule of samples: at depth 10 shifted by two
 abbrev pub wordsFor : Format → List ℕ → List ℕ
-wordsFor f row = table (length row) (λ i. cond (eqb (f .depth) 10) (4 * getD row i 0) (getD row i 0))
+wordsFor f rule = table (length rule) (λ i. cond (eqb (f .depth) 10) (4 * getD rule i 0) (getD rule i 0))

@@ -8,13 +8,13 @@ use lib.ListN.{length, getD}
 use lib.Seq.{ext-getD}
 use Rattle.ground.specs.Answer.{given}
 use Rattle.ground.proofs.Writing.{is-table}
-use Rattle.picture.specs.Division.{imageAt, sampleIn, lineFrom, sampleFrom, w}
+use Rattle.picture.specs.Division.{imageAt, imageSample, lineFrom, sampleFrom, w}
 use Rattle.picture.specs.Place.{placedOf}
 use Rattle.dividing.specs.Row.{divided, joined}
 use Rattle.picture.proofs.Places.{found}
 use Rattle.dividing.proofs.Rows.{sample-divided, length-joined, sample-joined}
 use Rattle.picture.proofs.Steps.{sample-back}
-use Rattle.dividing.specs.Inside.Row.{rowBy}
+use Rattle.dividing.specs.Inside.Row.{rowWith}
 
 -- joining what was divided is the row
 module _ (n : ℕ) (row : List ℕ) (e : length row ≡ 2 * n) where
@@ -24,7 +24,7 @@ module _ (n : ℕ) (row : List ℕ) (e : length row ≡ 2 * n) where
   SameAt : ℕ → Type 0
   SameAt i = getD both i 0 ≡ getD row i 0
 
-  of-row : (c : ℕ) → c < 2 → rowBy c (divided 0 n row) (divided 1 n row) ≡ divided c n row
+  of-row : (c : ℕ) → c < 2 → rowWith c (divided 0 n row) (divided 1 n row) ≡ divided c n row
   of-row zero q = refl
   of-row (suc zero) q = refl
   of-row (suc (suc c)) q = absurd (omega arith)
@@ -49,12 +49,12 @@ module _ (n : ℕ) (row : List ℕ) (e : length row ≡ 2 * n) where
 pub split-join :
     (n : ℕ) (first second : List ℕ) (c : ℕ)
     → c < 2
-    → length (rowBy c first second) ≡ n
-    → divided c n (joined n first second) ≡ rowBy c first second
+    → length (rowWith c first second) ≡ n
+    → divided c n (joined n first second) ≡ rowWith c first second
 unfolding divided
 split-join n first second c q e =
     sym
-    (is-table n (λ j. getD (joined n first second) (2 * j + c) 0) 0 (rowBy c first second) e
+    (is-table n (λ j. getD (joined n first second) (2 * j + c) 0) 0 (rowWith c first second) e
     (λ j p. sym (sample-joined first second n j c p q)))
 
 module _ (n : ℕ) (row : List ℕ) where
@@ -65,10 +65,10 @@ module _ (n : ℕ) (row : List ℕ) where
 
   -- and every sample of a row goes to its place, whichever line it is
   pub goes-to :
-      (line k : ℕ) → k < 2 * n → getD (divided (w (imageAt line k)) n row) (sampleIn k) 0 ≡ getD row k 0
-  unfolding sampleIn
+      (line k : ℕ) → k < 2 * n → getD (divided (w (imageAt line k)) n row) (imageSample k) 0 ≡ getD row k 0
+  unfolding imageSample
   goes-to line k p =
-      comes-from (imageAt line k) (sampleIn k) (omega arith) ∙ ap (λ (i : ℕ). getD row i 0) (sample-back line k)
+      comes-from (imageAt line k) (imageSample k) (omega arith) ∙ ap (λ (i : ℕ). getD row i 0) (sample-back line k)
 
 -- both at once for a 4K picture: what the split puts at sample j of the row of image u, whose line l the row's line is, is the sample that
 -- the place call finds there

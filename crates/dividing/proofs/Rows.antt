@@ -10,7 +10,7 @@ use lib.Seq.{sets}
 use Rattle.ground.specs.Written.{upto, table}
 use Rattle.ground.proofs.Writing.{sets-whole, sets-upto, length-upto, getD-upto, length-table, getD-table}
 use Rattle.dividing.specs.Row.{divided, joined}
-use Rattle.dividing.specs.Inside.Row.{rowBy}
+use Rattle.dividing.specs.Inside.Row.{rowWith}
 
 -- what the loops do: nothing yet, then a sample or a pair more
 module _ (row : List ℕ) (w : ℕ) where
@@ -55,11 +55,11 @@ module _ (first second : List ℕ) where
   pub all-joined : (l : List ℕ) (n : ℕ) → length l ≡ 2 * n → sets l 0 (joined n first second) ≡ joined n first second
   all-joined l n e = sets-whole l (joined n first second) (length-joined n ∙ sym e)
 
-  of-pair : (j w : ℕ) → w < 2 → getD (pair j) w 0 ≡ getD (rowBy w first second) j 0
+  of-pair : (j w : ℕ) → w < 2 → getD (pair j) w 0 ≡ getD (rowWith w first second) j 0
   of-pair j zero q = refl
   of-pair j (suc zero) q = refl
   of-pair j (suc (suc w)) q = absurd (omega arith)
 
-  pub sample-joined : (n j w : ℕ) → j < n → w < 2 → getD (joined n first second) (2 * j + w) 0 ≡ getD (rowBy w first second) j 0
+  pub sample-joined : (n j w : ℕ) → j < n → w < 2 → getD (joined n first second) (2 * j + w) 0 ≡ getD (rowWith w first second) j 0
   unfolding joined
   sample-joined n j w p q = getD-upto 2 pair (λ m. refl) n j w 0 p q ∙ of-pair j w q

@@ -4,10 +4,10 @@ use Prim.Native.Nat.{ℕ, _*_, _<_}
 use mathlib.Core.Path.{_≡_}
 use mathlib.Core.List.{List}
 use lib.ListN.{length, getD}
-use Rattle.ground.specs.Inside.Answer.{OneToOne}
-use Rattle.picture.specs.Division.{imageAt, sampleIn, w, sampleFrom}
+use Rattle.ground.specs.Inside.Answer.{Injective}
+use Rattle.picture.specs.Division.{imageAt, imageSample, w, sampleFrom}
 use Rattle.dividing.specs.Row.{divided, joined, paperCopied}
-use Rattle.dividing.specs.Inside.Row.{rowBy}
+use Rattle.dividing.specs.Inside.Row.{rowWith}
 
 pub record DividingLaws : Type 0 where
   -- joining what was divided is the row (document 01, "Dividing a picture")
@@ -16,14 +16,14 @@ pub record DividingLaws : Type 0 where
   pub splitJoin :
       (n : ℕ) (first second : List ℕ) (c : ℕ)
       → c < 2
-      → length (rowBy c first second) ≡ n
-      → divided c n (joined n first second) ≡ rowBy c first second
+      → length (rowWith c first second) ≡ n
+      → divided c n (joined n first second) ≡ rowWith c first second
   -- what stands at sample j of the row that image u gets is the sample of the picture's row whose place is there (004, 5.3)
   pub comesFrom : (n : ℕ) (row : List ℕ) (u j : ℕ) → j < n → getD (divided (w u) n row) j 0 ≡ getD row (sampleFrom u j) 0
   -- and every sample of the row goes to its place, whichever line the row is: none is lost
   pub goesTo :
       (n : ℕ) (row : List ℕ) (line k : ℕ)
       → k < 2 * n
-      → getD (divided (w (imageAt line k)) n row) (sampleIn k) 0 ≡ getD row k 0
+      → getD (divided (w (imageAt line k)) n row) (imageSample k) 0 ≡ getD row k 0
   -- the paper's number tells any two answers apart, so that a promise about it fixes the answer
-  pub copiedTold : OneToOne paperCopied
+  pub copiedTold : Injective paperCopied

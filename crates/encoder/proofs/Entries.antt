@@ -11,12 +11,12 @@ use Rattle.ground.proofs.Writing.{getD-table}
 use Rattle.symbol.specs.declared.disparity.Disparity.{Disparity}
 use Rattle.symbol.specs.declared.disparity.Disparity.the-variants.{Negative, Positive}
 use Rattle.symbol.specs.Code.{symbolOf, afterOf}
-use Rattle.symbol.specs.Inside.Code.{turns}
-use Rattle.symbol.specs.Inside.Disparity.{turnedIf}
+use Rattle.symbol.specs.Inside.Code.{flips}
+use Rattle.symbol.specs.Inside.Disparity.{flippedIf}
 use Rattle.symbol.proofs.Ones.{turns-both}
 use Rattle.encoder.specs.declared.encode.Encoded.{Encoded}
 use Rattle.encoder.specs.Encode.{encoded}
-use Rattle.encoder.specs.Inside.Tables.{offsetOf, ofOffset, symbolTable, turnTable}
+use Rattle.encoder.specs.Inside.Tables.{offsetOf, ofOffset, symbolTable, flipTable}
 
 -- a disparity is told again from its offset
 pub offset-again : (d : Disparity) → ofOffset (offsetOf d) ≡ d
@@ -43,22 +43,22 @@ symbol-at d c h =
     place Negative = omega arith
     place Positive = omega arith
 
-pub turn-at : (c : ℕ) → c < 268 → getD turnTable c 0 ≡ cond (turns c) 268 0
-unfolding turnTable
-turn-at c h = getD-table 268 (λ c. cond (turns c) 268 0) c 0 h
+pub turn-at : (c : ℕ) → c < 268 → getD flipTable c 0 ≡ cond (flips c) 268 0
+unfolding flipTable
+turn-at c h = getD-table 268 (λ c. cond (flips c) 268 0) c 0 h
 
-pub turn-below : (c : ℕ) → c < 268 → getD turnTable c 0 ≤ 268
-turn-below c h = rw (turn-at c h) (either (turns c))
+pub turn-below : (c : ℕ) → c < 268 → getD flipTable c 0 ≤ 268
+turn-below c h = rw (turn-at c h) (either (flips c))
   where
     either : (t : Bool) → cond t 268 0 ≤ 268
     either true = omega arith
     either false = omega arith
 
 -- an exclusive or with a character's turn gives the offset of the disparity after it
-pub after-at : (d : Disparity) (c : ℕ) → c < 268 → bitXor (offsetOf d) (getD turnTable c 0) ≡ offsetOf (afterOf d c)
-after-at d c h = ap (bitXor (offsetOf d)) (turn-at c h) ∙ turned d (turns c) ∙ ap offsetOf (sym (turns-both d c h))
+pub after-at : (d : Disparity) (c : ℕ) → c < 268 → bitXor (offsetOf d) (getD flipTable c 0) ≡ offsetOf (afterOf d c)
+after-at d c h = ap (bitXor (offsetOf d)) (turn-at c h) ∙ turned d (flips c) ∙ ap offsetOf (sym (turns-both d c h))
   where
-    turned : (d : Disparity) (t : Bool) → bitXor (offsetOf d) (cond t 268 0) ≡ offsetOf (turnedIf t d)
+    turned : (d : Disparity) (t : Bool) → bitXor (offsetOf d) (cond t 268 0) ≡ offsetOf (flippedIf t d)
     turned Negative true = refl
     turned Negative false = refl
     turned Positive true = refl

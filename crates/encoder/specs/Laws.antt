@@ -6,12 +6,12 @@ use lib.Bits.{bitXor}
 use lib.ListN.{getD}
 use Rattle.symbol.specs.declared.disparity.Disparity.{Disparity}
 use Rattle.symbol.specs.Code.{symbolOf, afterOf}
-use Rattle.encoder.specs.Inside.Tables.{offsetOf, ofOffset, symbolTable, turnTable}
+use Rattle.encoder.specs.Inside.Tables.{offsetOf, ofOffset, symbolTable, flipTable}
 
 pub record EncoderLaws : Type 0 where
   -- behind the offset of a disparity stand the symbols of the characters at it
   pub symbolAt : (d : Disparity) (c : ℕ) → c < 268 → getD symbolTable (offsetOf d + c) 0 ≡ symbolOf d c
   -- the exclusive or of the offset with a character's turn is the offset of the disparity after it
-  pub afterAt : (d : Disparity) (c : ℕ) → c < 268 → bitXor (offsetOf d) (getD turnTable c 0) ≡ offsetOf (afterOf d c)
+  pub afterAt : (d : Disparity) (c : ℕ) → c < 268 → bitXor (offsetOf d) (getD flipTable c 0) ≡ offsetOf (afterOf d c)
   -- a disparity is told again from its offset
   pub offsetAgain : (d : Disparity) → ofOffset (offsetOf d) ≡ d

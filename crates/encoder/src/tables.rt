@@ -1,7 +1,7 @@
 // The encoder's tables. A disparity is kept as an offset: where its symbols begin.
 use symbol::disparity::Disparity;
 ghost use mathlib.Core.Path.{_≡_};
-ghost use Rattle.encoder.specs.Inside.Tables.{offsetOf, ofOffset, symbolTable, turnTable};
+ghost use Rattle.encoder.specs.Inside.Tables.{offsetOf, ofOffset, symbolTable, flipTable};
 
 // The symbols of all characters at negative disparity, then at positive; of each, the bytes and then the special characters in the order
 // of their numbers: K28.0 to K28.7, K23.7, K27.7, K29.7, K30.7.
@@ -825,7 +825,7 @@ pub fn symbol_table() -> [u16; 536]
 
 // The turns by value. The offset after a character is the exclusive or of the offset before it with its turn.
 pub fn turn_table() -> [u16; 268]
-    ensures { λ r. ⌜ r ≡ turnTable ⌝ }
+    ensures { λ r. ⌜ r ≡ flipTable ⌝ }
 {
     TURNS
 }

@@ -9,10 +9,10 @@ use lib.ListN.{length, getD, set, drop, drop-of-length-le}
 use lib.Seq.{sets}
 use Rattle.ground.proofs.Reading.{next-left}
 use Rattle.ground.proofs.Writing.{sets-whole, is-table}
-use Rattle.text.specs.Words.{wordAt, wordsOf}
+use Rattle.text.specs.Words.{wordInBytes, wordsInBytes}
 use Rattle.generate.specs.Generated.{lowFirst}
 
-word-again : (l : List ℕ) (i : ℕ) → i < length l → getD l i 0 ≡ wordAt (lowFirst l) i
+word-again : (l : List ℕ) (i : ℕ) → i < length l → getD l i 0 ≡ wordInBytes (lowFirst l) i
 unfolding lowFirst
 word-again [] i h = absurd (not-suc-le-zero h)
 word-again (x ∷ l) zero h = omega arith
@@ -23,8 +23,8 @@ word-again (x ∷ l) (suc i) h =
     word-again l i (le-of-suc-le-suc h) ∙ ap₂ (λ (j k : ℕ). getD bytes j 0 + getD bytes k 0 * 256) low high
 
 -- the words that a program reads from these bytes are the symbols
-pub read-again : (l : List ℕ) → wordsOf (length l) (lowFirst l) ≡ l
-read-again l = sym (is-table (length l) (wordAt (lowFirst l)) 0 l refl (word-again l))
+pub read-again : (l : List ℕ) → wordsInBytes (length l) (lowFirst l) ≡ l
+read-again l = sym (is-table (length l) (wordInBytes (lowFirst l)) 0 l refl (word-again l))
 
 -- ---- a run behind a run, and how long it is
 

@@ -13,18 +13,18 @@ use Rattle.span.specs.declared.format.Format.{Format}
 use Rattle.span.specs.Format.{isKnown, shapeOf, symbolsIn}
 use Rattle.span.specs.Span.{signalFrom, spanSymbols, spanAfter}
 use Rattle.span.proofs.Lengths.{length-of-symbols}
-use Rattle.text.specs.Words.{wordAt}
+use Rattle.text.specs.Words.{wordInBytes}
 use Rattle.generate.specs.declared.parameters.Parameters.{Parameters}
 use Rattle.generate.specs.Generated.{spanOn, spansFrom, written, generated}
-use Rattle.generate.specs.Parameters.{formatIn, countIn, isShort, wantedOf}
+use Rattle.generate.specs.Parameters.{wantedFormat, countIn, isShort, wantedOf}
 
 -- ---- six bytes
 
 -- what is wanted where all six are there
 abbrev wantedBy : List ℕ → Answer Parameters
 wantedBy l =
-    checked (unless 1 (isKnown (formatIn l)) ∷ unless 2 (isLine (wordAt l 1)) ∷ unless 3 (isShort l) ∷ [])
-    (record { format = formatIn l; first = record { 0 = wordAt l 1 }; count = countIn l })
+    checked (unless 1 (isKnown (wantedFormat l)) ∷ unless 2 (isLine (wordInBytes l 1)) ∷ unless 3 (isShort l) ∷ [])
+    (record { format = wantedFormat l; first = record { 0 = wordInBytes l 1 }; count = countIn l })
 
 all-there : (l : List ℕ) → 6 ≤ length l → wantedOf l ≡ wantedBy l
 all-there l h =

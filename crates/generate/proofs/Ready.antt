@@ -16,9 +16,9 @@ use Rattle.line.proofs.Lines.{after-is-line}
 use Rattle.span.specs.Format.{isKnown}
 use Rattle.generate.specs.declared.left.Left.{Left}
 use Rattle.generate.specs.declared.parameters.Parameters.{Parameters}
-use Rattle.generate.specs.Parameters.{formatIn, lineIn, parametersIn, rowsOf, wantedOf}
+use Rattle.generate.specs.Parameters.{wantedFormat, firstLineIn, parametersIn, refusalsIn, wantedOf}
 use Rattle.generate.specs.Pieces.{allOf, nothing, leftBy, leftOf, Ready}
-use Rattle.generate.specs.Inside.Pieces.{nextOf}
+use Rattle.generate.specs.Inside.Pieces.{nextLeft}
 use Rattle.generate.proofs.Wants.{meets-1, meets-2, meets-3}
 
 -- an answer is given or refused, not both
@@ -29,11 +29,11 @@ pub nothing-ready : Ready nothing
 nothing-ready = record { known = λ h. absurd (omega arith); line = λ h. absurd (omega arith) }
 
 module _ (input : List ℕ) where
-  known-told : {p : Parameters} → wantedOf input ≡ given p → isKnown (formatIn input) ≡ true
-  known-told g = on-test (isKnown (formatIn input)) (λ t. t) (λ t. absurd (apart g (meets-1 input t)))
+  known-told : {p : Parameters} → wantedOf input ≡ given p → isKnown (wantedFormat input) ≡ true
+  known-told g = on-test (isKnown (wantedFormat input)) (λ t. t) (λ t. absurd (apart g (meets-1 input t)))
 
-  line-told : {p : Parameters} → wantedOf input ≡ given p → isLine (lineIn input) ≡ true
-  line-told g = on-test (isLine (lineIn input)) (λ t. t) (λ t. absurd (apart g (meets-2 input (known-told g) t)))
+  line-told : {p : Parameters} → wantedOf input ≡ given p → isLine (firstLineIn input) ≡ true
+  line-told g = on-test (isLine (firstLineIn input)) (λ t. t) (λ t. absurd (apart g (meets-2 input (known-told g) t)))
 
   pub whole-told : {p : Parameters} → wantedOf input ≡ given p → 6 ≤ length input
   whole-told g =
@@ -43,7 +43,7 @@ module _ (input : List ℕ) where
   by-answer : (a : Answer Parameters) → wantedOf input ≡ a → Ready (leftBy a)
   by-answer (refused number place) e = nothing-ready
   by-answer (given p) e =
-      let is = given-is (rowsOf input) (parametersIn input) p e in
+      let is = given-is (refusalsIn input) (parametersIn input) p e in
       subst (λ (q : Parameters). Ready (allOf q)) is (record { known = λ _. known-told e; line = λ _. line-told e })
 
   -- at the start
@@ -51,5 +51,5 @@ module _ (input : List ℕ) where
   left-ready = by-answer (wantedOf input) refl
 
 -- behind every span
-pub next-ready : (s : Left) → Ready s → 0 < s .count → Ready (nextOf s)
+pub next-ready : (s : Left) → Ready s → 0 < s .count → Ready (nextLeft s)
 next-ready s r h = record { known = λ _. r .known h; line = λ _. after-is-line (s .line .0) }

@@ -13,7 +13,7 @@ use Rattle.span.specs.declared.content.Content.the-variants.{NoneNamed}
 use Rattle.span.specs.declared.format.Format.{Format}
 use Rattle.span.specs.Format.{isKnown, shapeOf, samplesIn, symbolsIn}
 use Rattle.span.specs.Span.{spanSymbols, spanAfter}
-use Rattle.send.specs.Send.{asked, sendOf, sentBuffer}
+use Rattle.send.specs.Send.{request, sendOf, sentBuffer}
 use Rattle.test_picture.specs.Putting.{samplesPut}
 use Rattle.test_picture.specs.TestPicture.{testSamples}
 use Rattle.test_picture.proofs.Puttings.{puts-samples}
@@ -26,18 +26,18 @@ module _ (d : Disparity) (f : Format) (n : ℕ) (known : isKnown f ≡ true) (li
     are-samples : samples ≡ testSamples f n
     are-samples = put ∙ sym (when-given entry (testSamples f n) (puts-samples f n entry known line long))
 
-    same-call : asked n NoneNamed samples ≡ spanOn f n
-    same-call = ap (asked n NoneNamed) are-samples
+    same-call : request n NoneNamed samples ≡ spanOn f n
+    same-call = ap (request n NoneNamed) are-samples
 
     module _ (before : List ℕ) (room : length before ≡ symbolsIn (shapeOf f)) where
       sent : sendOf d f (spanOn f n) (length before) ≡ given (spanAfter d f (spanOn f n))
       sent = ap (sendOf d f (spanOn f n)) room ∙ is-sent f n d NoneNamed known line
 
-      pub are-symbols : {symbols : List ℕ} → symbols ≡ sentBuffer d f (asked n NoneNamed samples) before → symbols ≡ spanSymbols d f (spanOn f n)
+      pub are-symbols : {symbols : List ℕ} → symbols ≡ sentBuffer d f (request n NoneNamed samples) before → symbols ≡ spanSymbols d f (spanOn f n)
       are-symbols e =
           e ∙ ap (λ a. sentBuffer d f a before) same-call ∙ sym (when-given before (spanSymbols d f (spanOn f n)) sent)
 
       pub is-after :
-          {answer : Answer Disparity} → answer ≡ sendOf d f (asked n NoneNamed samples) (length before)
+          {answer : Answer Disparity} → answer ≡ sendOf d f (request n NoneNamed samples) (length before)
           → afterOr d answer ≡ spanAfter d f (spanOn f n)
       is-after e = ap (afterOr d) (e ∙ ap (λ a. sendOf d f a (length before)) same-call ∙ sent)

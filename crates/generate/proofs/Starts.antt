@@ -14,9 +14,9 @@ use Rattle.text.proofs.Putting.{Put, put-told}
 use Rattle.generate.specs.declared.left.Left.{Left}
 use Rattle.generate.specs.declared.parameters.Parameters.{Parameters}
 use Rattle.generate.specs.declared.start.Start.{Start}
-use Rattle.generate.specs.Generated.{refusedText}
+use Rattle.generate.specs.Generated.{refusedWith}
 use Rattle.generate.specs.Parameters.{wantedOf}
-use Rattle.generate.specs.Pieces.{startText, startOf, allOf, nothing, leftBy, leftOf, Ready}
+use Rattle.generate.specs.Pieces.{startText, fileStart, allOf, nothing, leftBy, leftOf, Ready}
 use Rattle.generate.proofs.Ready.{whole-told, left-ready}
 
 -- what is promised of the start and of the buffer
@@ -24,12 +24,12 @@ abbrev pub Started : List ℕ → List ℕ → List ℕ → Start → Type 0
 Started input before after r =
     Counts (r .end) after
     × (Ready (r .left)
-    × ((r .end ≡ length (startOf input)) × ((r .left ≡ leftOf input) × (after ≡ sets before 0 (startOf input)))))
+    × ((r .end ≡ length (fileStart input)) × ((r .left ≡ leftOf input) × (after ≡ sets before 0 (fileStart input)))))
 
 module _ (input before : List ℕ) where
   started :
       {text after : List ℕ} {end : ℕ} {left : Left}
-      → startOf input ≡ text → length text ≤ length before → end ≡ length text → left ≡ leftOf input → after ≡ sets before 0 text
+      → fileStart input ≡ text → length text ≤ length before → end ≡ length text → left ≡ leftOf input → after ≡ sets before 0 text
       → Started input before after (record { end = end; left = left })
   started {text} {after} {end} {left} is room ends rest written =
       let same : length after ≡ length before = ap length written ∙ length-sets before 0 text in
@@ -44,7 +44,7 @@ module _ (input before : List ℕ) where
   -- a refusal
   pub refusal :
       {number : ℕ} {after : List ℕ} {r : Start} (text : List ℕ)
-      → wantedOf input ≡ refused number 0 → text ≡ refusedText number → length text ≤ length before
+      → wantedOf input ≡ refused number 0 → text ≡ refusedWith number → length text ≤ length before
       → r ≡ record { end = length text; left = nothing } → after ≡ sets before 0 text
       → Started input before after r
   refusal {after} text bad is room r written =
@@ -64,14 +64,14 @@ module _ (input before : List ℕ) where
       started (ap (startText input) good) (omega arith) (omega (arith, put .ends)) (rest ∙ sym (ap leftBy good)) (put .written)
 
 -- the texts, as they are written in the code
-pub text-1 : 114 ∷ 101 ∷ 102 ∷ 117 ∷ 115 ∷ 101 ∷ 100 ∷ 32 ∷ 49 ∷ 10 ∷ [] ≡ refusedText 1
+pub text-1 : 114 ∷ 101 ∷ 102 ∷ 117 ∷ 115 ∷ 101 ∷ 100 ∷ 32 ∷ 49 ∷ 10 ∷ [] ≡ refusedWith 1
 unfolding placesOf
 text-1 = refl
 
-pub text-2 : 114 ∷ 101 ∷ 102 ∷ 117 ∷ 115 ∷ 101 ∷ 100 ∷ 32 ∷ 50 ∷ 10 ∷ [] ≡ refusedText 2
+pub text-2 : 114 ∷ 101 ∷ 102 ∷ 117 ∷ 115 ∷ 101 ∷ 100 ∷ 32 ∷ 50 ∷ 10 ∷ [] ≡ refusedWith 2
 unfolding placesOf
 text-2 = refl
 
-pub text-3 : 114 ∷ 101 ∷ 102 ∷ 117 ∷ 115 ∷ 101 ∷ 100 ∷ 32 ∷ 51 ∷ 10 ∷ [] ≡ refusedText 3
+pub text-3 : 114 ∷ 101 ∷ 102 ∷ 117 ∷ 115 ∷ 101 ∷ 100 ∷ 32 ∷ 51 ∷ 10 ∷ [] ≡ refusedWith 3
 unfolding placesOf
 text-3 = refl

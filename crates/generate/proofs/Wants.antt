@@ -15,40 +15,40 @@ use Rattle.span.specs.declared.format.Format.{Format}
 use Rattle.span.specs.Format.{isKnown, shapeOf, symbolsIn}
 use Rattle.span.proofs.Formats.{unknown}
 use Rattle.recording.specs.Recording.{limit}
-use Rattle.text.specs.Words.{wordAt}
-use Rattle.generate.specs.Parameters.{formatIn, lineIn, countIn, parametersIn, wantedOf}
+use Rattle.text.specs.Words.{wordInBytes}
+use Rattle.generate.specs.Parameters.{wantedFormat, firstLineIn, countIn, parametersIn, wantedOf}
 
 module _ (input : List ℕ) where
   abbrev pub many : ℕ
-  many = countIn input * symbolsIn (shapeOf (formatIn input))
+  many = countIn input * symbolsIn (shapeOf (wantedFormat input))
 
   -- a byte that is missing is no depth
-  pub no-format : length input < 2 → isKnown (formatIn input) ≡ false
+  pub no-format : length input < 2 → isKnown (wantedFormat input) ≡ false
   no-format h =
       let missing : getD input 1 0 ≡ 0 = List·getD-eq-default input 0 (omega arith) in
-      unknown (formatIn input) (λ k. ⊎-elim (λ e. omega (arith, missing)) (λ e. omega (arith, missing)) (k .bits))
+      unknown (wantedFormat input) (λ k. ⊎-elim (λ e. omega (arith, missing)) (λ e. omega (arith, missing)) (k .bits))
 
-  pub no-line : length input < 4 → isLine (lineIn input) ≡ false
+  pub no-line : length input < 4 → isLine (firstLineIn input) ≡ false
   no-line h = simp (lt-ltb (length input) 4 h) (is-below 1 1125 0 (omega arith))
 
-  pub line-is : 4 ≤ length input → lineIn input ≡ wordAt input 1
+  pub line-is : 4 ≤ length input → firstLineIn input ≡ wordInBytes input 1
   line-is h = simp (le-ltb (length input) 4 h)
 
   -- what the tests told
-  pub known-is : {f : Format} {test is : Bool} → f ≡ formatIn input → test ≡ isKnown f → test ≡ is → isKnown (formatIn input) ≡ is
+  pub known-is : {f : Format} {test is : Bool} → f ≡ wantedFormat input → test ≡ isKnown f → test ≡ is → isKnown (wantedFormat input) ≡ is
   known-is e p q = sym (ap isKnown e) ∙ sym p ∙ q
 
-  pub line-is-line : {n : ℕ} {test is : Bool} → n ≡ lineIn input → test ≡ isLine n → test ≡ is → isLine (lineIn input) ≡ is
+  pub line-is-line : {n : ℕ} {test is : Bool} → n ≡ firstLineIn input → test ≡ isLine n → test ≡ is → isLine (firstLineIn input) ≡ is
   line-is-line e p q = sym (ap isLine e) ∙ sym p ∙ q
 
-  pub meets-1 : isKnown (formatIn input) ≡ false → wantedOf input ≡ refused 1 0
+  pub meets-1 : isKnown (wantedFormat input) ≡ false → wantedOf input ≡ refused 1 0
   meets-1 t = simp t
 
-  module _ (known : isKnown (formatIn input) ≡ true) where
-    pub meets-2 : isLine (lineIn input) ≡ false → wantedOf input ≡ refused 2 0
+  module _ (known : isKnown (wantedFormat input) ≡ true) where
+    pub meets-2 : isLine (firstLineIn input) ≡ false → wantedOf input ≡ refused 2 0
     meets-2 t = rw known (rw t refl)
 
-    module _ (line : isLine (lineIn input) ≡ true) where
+    module _ (line : isLine (firstLineIn input) ≡ true) where
       pub meets-3 : length input < 6 → wantedOf input ≡ refused 3 0
       meets-3 h = rw known (rw line (rw (lt-leb 6 (length input) h) refl))
 

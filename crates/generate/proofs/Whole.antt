@@ -11,19 +11,19 @@ use Rattle.span.specs.Span.{signalFrom, signal, spanSymbols, spanAfter}
 use Rattle.symbol.specs.declared.disparity.Disparity.{Disparity}
 use Rattle.generate.specs.declared.left.Left.{Left}
 use Rattle.generate.specs.declared.parameters.Parameters.{Parameters}
-use Rattle.generate.specs.Generated.{spanOn, spansFrom, lowFirst, refusedText, written, generated}
+use Rattle.generate.specs.Generated.{spanOn, spansFrom, lowFirst, refusedWith, written, generated}
 use Rattle.generate.specs.Parameters.{wantedOf}
-use Rattle.generate.specs.Pieces.{startText, startOf, leftBy, leftOf}
-use Rattle.generate.specs.Inside.Pieces.{restOf, spanBytes, nextOf}
+use Rattle.generate.specs.Pieces.{startText, fileStart, leftBy, leftOf}
+use Rattle.generate.specs.Inside.Pieces.{restOf, spanBytes, nextLeft}
 use Rattle.generate.proofs.LowFirst.{low-append}
 
 -- the start, and then what is left
 by-answer : (input : List ℕ) (a : Answer Parameters) → written input a ≡ startText input a ++ restOf (leftBy a)
 unfolding restOf spansFrom signalFrom lowFirst signal
-by-answer input (refused number place) = sym (append-nil (refusedText number))
+by-answer input (refused number place) = sym (append-nil (refusedWith number))
 by-answer input (given p) = refl
 
-pub pieces : (input : List ℕ) → generated input ≡ startOf input ++ restOf (leftOf input)
+pub pieces : (input : List ℕ) → generated input ≡ fileStart input ++ restOf (leftOf input)
 pieces input = by-answer input (wantedOf input)
 
 -- nothing where no span is left
@@ -43,11 +43,11 @@ module _ (d : Disparity) (f : Format) (n : ℕ) where
   unfolding spansFrom signalFrom
   one-more count = low-append span (signalFrom (spanAfter d f (spanOn f n)) f (spansFrom f (lineAfter n) count))
 
-pub next-piece : (s : Left) → 0 < s .count → restOf s ≡ spanBytes s ++ restOf (nextOf s)
+pub next-piece : (s : Left) → 0 < s .count → restOf s ≡ spanBytes s ++ restOf (nextLeft s)
 unfolding restOf spanBytes
 next-piece s h = go (s .count) refl
   where
-    go : (count : ℕ) → s .count ≡ count → restOf s ≡ spanBytes s ++ restOf (nextOf s)
+    go : (count : ℕ) → s .count ≡ count → restOf s ≡ spanBytes s ++ restOf (nextLeft s)
     go zero e = absurd (omega arith)
     go (suc count) e =
         let d = s .disparity in

@@ -9,8 +9,8 @@ use Rattle.line.specs.Stream.{lineAfter}
 use Rattle.span.specs.declared.content.Content.the-variants.{NoneNamed}
 use Rattle.span.specs.declared.format.Format.{Format}
 use Rattle.span.specs.Span.{signal}
-use Rattle.span.specs.Stream.{Asked}
-use Rattle.send.specs.Send.{asked}
+use Rattle.span.specs.Stream.{Request}
+use Rattle.send.specs.Send.{request}
 use Rattle.test_picture.specs.TestPicture.{testSamples}
 use Rattle.text.specs.Number.{decimal}
 use Rattle.text.specs.Put.{space, newline}
@@ -18,11 +18,11 @@ use Rattle.generate.specs.declared.parameters.Parameters.{Parameters}
 use Rattle.generate.specs.Parameters.{wantedOf}
 
 -- the span of a stream line: the test picture, no content bytes named
-abbrev pub spanOn : Format → ℕ → Asked
-spanOn f n = asked n NoneNamed (testSamples f n)
+abbrev pub spanOn : Format → ℕ → Request
+spanOn f n = request n NoneNamed (testSamples f n)
 
 -- those of so many lines, from one on, each on the line after the one before it
-unfoldable pub spansFrom : Format → ℕ → ℕ → List Asked
+unfoldable pub spansFrom : Format → ℕ → ℕ → List Request
 spansFrom f n zero = []
 spansFrom f n (suc count) = spanOn f n ∷ spansFrom f (lineAfter n) count
 
@@ -32,12 +32,12 @@ lowFirst [] = []
 lowFirst (symbol ∷ more) = symbol % 256 ∷ symbol / 256 ∷ lowFirst more
 
 -- "refused", the number of the refusal, newline
-abbrev pub refusedText : ℕ → List ℕ
-refusedText number = 114 ∷ 101 ∷ 102 ∷ 117 ∷ 115 ∷ 101 ∷ 100 ∷ space ∷ (decimal number ++ (newline ∷ []))
+abbrev pub refusedWith : ℕ → List ℕ
+refusedWith number = 114 ∷ 101 ∷ 102 ∷ 117 ∷ 115 ∷ 101 ∷ 100 ∷ space ∷ (decimal number ++ (newline ∷ []))
 
 -- the bytes of format and depth as they came, and the signal of the spans: the first from fresh disparity, which is handed on
 abbrev pub written : List ℕ → Answer Parameters → List ℕ
-written input (refused number place) = refusedText number
+written input (refused number place) = refusedWith number
 written input (given p) = take 2 input ++ lowFirst (signal (p .format) (spansFrom (p .format) (p .first .0) (p .count)))
 
 -- what is written for an input

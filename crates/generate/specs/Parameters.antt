@@ -10,20 +10,20 @@ use Rattle.line.specs.Stream.{isLine}
 use Rattle.span.specs.declared.format.Format.{Format}
 use Rattle.span.specs.Format.{formatFrom, isKnown, shapeOf, symbolsIn}
 use Rattle.recording.specs.Recording.{limit}
-use Rattle.text.specs.Words.{wordAt}
+use Rattle.text.specs.Words.{wordInBytes}
 use Rattle.generate.specs.declared.parameters.Parameters.{Parameters}
 
 -- a byte of format, a byte of depth; a byte that is missing is neither
-abbrev pub formatIn : List ℕ → Format
-formatIn input = formatFrom (getD input 0 0) (getD input 1 0)
+abbrev pub wantedFormat : List ℕ → Format
+wantedFormat input = formatFrom (getD input 0 0) (getD input 1 0)
 
 -- the first line, two bytes, low byte first; where one of them is missing it is line 0, which is none
-abbrev pub lineIn : List ℕ → ℕ
-lineIn input = cond (ltb (length input) 4) 0 (wordAt input 1)
+abbrev pub firstLineIn : List ℕ → ℕ
+firstLineIn input = cond (ltb (length input) 4) 0 (wordInBytes input 1)
 
 -- the number of spans, two bytes, low byte first
 abbrev pub countIn : List ℕ → ℕ
-countIn input = wordAt input 2
+countIn input = wordInBytes input 2
 
 -- whether all six are there; what follows them is ignored
 abbrev pub isWhole : List ℕ → Bool
@@ -31,15 +31,15 @@ isWhole input = leb 6 (length input)
 
 -- whether the finder takes a recording of that many spans
 abbrev pub isShort : List ℕ → Bool
-isShort input = leb (countIn input * symbolsIn (shapeOf (formatIn input))) limit
+isShort input = leb (countIn input * symbolsIn (shapeOf (wantedFormat input))) limit
 
 -- 1 for an unknown format or depth, 2 where the first line is not 1 to 1125, 3 where bytes are missing or the recording would be too long
-abbrev pub rowsOf : List ℕ → List Row
-rowsOf input =
-    unless 1 (isKnown (formatIn input)) ∷ unless 2 (isLine (lineIn input)) ∷ unless 3 (isWhole input && isShort input) ∷ []
+abbrev pub refusalsIn : List ℕ → List Row
+refusalsIn input =
+    unless 1 (isKnown (wantedFormat input)) ∷ unless 2 (isLine (firstLineIn input)) ∷ unless 3 (isWhole input && isShort input) ∷ []
 
 abbrev pub parametersIn : List ℕ → Parameters
-parametersIn input = record { format = formatIn input; first = record { 0 = lineIn input }; count = countIn input }
+parametersIn input = record { format = wantedFormat input; first = record { 0 = firstLineIn input }; count = countIn input }
 
 abbrev pub wantedOf : List ℕ → Answer Parameters
-wantedOf input = checked (rowsOf input) (parametersIn input)
+wantedOf input = checked (refusalsIn input) (parametersIn input)

@@ -11,16 +11,16 @@ use Rattle.symbol.specs.Disparity.{fresh}
 use Rattle.span.specs.Format.{formatFrom, isKnown}
 use Rattle.generate.specs.declared.left.Left.{Left}
 use Rattle.generate.specs.declared.parameters.Parameters.{Parameters}
-use Rattle.generate.specs.Generated.{refusedText}
+use Rattle.generate.specs.Generated.{refusedWith}
 use Rattle.generate.specs.Parameters.{wantedOf}
 
 -- the start: the bytes of format and depth, or that it is refused
 abbrev pub startText : List ℕ → Answer Parameters → List ℕ
-startText input (refused number place) = refusedText number
+startText input (refused number place) = refusedWith number
 startText input (given p) = take 2 input
 
-abbrev pub startOf : List ℕ → List ℕ
-startOf input = startText input (wantedOf input)
+abbrev pub fileStart : List ℕ → List ℕ
+fileStart input = startText input (wantedOf input)
 
 -- what is left behind it: all spans, from fresh disparity, or nothing
 abbrev pub allOf : Parameters → Left

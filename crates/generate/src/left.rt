@@ -10,7 +10,7 @@ ghost use lib.ListN.{length};
 ghost use Rattle.span.specs.Format.{shapeOf, samplesIn, symbolsIn};
 ghost use Rattle.send.specs.Send.{paperSent};
 ghost use Rattle.generate.specs.Pieces.{Ready};
-ghost use Rattle.generate.specs.Inside.Pieces.{spanBytes, nextOf, afterOr};
+ghost use Rattle.generate.specs.Inside.Pieces.{spanBytes, nextLeft, afterOr};
 
 // So many spans, the first on this line and from this disparity.
 pub(crate) struct Left {
@@ -41,7 +41,7 @@ pub(crate) fn put_next(s: Left, samples: &mut [u16], symbols: &mut [u16], out: &
     requires { ⌜ length (now samples) ≡ samplesIn (shapeOf (s .format)) ⌝ }
     requires { ⌜ length (now symbols) ≡ symbolsIn (shapeOf (s .format)) ⌝ }
     requires { ⌜ length (now out) ≡ 2 * symbolsIn (shapeOf (s .format)) ⌝ }
-    ensures next { λ r. ⌜ r ≡ nextOf s ⌝ }
+    ensures next { λ r. ⌜ r ≡ nextLeft s ⌝ }
     ensures bytes { λ _. ⌜ now (out .exit) ≡ spanBytes s ⌝ }
 {
     let format = s.format;

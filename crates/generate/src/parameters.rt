@@ -5,7 +5,7 @@ ghost use mathlib.Core.Path.{_≡_};
 ghost use mathlib.Core.Bool.{true};
 ghost use Rattle.line.specs.Stream.{isLine};
 ghost use Rattle.span.specs.Format.{isKnown};
-ghost use Rattle.generate.specs.Parameters.{formatIn, lineIn, wantedOf};
+ghost use Rattle.generate.specs.Parameters.{wantedFormat, firstLineIn, wantedOf};
 ghost use Rattle.generate.specs.Inside.Parameters.{paperWanted};
 
 pub(crate) struct Parameters {
@@ -26,10 +26,10 @@ pub(crate) enum Wanted {
 
 // Where format and line are good: the number of spans is left to tell.
 fn counted(format: Format, first: StreamLine, input: &[u8]) -> Wanted
-    requires { ⌜ format ≡ formatIn (now input) ⌝ }
-    requires { ⌜ first .0 ≡ lineIn (now input) ⌝ }
-    requires { ⌜ isKnown (formatIn (now input)) ≡ true ⌝ }
-    requires { ⌜ isLine (lineIn (now input)) ≡ true ⌝ }
+    requires { ⌜ format ≡ wantedFormat (now input) ⌝ }
+    requires { ⌜ first .0 ≡ firstLineIn (now input) ⌝ }
+    requires { ⌜ isKnown (wantedFormat (now input)) ≡ true ⌝ }
+    requires { ⌜ isLine (firstLineIn (now input)) ≡ true ⌝ }
     ensures { λ r. ⌜ paperWanted r ≡ wantedOf (now (input .entry)) ⌝ }
 {
     if input.len() < 6 {

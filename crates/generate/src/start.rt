@@ -7,7 +7,7 @@ ghost use Prim.Native.Nat.{_≤_};
 ghost use lib.ListN.{length};
 ghost use lib.Seq.{sets};
 ghost use Rattle.io.specs.Counts.{Counts};
-ghost use Rattle.generate.specs.Pieces.{startOf, allOf, nothing as none, leftOf, Ready};
+ghost use Rattle.generate.specs.Pieces.{fileStart, allOf, nothing as none, leftOf, Ready};
 
 // How many bytes it has, and what is left.
 pub(crate) struct Start {
@@ -60,9 +60,9 @@ pub(crate) fn put_start(input: &[u8], out: &mut [u8]) -> Start
     requires { ⌜ 10 ≤ length (now out) ⌝ }
     ensures counts { λ r. ⌜ Counts (r .end) (now (out .exit)) ⌝ }
     ensures ready { λ r. ⌜ Ready (r .left) ⌝ }
-    ensures end { λ r. ⌜ r .end ≡ length (startOf (now (input .entry))) ⌝ }
+    ensures end { λ r. ⌜ r .end ≡ length (fileStart (now (input .entry))) ⌝ }
     ensures left { λ r. ⌜ r .left ≡ leftOf (now (input .entry)) ⌝ }
-    ensures written { λ _. ⌜ now (out .exit) ≡ sets (now (out .entry)) 0 (startOf (now (input .entry))) ⌝ }
+    ensures written { λ _. ⌜ now (out .exit) ≡ sets (now (out .entry)) 0 (fileStart (now (input .entry))) ⌝ }
 {
     match crate::parameters::wanted_in(input) {
         Wanted::Recording(p) => {

@@ -6,13 +6,13 @@ use mathlib.Core.List.{List, [], _∷_}
 use mathlib.Core.Option.{Option, none, some}
 use Prim.Native.Nat.{ℕ}
 use Rattle.ground.specs.Answer.{Answer, refused, given, Row, checked, unlessRefused}
-use Rattle.ground.specs.Inside.Answer.{OneToOne}
+use Rattle.ground.specs.Inside.Answer.{Injective}
 
-pub same-answer : {A B : Type 0} {f : A → B} {a b : A} {x : B} → OneToOne f → f a ≡ x → f b ≡ x → a ≡ b
+pub same-answer : {A B : Type 0} {f : A → B} {a b : A} {x : B} → Injective f → f a ≡ x → f b ≡ x → a ≡ b
 same-answer {a} {b} h p q = h a b (p ∙ sym q)
 
 -- a reading from which the answer can be told again
-pub told-again : {A B : Type 0} {f : A → B} (g : B → A) → ((a : A) → g (f a) ≡ a) → OneToOne f
+pub told-again : {A B : Type 0} {f : A → B} (g : B → A) → ((a : A) → g (f a) ≡ a) → Injective f
 told-again g e a b p = sym (e a) ∙ ap g p ∙ e b
 
 -- what is given is what was asked for

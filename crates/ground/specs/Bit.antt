@@ -1,8 +1,13 @@
 -- One bit of a number, counted from the lowest, which is bit 0.
 -- Assumes nothing.
+use mathlib.Core.Bool.{Bool, cond}
 use Prim.Native.Nat.{ℕ, zero, suc, _+_, _-_, _*_, _/_, _%_}
 
 -- the number with bit k inverted
 unfoldable pub inverted : ℕ → ℕ → ℕ
 inverted zero n = n / 2 * 2 + (1 - n % 2)
 inverted (suc k) n = inverted k (n / 2) * 2 + n % 2
+
+-- a test as a number: 1 where it holds, else 0
+abbrev pub bit : Bool → ℕ
+bit b = cond b 1 0

@@ -12,11 +12,11 @@ use Rattle.ground.specs.Range.{within}
 use Rattle.ground.specs.Search.{firstBelow}
 use Rattle.ground.specs.Written.{table}
 use Rattle.ground.specs.Xor.{_⊕_}
-use Rattle.ground.specs.Inside.Answer.{OneToOne}
+use Rattle.ground.specs.Inside.Answer.{Injective}
 
 pub record GroundLaws : Type 1 where
   -- two answers that a one-to-one reading sends to one value are the same: a promise about the reading permits one answer
-  pub sameAnswer : {A B : Type 0} {f : A → B} {a b : A} {x : B} → OneToOne f → f a ≡ x → f b ≡ x → a ≡ b
+  pub sameAnswer : {A B : Type 0} {f : A → B} {a b : A} {x : B} → Injective f → f a ≡ x → f b ≡ x → a ≡ b
   -- what is given, whatever the rows that refuse, is what was asked for
   pub givenIs : {A : Type 0} (rs : List Row) (a b : A) → checked rs a ≡ given b → a ≡ b
   -- a lent buffer is as it was after a refusal, and what the call makes of it after a good call

@@ -7,7 +7,7 @@ use native.Mathlib.Omega.{arith}
 use lib.Dec.{ltb}
 use borrow.Author.Tests.{lt-ltb, ltb-true, ltb-false}
 use Rattle.ground.specs.Range.{within}
-use Rattle.ground.specs.Inside.Answer.{OneToOne}
+use Rattle.ground.specs.Inside.Answer.{Injective}
 use Rattle.ground.proofs.Answers.{told-again}
 use Rattle.ground.proofs.Cases.{on-test}
 use Rattle.ground.proofs.Ranges.{is-within, is-below, is-above, from-low, to-high}
@@ -15,7 +15,7 @@ use Rattle.line.specs.declared.stream.StreamLine.{StreamLine}
 use Rattle.line.specs.Stream.{isLine, isActive, vOf, lineAfter, lineBefore}
 
 -- a line is told by its number
-pub line-one-to-one : OneToOne (λ (l : StreamLine). l .0)
+pub line-one-to-one : Injective (λ (l : StreamLine). l .0)
 line-one-to-one = told-again (λ (n : ℕ). record { 0 = n }) (λ l. refl)
 
 -- table 5, as it is printed: V of each line

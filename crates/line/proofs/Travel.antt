@@ -4,7 +4,7 @@ use mathlib.Core.Path.{_≡_, refl}
 use mathlib.Core.Bool.{true}
 use Prim.Native.Nat.{ℕ, _+_, _-_, _≤_}
 use native.Mathlib.Omega.{arith}
-use Rattle.ground.specs.Inside.Answer.{OneToOne}
+use Rattle.ground.specs.Inside.Answer.{Injective}
 use Rattle.ground.proofs.Answers.{told-again}
 use Rattle.ground.proofs.Ranges.{is-within, from-low, to-high}
 use Rattle.line.specs.declared.picture.PictureLine.{PictureLine}
@@ -12,7 +12,7 @@ use Rattle.line.specs.Picture.{isBasicLine, streamLineOf, basicLineOf}
 use Rattle.line.specs.Stream.{isActive}
 
 -- a line is told by its number
-pub picture-one-to-one : OneToOne (λ (l : PictureLine). l .0)
+pub picture-one-to-one : Injective (λ (l : PictureLine). l .0)
 picture-one-to-one = told-again (λ (n : ℕ). record { 0 = n }) (λ l. refl)
 
 module _ (l : ℕ) (p : 1 ≤ l) (q : l ≤ 1080) where

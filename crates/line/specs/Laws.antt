@@ -3,7 +3,7 @@
 use Prim.Native.Nat.{ℕ, _+_, _≤_}
 use mathlib.Core.Path.{_≡_}
 use mathlib.Core.Bool.{true, false}
-use Rattle.ground.specs.Inside.Answer.{OneToOne}
+use Rattle.ground.specs.Inside.Answer.{Injective}
 use Rattle.line.specs.declared.picture.PictureLine.{PictureLine}
 use Rattle.line.specs.declared.stream.StreamLine.{StreamLine}
 use Rattle.line.specs.Picture.{streamLineOf, basicLineOf}
@@ -28,5 +28,5 @@ pub record LineLaws : Type 0 where
   pub thereAndBack : (l : ℕ) → 1 ≤ l → l ≤ 1080 → basicLineOf (streamLineOf l) ≡ l
   pub backAndThere : (n : ℕ) → 42 ≤ n → n ≤ 1121 → streamLineOf (basicLineOf n) ≡ n
   -- a line is told by its number, so that a promise about the number fixes the line
-  pub streamLineTold : OneToOne (λ (l : StreamLine). l .0)
-  pub pictureLineTold : OneToOne (λ (l : PictureLine). l .0)
+  pub streamLineTold : Injective (λ (l : StreamLine). l .0)
+  pub pictureLineTold : Injective (λ (l : PictureLine). l .0)

@@ -15,13 +15,13 @@ use Rattle.ground.specs.Written.{upto}
 use Rattle.ground.proofs.Searches.{hit}
 use Rattle.ground.proofs.Writing.{upto-more}
 use Rattle.text.specs.Number.{decimal, hexadecimal}
-use Rattle.text.specs.Words.{wordAt}
+use Rattle.text.specs.Words.{wordInBytes}
 use Rattle.text.proofs.Numbers.{length-digits, places-below, places-most-16}
 use Rattle.text.proofs.Putting.{Put, then, put-as}
 use Rattle.word.specs.declared.repair.Repaired.{Repaired}
 use Rattle.word.specs.Repair.{distance, legalWord, near, nearest, repairOf}
 use Rattle.word.specs.Word.{isWord}
-use Rattle.list_repairs.specs.Text.{outcome, lineText, lineCount, listed}
+use Rattle.list_repairs.specs.Text.{outcome, repairLine, lineCount, repairLines}
 
 -- how far a word was from the one it is repaired to
 abbrev pub distanceIn : Answer Repaired → ℕ
@@ -58,7 +58,7 @@ lineStart index w = decimal index ++ (32 ∷ []) ++ hexadecimal w ++ (32 ∷ [])
 pub start-most : (index w : ℕ) → index < 65536 → length (lineStart index w) ≤ 11
 start-most index w h = simp length-append (omega (arith, index-most index h))
 
-pub line-most : (index w : ℕ) → index < 65536 → length (lineText index w) ≤ 19
+pub line-most : (index w : ℕ) → index < 65536 → length (repairLine index w) ≤ 19
 line-most index w h =
     rw (length-append (lineStart index w) (outcome (repairOf w)))
     (omega (arith, start-most index w h, outcome-most (repairOf w) (near-enough w)))
@@ -66,21 +66,21 @@ line-most index w h =
 -- ---- one line after the other
 
 module _ (input : List ℕ) (from : ℕ) where
-  pub none-listed : (out : List ℕ) → Put out out 0 0 (listed input from 0)
+  pub none-listed : (out : List ℕ) → Put out out 0 0 (repairLines input from 0)
   unfolding upto
   none-listed out = record { written = refl; ends = refl }
 
   -- a line more, of the word that comes next
-  pub one-more : {out₀ out out₁ : List ℕ} {at end index w : ℕ} (i : ℕ) → Put out₀ out 0 at (listed input from i)
-      → end ≡ at + length (lineText index w) → out₁ ≡ sets out at (lineText index w) → index ≡ from + i → w ≡ wordAt input (from + i)
-      → Put out₀ out₁ 0 end (listed input from (i + 1))
+  pub one-more : {out₀ out out₁ : List ℕ} {at end index w : ℕ} (i : ℕ) → Put out₀ out 0 at (repairLines input from i)
+      → end ≡ at + length (repairLine index w) → out₁ ≡ sets out at (repairLine index w) → index ≡ from + i → w ≡ wordInBytes input (from + i)
+      → Put out₀ out₁ 0 end (repairLines input from (i + 1))
   one-more {out₀} {out} {out₁} {at} {end} {index} {w} i f ends written p q =
-      let g : Put out out₁ at end (lineText index w) = record { written = written; ends = ends } in
-      put-as (sym (upto-more i (λ k. lineText (from + k) (wordAt input (from + k))))) (then f (put-as (ap₂ lineText p q) g))
+      let g : Put out out₁ at end (repairLine index w) = record { written = written; ends = ends } in
+      put-as (sym (upto-more i (λ k. repairLine (from + k) (wordInBytes input (from + k))))) (then f (put-as (ap₂ repairLine p q) g))
 
-  pub listed-most : (i : ℕ) → i ≤ lineCount (length input) from → length (listed input from i) ≤ 19 * i
+  pub listed-most : (i : ℕ) → i ≤ lineCount (length input) from → length (repairLines input from i) ≤ 19 * i
   unfolding upto
   listed-most zero h = omega arith
   listed-most (suc i) h =
-      rw (length-append (listed input from i))
-      (omega (arith, listed-most i (omega arith), line-most (from + i) (wordAt input (from + i)) (omega arith)))
+      rw (length-append (repairLines input from i))
+      (omega (arith, listed-most i (omega arith), line-most (from + i) (wordInBytes input (from + i)) (omega arith)))

@@ -6,7 +6,7 @@ ghost use lib.ListN.{length};
 ghost use lib.Seq.{sets};
 ghost use Rattle.io.specs.Counts.{Counts};
 ghost use Rattle.word.specs.Repair.{repairOf};
-ghost use Rattle.list_repairs.specs.Text.{outcome, lineText, lineCount, listing};
+ghost use Rattle.list_repairs.specs.Text.{outcome, repairLine, lineCount, repairListing};
 
 // What becomes of a word, with the end of the line.
 fn put_outcome(w: u16, out: &mut [u8], at: usize) -> usize
@@ -29,8 +29,8 @@ fn put_outcome(w: u16, out: &mut [u8], at: usize) -> usize
 // The line of one word: its index, itself, and what becomes of it.
 fn put_line(index: u16, w: u16, out: &mut [u8], at: usize) -> usize
     requires { ⌜ at + 19 ≤ length (now out) ⌝ }
-    ensures end { λ r. ⌜ r ≡ at + length (lineText index w) ⌝ }
-    ensures written { λ _. ⌜ now (out .exit) ≡ sets (now (out .entry)) at (lineText index w) ⌝ }
+    ensures end { λ r. ⌜ r ≡ at + length (repairLine index w) ⌝ }
+    ensures written { λ _. ⌜ now (out .exit) ≡ sets (now (out .entry)) at (repairLine index w) ⌝ }
 {
     let a = text::number::put_decimal(index as u64, out, at);
     let b = text::put::put_text(b" ", out, a);
@@ -54,8 +54,8 @@ fn line_count(len: usize, from: usize) -> usize
 pub(crate) fn put_lines(input: &[u8], from: usize, out: &mut [u8]) -> usize
     requires { ⌜ 38912 ≤ length (now out) ⌝ }
     ensures counts { λ r. ⌜ Counts r (now (out .exit)) ⌝ }
-    ensures end { λ r. ⌜ r ≡ length (listing (now (input .entry)) from) ⌝ }
-    ensures written { λ _. ⌜ now (out .exit) ≡ sets (now (out .entry)) 0 (listing (now (input .entry)) from) ⌝ }
+    ensures end { λ r. ⌜ r ≡ length (repairListing (now (input .entry)) from) ⌝ }
+    ensures written { λ _. ⌜ now (out .exit) ≡ sets (now (out .entry)) 0 (repairListing (now (input .entry)) from) ⌝ }
 {
     let count = line_count(input.len(), from);
     let mut at = 0;

@@ -10,7 +10,7 @@ use Rattle.text.specs.Number.{decimal}
 use Rattle.text.specs.Put.{endOf, putOf}
 use Rattle.text.proofs.Numbers.{length-digits, length-decimal-most, places-most-16}
 use Rattle.text.proofs.Putting.{Put, then, put-length, put-told}
-use Rattle.list_spans.specs.Listing.{lineText}
+use Rattle.list_spans.specs.Listing.{spanLine}
 
 -- what a call that puts a text promises
 abbrev pub Puts : List ℕ → List ℕ → ℕ → ℕ → List ℕ → Type 0
@@ -23,7 +23,7 @@ module _ (place number : ℕ) (small : place < 2 ^ 64) (smaller : number < 65536
       → Puts p q a b (32 ∷ [])
       → Puts q t b c (decimal number)
       → Puts t u c end (10 ∷ [])
-      → (end ≡ at + length (lineText place number)) × ((end ≤ at + 27) × (u ≡ sets o at (lineText place number)))
+      → (end ≡ at + length (spanLine place number)) × ((end ≤ at + 27) × (u ≡ sets o at (spanLine place number)))
   line-put p q t {u} a b c {end} f g h k =
       let most = length-decimal-most place small in
       let least : length (decimal number) ≤ 5 = rw length-digits (places-most-16 number smaller) in

@@ -1,4 +1,4 @@
--- Which case of the listing an input is, and that it is what was put.
+-- Which case of the spanListing an input is, and that it is what was put.
 -- Assumes nothing.
 use mathlib.Core.Path.{_≡_, refl, sym, ap, ap₂, _∙_}
 use mathlib.Core.Bool.{true, false}
@@ -15,35 +15,35 @@ use Rattle.span.specs.Format.{isKnown, shapeOf, samplesIn, symbolsIn}
 use Rattle.span.proofs.Formats.{small}
 use Rattle.recording.specs.Recording.{deliveryFrom}
 use Rattle.text.specs.Put.{endOf, putOf}
-use Rattle.text.specs.Words.{countOf, wordsOf}
+use Rattle.text.specs.Words.{countOf, wordsInBytes}
 use Rattle.text.proofs.Putting.{Put, put-told}
 use Rattle.text.proofs.WordsRead.{words-read}
-use Rattle.list_spans.specs.Listing.{linesOf, refusedText, formatIn, symbolsOf, listing}
+use Rattle.list_spans.specs.Listing.{linesOf, refusedFormat, formatIn, recordedSymbols, spanListing}
 
 -- ---- which case it is
 
 module _ (input : List ℕ) where
-  pub too-short : length input < 2 → listing input ≡ refusedText
+  pub too-short : length input < 2 → spanListing input ≡ refusedFormat
   too-short h = simp (lt-ltb (length input) 2 h)
 
   module _ (enough : 2 ≤ length input) where
-    pub unknown : {f : Format} → f ≡ formatIn input → isKnown f ≡ false → listing input ≡ refusedText
+    pub unknown : {f : Format} → f ≡ formatIn input → isKnown f ≡ false → spanListing input ≡ refusedFormat
     unknown is t = simp (le-ltb (length input) 2 enough, sym (ap isKnown is) ∙ t)
 
-    pub known : {f : Format} → f ≡ formatIn input → isKnown f ≡ true → listing input ≡ linesOf (deliveryFrom f (symbolsOf input) 0)
+    pub known : {f : Format} → f ≡ formatIn input → isKnown f ≡ true → spanListing input ≡ linesOf (deliveryFrom f (recordedSymbols input) 0)
     known is t =
-        simp (le-ltb (length input) 2 enough, sym (ap isKnown is) ∙ t) (ap (λ (g : Format). linesOf (deliveryFrom g (symbolsOf input) 0)) (sym is))
+        simp (le-ltb (length input) 2 enough, sym (ap isKnown is) ∙ t) (ap (λ (g : Format). linesOf (deliveryFrom g (recordedSymbols input) 0)) (sym is))
 
     -- the symbols, read into a row of 32,767 words
     pub symbols-are : (row : List ℕ) {words : List ℕ} (n : ℕ) → length row ≡ 32767
         → n ≡ countOf (length row) (length (take (length input - 2) (drop 2 input)))
-        → words ≡ sets row 0 (wordsOf n (take (length input - 2) (drop 2 input)))
-        → take n words ≡ symbolsOf input
+        → words ≡ sets row 0 (wordsInBytes n (take (length input - 2) (drop 2 input)))
+        → take n words ≡ recordedSymbols input
     symbols-are row {words} n room count read =
         let part = take (length input - 2) (drop 2 input) in
         let bytes : part ≡ drop 2 input = take-all (length input - 2) (drop 2 input) (omega (arith, length-drop 2 input)) in
         let many : n ≡ countOf 32767 (length (drop 2 input)) = omega (arith, ap length bytes) in
-        ap (take n) read ∙ words-read n row part (omega arith) ∙ ap₂ wordsOf many bytes
+        ap (take n) read ∙ words-read n row part (omega arith) ∙ ap₂ wordsInBytes many bytes
 
 -- a span has no more samples, whatever its format
 pub few-samples : (f : Format) {l : SpanLengths} → l ≡ record { samples = samplesIn (shapeOf f); symbols = symbolsIn (shapeOf f) } → l .samples ≤ 7680
@@ -53,17 +53,17 @@ few-samples f e = omega (arith, ap (λ (k : SpanLengths). k .samples) e, small f
 
 -- what is promised of the buffer and the number of bytes
 abbrev pub Listed : List ℕ → List ℕ → List ℕ → ℕ → Type 0
-Listed input before after r = Counts r after × ((r ≡ length (listing input)) × (after ≡ sets before 0 (listing input)))
+Listed input before after r = Counts r after × ((r ≡ length (spanListing input)) × (after ≡ sets before 0 (spanListing input)))
 
-pub listed : (input before : List ℕ) {text after : List ℕ} {r : ℕ} → listing input ≡ text → r ≤ length before → r ≡ length text
+pub listed : (input before : List ℕ) {text after : List ℕ} {r : ℕ} → spanListing input ≡ text → r ≤ length before → r ≡ length text
     → after ≡ sets before 0 text → Listed input before after r
 listed input before {text} {after} {r} is room end written =
     let same : length after ≡ length before = ap length written ∙ length-sets before 0 text in
     let most : r ≤ length after = omega arith in
     ((most, sym (length-take-le r after most)), (end ∙ ap length (sym is), written ∙ ap (sets before 0) (sym is)))
 
-pub refusal : (input before : List ℕ) {after : List ℕ} {r : ℕ} → listing input ≡ refusedText → 65536 ≤ length before
-    → r ≡ endOf (length before) 0 refusedText → after ≡ putOf before 0 refusedText → Listed input before after r
+pub refusal : (input before : List ℕ) {after : List ℕ} {r : ℕ} → spanListing input ≡ refusedFormat → 65536 ≤ length before
+    → r ≡ endOf (length before) 0 refusedFormat → after ≡ putOf before 0 refusedFormat → Listed input before after r
 refusal input before {after} {r} is room end written =
-    let put : Put before after 0 r refusedText = put-told refusedText (omega arith) end written in
+    let put : Put before after 0 r refusedFormat = put-told refusedFormat (omega arith) end written in
     listed input before is (omega (arith, put .ends)) (put .ends) (put .written)

@@ -11,7 +11,7 @@ use Rattle.span.proofs.Lengths.{known-has-streams}
 use Rattle.recording.specs.declared.seek.Spanned.{Spanned}
 use Rattle.recording.specs.Recording.{limit, deliveryFrom}
 use Rattle.recording.proofs.OneStep.{Stepped}
-use Rattle.list_spans.specs.Listing.{lineOf, linesOf}
+use Rattle.list_spans.specs.Listing.{lineOfSpan, linesOf}
 
 -- a recording of so many symbols is short enough for the call
 pub within-limit : (k : ℕ) → k ≤ 32767 → k ≤ limit
@@ -22,6 +22,6 @@ pub line-shorter : (f : Format) → isKnown f ≡ true → 27 ≤ symbolsIn (sha
 line-shorter f known = omega (arith, known-has-streams f known)
 
 pub first-line : {f : Format} {r : List ℕ} {start : ℕ} {rows : List ℕ} {s : Spanned} {after : ℕ} → Stepped f r start rows s after
-    → linesOf (deliveryFrom f r start) ≡ lineOf s ++ linesOf (deliveryFrom f r after)
+    → linesOf (deliveryFrom f r start) ≡ lineOfSpan s ++ linesOf (deliveryFrom f r after)
 first-line {f} {r} {start} {rows} {s} {after} step =
-    ap linesOf (step .delivers) ∙ ap (λ (t : Spanned). lineOf t ++ linesOf (deliveryFrom f r after)) (sym (step .is))
+    ap linesOf (step .delivers) ∙ ap (λ (t : Spanned). lineOfSpan t ++ linesOf (deliveryFrom f r after)) (sym (step .is))

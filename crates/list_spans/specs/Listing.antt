@@ -12,35 +12,35 @@ use Rattle.recording.specs.declared.seek.Spanned.{Spanned}
 use Rattle.recording.specs.Recording.{Reading, deliveryFrom}
 use Rattle.text.specs.Number.{decimal}
 use Rattle.text.specs.Put.{space, newline}
-use Rattle.text.specs.Words.{countOf, wordsOf}
+use Rattle.text.specs.Words.{countOf, wordsInBytes}
 
 -- place and line number, decimal, one space between
-abbrev pub lineText : ℕ → ℕ → List ℕ
-lineText place number = decimal place ++ (space ∷ (decimal number ++ (newline ∷ [])))
+abbrev pub spanLine : ℕ → ℕ → List ℕ
+spanLine place number = decimal place ++ (space ∷ (decimal number ++ (newline ∷ [])))
 
 -- the line of a span
-abbrev pub lineOf : Spanned → List ℕ
-lineOf s = lineText (s .place) (s .delivery .line .0)
+abbrev pub lineOfSpan : Spanned → List ℕ
+lineOfSpan s = spanLine (s .place) (s .delivery .line .0)
 
 -- one line for each span delivered
 abbrev pub linesOf : List (Found Reading) → List ℕ
 linesOf [] = []
-linesOf (e ∷ more) = lineOf (record { place = e .place; delivery = e .reading .values }) ++ linesOf more
+linesOf (e ∷ more) = lineOfSpan (record { place = e .place; delivery = e .reading .values }) ++ linesOf more
 
 -- "refused 1"
-abbrev pub refusedText : List ℕ
-refusedText = 114 ∷ 101 ∷ 102 ∷ 117 ∷ 115 ∷ 101 ∷ 100 ∷ 32 ∷ 49 ∷ newline ∷ []
+abbrev pub refusedFormat : List ℕ
+refusedFormat = 114 ∷ 101 ∷ 102 ∷ 117 ∷ 115 ∷ 101 ∷ 100 ∷ 32 ∷ 49 ∷ newline ∷ []
 
 -- the input: one byte of format, one byte of depth
 abbrev pub formatIn : List ℕ → Format
 formatIn input = formatFrom (getD input 0 0) (getD input 1 0)
 
 -- and then symbols, low byte first, at most 32,767 of them; an odd last byte and what follows that many are ignored
-abbrev pub symbolsOf : List ℕ → List ℕ
-symbolsOf input = wordsOf (countOf 32767 (length (drop 2 input))) (drop 2 input)
+abbrev pub recordedSymbols : List ℕ → List ℕ
+recordedSymbols input = wordsInBytes (countOf 32767 (length (drop 2 input))) (drop 2 input)
 
 -- what is printed: the lines of all that is delivered; where the input is shorter than two bytes, or the format or depth unknown, that it is refused
-abbrev pub listing : List ℕ → List ℕ
-listing input =
-    cond (ltb (length input) 2) refusedText
-    (cond (isKnown (formatIn input)) (linesOf (deliveryFrom (formatIn input) (symbolsOf input) 0)) refusedText)
+abbrev pub spanListing : List ℕ → List ℕ
+spanListing input =
+    cond (ltb (length input) 2) refusedFormat
+    (cond (isKnown (formatIn input)) (linesOf (deliveryFrom (formatIn input) (recordedSymbols input) 0)) refusedFormat)

@@ -9,14 +9,14 @@ ghost use lib.Seq.{sets};
 ghost use Rattle.io.specs.Counts.{Counts};
 ghost use Rattle.span.specs.Format.{isKnown, shapeOf, samplesIn};
 ghost use Rattle.recording.specs.Recording.{deliveryFrom};
-ghost use Rattle.list_spans.specs.Listing.{lineText, linesOf, listing};
+ghost use Rattle.list_spans.specs.Listing.{spanLine, linesOf, spanListing};
 
 // The line of one span: its place and its line number, of at most 20 digits and 5.
 fn put_line(place: usize, number: u16, out: &mut [u8], at: usize) -> usize
     requires { ⌜ at + 27 ≤ length (now out) ⌝ }
-    ensures end { λ r. ⌜ r ≡ at + length (lineText place number) ⌝ }
+    ensures end { λ r. ⌜ r ≡ at + length (spanLine place number) ⌝ }
     ensures most { λ r. ⌜ r ≤ at + 27 ⌝ }
-    ensures written { λ _. ⌜ now (out .exit) ≡ sets (now (out .entry)) at (lineText place number) ⌝ }
+    ensures written { λ _. ⌜ now (out .exit) ≡ sets (now (out .entry)) at (spanLine place number) ⌝ }
 {
     let a = text::number::put_decimal(place as u64, out, at);
     let b = text::put::put_text(b" ", out, a);
@@ -57,8 +57,8 @@ fn put_spans(f: Format, symbols: &[u16], rows: &mut [u16], out: &mut [u8]) -> us
 pub(crate) fn put_listing(input: &[u8], out: &mut [u8]) -> usize
     requires { ⌜ 65536 ≤ length (now out) ⌝ }
     ensures counts { λ r. ⌜ Counts r (now (out .exit)) ⌝ }
-    ensures end { λ r. ⌜ r ≡ length (listing (now (input .entry))) ⌝ }
-    ensures written { λ _. ⌜ now (out .exit) ≡ sets (now (out .entry)) 0 (listing (now (input .entry))) ⌝ }
+    ensures end { λ r. ⌜ r ≡ length (spanListing (now (input .entry))) ⌝ }
+    ensures written { λ _. ⌜ now (out .exit) ≡ sets (now (out .entry)) 0 (spanListing (now (input .entry))) ⌝ }
 {
     if input.len() < 2 {
         return text::put::put_text(b"refused 1\n", out, 0);

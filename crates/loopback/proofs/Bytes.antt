@@ -14,73 +14,73 @@ use Rattle.ground.specs.Written.{upto}
 use Rattle.ground.proofs.Reading.{next-left}
 use Rattle.ground.proofs.Writing.{upto-more}
 use Rattle.line.specs.Stream.{isActive}
-use Rattle.rig.specs.Frame.{lineIn}
+use Rattle.rig.specs.Frame.{lineOfPiece}
 use Rattle.text.specs.Put.{endOf, putOf}
 use Rattle.text.proofs.Putting.{Put, then, put-length, put-as, put-told}
-use Rattle.loopback.specs.File.{bytesOf, header, rowsOf, pieceBytes}
+use Rattle.loopback.specs.File.{highFirst, header, rowsOfLine, pieceBytes}
 
-pub length-bytes : (l : List ℕ) → length (bytesOf l) ≡ 2 * length l
-unfolding bytesOf
+pub length-bytes : (l : List ℕ) → length (highFirst l) ≡ 2 * length l
+unfolding highFirst
 length-bytes [] = refl
 length-bytes (w ∷ l) = omega (arith, length-bytes l)
 
 -- ---- a loop over words: what is left, put behind what is there, is the whole
 module _ (words out : List ℕ) (at i : ℕ) where
   abbrev left : List ℕ
-  left = sets out (at + 2 * i) (bytesOf (drop i words))
+  left = sets out (at + 2 * i) (highFirst (drop i words))
 
   pub word-put : i < length words → (high low : ℕ) → high ≡ getD words i 0 / 256 → low ≡ getD words i 0 % 256
-      → sets (set (set out (at + 2 * i) high) (at + 2 * i + 1) low) (at + 2 * (i + 1)) (bytesOf (drop (i + 1) words)) ≡ left
-  unfolding bytesOf
+      → sets (set (set out (at + 2 * i) high) (at + 2 * i + 1) low) (at + 2 * (i + 1)) (highFirst (drop (i + 1) words)) ≡ left
+  unfolding highFirst
   word-put h high low e f =
       let p = at + 2 * i in
       let q : at + 2 * (i + 1) ≡ suc (suc p) = omega arith in
       let next : p + 1 ≡ suc p = add-one p in
-      ap (λ (k : ℕ). sets (set (set out p high) (p + 1) low) k (bytesOf (drop (i + 1) words))) q
-      ∙ ap (λ (k : ℕ). sets (set (set out p high) k low) (suc (suc p)) (bytesOf (drop (i + 1) words))) next
-      ∙ ap₂ (λ (x y : ℕ). sets out p (x ∷ y ∷ bytesOf (drop (i + 1) words))) e f
-      ∙ ap (λ (l : List ℕ). sets out p (bytesOf l)) (sym (next-left words i 0 h))
+      ap (λ (k : ℕ). sets (set (set out p high) (p + 1) low) k (highFirst (drop (i + 1) words))) q
+      ∙ ap (λ (k : ℕ). sets (set (set out p high) k low) (suc (suc p)) (highFirst (drop (i + 1) words))) next
+      ∙ ap₂ (λ (x y : ℕ). sets out p (x ∷ y ∷ highFirst (drop (i + 1) words))) e f
+      ∙ ap (λ (l : List ℕ). sets out p (highFirst l)) (sym (next-left words i 0 h))
 
   pub words-put : length words ≤ i → out ≡ left
-  unfolding bytesOf
-  words-put h = ap (λ (l : List ℕ). sets out (at + 2 * i) (bytesOf l)) (sym (drop-of-length-le words h))
+  unfolding highFirst
+  words-put h = ap (λ (l : List ℕ). sets out (at + 2 * i) (highFirst l)) (sym (drop-of-length-le words h))
 
-pub no-word-put : (words out : List ℕ) (at : ℕ) → sets out (at + 2 * 0) (bytesOf (drop 0 words)) ≡ sets out at (bytesOf words)
-no-word-put words out at = ap (λ (k : ℕ). sets out k (bytesOf words)) (add-zero at)
+pub no-word-put : (words out : List ℕ) (at : ℕ) → sets out (at + 2 * 0) (highFirst (drop 0 words)) ≡ sets out at (highFirst words)
+no-word-put words out at = ap (λ (k : ℕ). sets out k (highFirst words)) (add-zero at)
 
 -- ---- the lines of a piece
 module _ (piece : ℕ) (picture : List ℕ) where
   -- the bytes of line i
   abbrev pub lineBytes : ℕ → List ℕ
-  lineBytes i = cond (isActive (lineIn piece i)) (bytesOf (rowsOf picture i)) []
+  lineBytes i = cond (isActive (lineOfPiece piece i)) (highFirst (rowsOfLine picture i)) []
 
   pub no-line : (out : List ℕ) → Put out out 0 0 (upto 0 lineBytes)
   unfolding upto
   no-line out = record { written = refl; ends = refl }
 
   module _ (i : ℕ) where
-    with-line : (b : Bool) → isActive (lineIn piece i) ≡ b → upto i lineBytes ++ cond b (bytesOf (rowsOf picture i)) [] ≡ upto (i + 1) lineBytes
+    with-line : (b : Bool) → isActive (lineOfPiece piece i) ≡ b → upto i lineBytes ++ cond b (highFirst (rowsOfLine picture i)) [] ≡ upto (i + 1) lineBytes
     with-line b t =
-        ap (λ (c : Bool). upto i lineBytes ++ cond c (bytesOf (rowsOf picture i)) []) (sym t)
+        ap (λ (c : Bool). upto i lineBytes ++ cond c (highFirst (rowsOfLine picture i)) []) (sym t)
         ∙ sym (upto-more i lineBytes)
 
     -- its rows, as the code takes them out and puts their bytes
     rows-put : {before after : List ℕ} {at end : ℕ} → let rows = take (7680 * i + 7680 - 7680 * i) (drop (7680 * i) picture) in
-        end ≡ at + 2 * length rows → after ≡ sets before at (bytesOf rows) → Put before after at end (bytesOf (rowsOf picture i))
+        end ≡ at + 2 * length rows → after ≡ sets before at (highFirst rows) → Put before after at end (highFirst (rowsOfLine picture i))
     rows-put {before} {after} {at} {end} ends written =
         let q : 7680 * i + 7680 - 7680 * i ≡ 7680 = omega arith in
         let is = ap (λ (n : ℕ). take n (drop (7680 * i) picture)) q in
         record {
-          written = written ∙ ap (λ (l : List ℕ). sets before at (bytesOf l)) is;
-          ends = omega (arith, ends, ap length is, length-bytes (rowsOf picture i));
+          written = written ∙ ap (λ (l : List ℕ). sets before at (highFirst l)) is;
+          ends = omega (arith, ends, ap length is, length-bytes (rowsOfLine picture i));
         }
 
-    pub active-put : {before between after : List ℕ} {at end : ℕ} → isActive (lineIn piece i) ≡ true → Put before between 0 at (upto i lineBytes)
+    pub active-put : {before between after : List ℕ} {at end : ℕ} → isActive (lineOfPiece piece i) ≡ true → Put before between 0 at (upto i lineBytes)
         → let rows = take (7680 * i + 7680 - 7680 * i) (drop (7680 * i) picture) in
-        end ≡ at + 2 * length rows → after ≡ sets between at (bytesOf rows) → Put before after 0 end (upto (i + 1) lineBytes)
+        end ≡ at + 2 * length rows → after ≡ sets between at (highFirst rows) → Put before after 0 end (upto (i + 1) lineBytes)
     active-put t done ends written = put-as (with-line true t) (then done (rows-put ends written))
 
-    pub blank-put : {before between after : List ℕ} {at end : ℕ} → isActive (lineIn piece i) ≡ false → Put before between 0 at (upto i lineBytes)
+    pub blank-put : {before between after : List ℕ} {at end : ℕ} → isActive (lineOfPiece piece i) ≡ false → Put before between 0 at (upto i lineBytes)
         → end ≡ at → after ≡ between → Put before after 0 end (upto (i + 1) lineBytes)
     blank-put t done ends same =
         put-as (sym (append-nil (upto i lineBytes)) ∙ with-line false t) (record { written = same ∙ done .written; ends = ends ∙ done .ends })

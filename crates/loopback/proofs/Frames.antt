@@ -15,7 +15,7 @@ use Rattle.symbol.specs.declared.disparity.Disparity.{Disparity}
 use Rattle.rig.specs.declared.knock.Knock.{Knock}
 use Rattle.rig.specs.declared.carry.Carried.{Carried}
 use Rattle.rig.specs.declared.carry.Carried.the-variants.{After}
-use Rattle.rig.specs.Frame.{lineIn}
+use Rattle.rig.specs.Frame.{lineOfPiece}
 use Rattle.rig.specs.Piece.{heardIn, paperCarried, carryOf}
 use Rattle.rig.specs.Sending.{afterFrom}
 use Rattle.rig.proofs.Carrying.{carries}
@@ -69,10 +69,10 @@ pub handed-on : (piece : ℕ) (before d : Disparity) (heard : List ℕ) (picture
     → paperCarried r ≡ carryOf piece d (length (flagsOf heard piece)) picture
     → after ≡ afterFrom before 1 (5 * (piece + 1))
 handed-on piece before d heard picture {r} {after} there long room so-far is answered =
-    let given-is : given after ≡ given (afterFrom d (lineIn piece 0) 5) =
+    let given-is : given after ≡ given (afterFrom d (lineOfPiece piece 0) 5) =
     sym (ap paperCarried is) ∙ answered ∙ carries piece d (length (flagsOf heard piece)) picture there (five-flags heard piece long there) room in
-    let after-is : after ≡ afterFrom d (lineIn piece 0) 5 = cc given-is in
-    let p : lineIn piece 0 ≡ 1 + 5 * piece = omega arith in
+    let after-is : after ≡ afterFrom d (lineOfPiece piece 0) 5 = cc given-is in
+    let p : lineOfPiece piece 0 ≡ 1 + 5 * piece = omega arith in
     let q : 5 * piece + 5 ≡ 5 * (piece + 1) = omega arith in
     after-is
     ∙ ap₂ (λ (e : Disparity) (n : ℕ). afterFrom e n 5) so-far p

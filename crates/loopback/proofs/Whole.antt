@@ -15,11 +15,11 @@ use Rattle.line.specs.Picture.{basicLineOf}
 use Rattle.line.specs.Stream.{isActive}
 use Rattle.test_picture.specs.TestPicture.{testRow}
 use Rattle.rig.specs.declared.knock.Knock.{Knock}
-use Rattle.rig.specs.Frame.{lineIn}
+use Rattle.rig.specs.Frame.{lineOfPiece}
 use Rattle.rig.specs.Knock.{lost}
 use Rattle.rig.specs.Piece.{black, rowsAt, pictureIn, heardIn}
 use Rattle.rig.proofs.Outcomes.{length-rows}
-use Rattle.loopback.specs.File.{bytesOf, header, rowsOf, pieceBytes, fileOf, rowShown}
+use Rattle.loopback.specs.File.{highFirst, header, rowsOfLine, pieceBytes, fileOf, rowShown}
 use Rattle.loopback.specs.Frame.{heardOf}
 
 -- ---- pieces one after the other
@@ -56,39 +56,39 @@ pub heard-is : (k : Knock) → heardOf k ≡ table 1125 (λ i. cond (lost k (i +
 unfolding heardIn table
 heard-is k =
     upto-same 225 (heardIn k) (λ p. upto 5 (λ i. flag (5 * p + i)))
-    (λ p b. upto-same 5 (λ i. cond (lost k (lineIn p i)) 0 1 ∷ []) (λ i. flag (5 * p + i)) (λ i h. by-line p i))
+    (λ p b. upto-same 5 (λ i. cond (lost k (lineOfPiece p i)) 0 1 ∷ []) (λ i. flag (5 * p + i)) (λ i h. by-line p i))
     ∙ grouped 5 225 flag
   where
     flag : ℕ → List ℕ
     flag j = cond (lost k (j + 1)) 0 1 ∷ []
 
-    by-line : (p i : ℕ) → _≡_ {A = List ℕ} (cond (lost k (lineIn p i)) 0 1 ∷ []) (cond (lost k (5 * p + i + 1)) 0 1 ∷ [])
-    by-line p i = let q : lineIn p i ≡ 5 * p + i + 1 = omega arith in ap (λ (n : ℕ). cond (lost k n) 0 1 ∷ []) q
+    by-line : (p i : ℕ) → _≡_ {A = List ℕ} (cond (lost k (lineOfPiece p i)) 0 1 ∷ []) (cond (lost k (5 * p + i + 1)) 0 1 ∷ [])
+    by-line p i = let q : lineOfPiece p i ≡ 5 * p + i + 1 = omega arith in ap (λ (n : ℕ). cond (lost k n) 0 1 ∷ []) q
 
 -- ---- the file
 
-bytes-append : (a b : List ℕ) → bytesOf (a ++ b) ≡ bytesOf a ++ bytesOf b
-unfolding bytesOf
+bytes-append : (a b : List ℕ) → highFirst (a ++ b) ≡ highFirst a ++ highFirst b
+unfolding highFirst
 bytes-append [] b = refl
 bytes-append (w ∷ a) b = ap (λ (l : List ℕ). w / 256 ∷ w % 256 ∷ l) (bytes-append a b)
 
 -- two rows, which are black or not together
 two-rows : (b : Bool) (odd even : List ℕ)
-    → bytesOf (cond b black (odd ++ even)) ≡ bytesOf (cond b (replicate 3840 0) odd) ++ bytesOf (cond b (replicate 3840 0) even)
+    → highFirst (cond b black (odd ++ even)) ≡ highFirst (cond b (replicate 3840 0) odd) ++ highFirst (cond b (replicate 3840 0) even)
 two-rows true odd even =
-    ap bytesOf (sym (replicate-append-replicate 3840 3840 0)) ∙ bytes-append (replicate 3840 0) (replicate 3840 0)
+    ap highFirst (sym (replicate-append-replicate 3840 3840 0)) ∙ bytes-append (replicate 3840 0) (replicate 3840 0)
 two-rows false odd even = bytes-append odd even
 
 module _ (k : Knock) where
   -- what is written of stream line n, and of picture line i + 1
   abbrev lineBytes : ℕ → List ℕ
-  lineBytes n = cond (isActive n) (bytesOf (rowsAt k n)) []
+  lineBytes n = cond (isActive n) (highFirst (rowsAt k n)) []
 
   abbrev rowBytes : ℕ → List ℕ
-  rowBytes i = bytesOf (rowShown k (i + 1))
+  rowBytes i = highFirst (rowShown k (i + 1))
 
   of-blanking : (n : ℕ) → (42 ≤ n → n ≤ 1121 → ⊥) → lineBytes n ≡ []
-  of-blanking n x = let t : isActive n ≡ false = not-within 42 1121 n x in ap (λ (b : Bool). cond b (bytesOf (rowsAt k n)) []) t
+  of-blanking n x = let t : isActive n ≡ false = not-within 42 1121 n x in ap (λ (b : Bool). cond b (highFirst (rowsAt k n)) []) t
 
   -- line l + 42 carries picture lines 2l + 1 and 2l + 2
   of-active : (l : ℕ) → l < 1080 → lineBytes (41 + l + 1) ≡ upto 2 (λ i. rowBytes (2 * l + i))
@@ -100,12 +100,12 @@ module _ (k : Knock) where
       let even : 2 * basicLineOf n ≡ 2 * l + 1 + 1 = simp t (omega arith) in
       let first : n ≡ 41 + (2 * l + 0 + 1 + 1) / 2 = omega arith in
       let second : n ≡ 41 + (2 * l + 1 + 1 + 1) / 2 = omega arith in
-      ap (λ (b : Bool). cond b (bytesOf (rowsAt k n)) []) t
-      ∙ ap (λ (b : Bool). bytesOf (cond (lost k n) black (cond b (testRow (2 * basicLineOf n - 1) ++ testRow (2 * basicLineOf n)) black))) t
+      ap (λ (b : Bool). cond b (highFirst (rowsAt k n)) []) t
+      ∙ ap (λ (b : Bool). highFirst (cond (lost k n) black (cond b (testRow (2 * basicLineOf n - 1) ++ testRow (2 * basicLineOf n)) black))) t
       ∙ two-rows (lost k n) (testRow (2 * basicLineOf n - 1)) (testRow (2 * basicLineOf n))
       ∙ ap₂ (λ (x y : List ℕ). x ++ y)
-      (ap₂ (λ (m y : ℕ). bytesOf (cond (lost k m) (replicate 3840 0) (testRow y))) first odd)
-      (ap₂ (λ (m y : ℕ). bytesOf (cond (lost k m) (replicate 3840 0) (testRow y))) second even)
+      (ap₂ (λ (m y : ℕ). highFirst (cond (lost k m) (replicate 3840 0) (testRow y))) first odd)
+      (ap₂ (λ (m y : ℕ). highFirst (cond (lost k m) (replicate 3840 0) (testRow y))) second even)
 
   -- the bytes of a piece are those of its lines
   of-piece : (piece : ℕ) → pieceBytes piece (pictureIn k piece) ≡ upto 5 (λ i. lineBytes (5 * piece + i + 1))
@@ -113,10 +113,10 @@ module _ (k : Knock) where
   of-piece piece =
       upto-same 5 _ (λ i. lineBytes (5 * piece + i + 1))
       (λ i h.
-      let rows : rowsOf (pictureIn k piece) i ≡ rowsAt k (lineIn piece i) =
-      part-of 7680 5 i (λ j. rowsAt k (lineIn piece j)) (λ j. length-rows k (lineIn piece j)) h in
-      let q : lineIn piece i ≡ 5 * piece + i + 1 = omega arith in
-      ap (λ (l : List ℕ). cond (isActive (lineIn piece i)) (bytesOf l) []) rows ∙ ap lineBytes q)
+      let rows : rowsOfLine (pictureIn k piece) i ≡ rowsAt k (lineOfPiece piece i) =
+      part-of 7680 5 i (λ j. rowsAt k (lineOfPiece piece j)) (λ j. length-rows k (lineOfPiece piece j)) h in
+      let q : lineOfPiece piece i ≡ 5 * piece + i + 1 = omega arith in
+      ap (λ (l : List ℕ). cond (isActive (lineOfPiece piece i)) (highFirst l) []) rows ∙ ap lineBytes q)
 
   all-lines : upto 1125 (λ j. lineBytes (j + 1)) ≡ upto 1080 (λ l. lineBytes (41 + l + 1))
   all-lines =
@@ -129,7 +129,7 @@ module _ (k : Knock) where
       ∙ append-nil (upto 1080 (λ j. lineBytes (41 + j + 1))))
 
   -- the file is the header and 2,160 rows, each two bytes a word
-  pub file-is : fileOf k ≡ header ++ upto 2160 (λ i. bytesOf (rowShown k (i + 1)))
+  pub file-is : fileOf k ≡ header ++ upto 2160 (λ i. highFirst (rowShown k (i + 1)))
   file-is =
       ap (λ (l : List ℕ). header ++ l)
       (upto-same 225 (λ piece. pieceBytes piece (pictureIn k piece)) (λ p. upto 5 (λ i. lineBytes (5 * p + i + 1))) (λ p h. of-piece p)

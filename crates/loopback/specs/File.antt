@@ -7,27 +7,27 @@ use lib.ListN.{take, drop, replicate}
 use Rattle.ground.specs.Written.{upto}
 use Rattle.line.specs.Stream.{isActive}
 use Rattle.rig.specs.declared.knock.Knock.{Knock}
-use Rattle.rig.specs.Frame.{lineIn}
+use Rattle.rig.specs.Frame.{lineOfPiece}
 use Rattle.rig.specs.Knock.{lost}
 use Rattle.rig.specs.Piece.{pictureIn}
 use Rattle.test_picture.specs.TestPicture.{testRow}
 
 -- each word is two bytes, the high byte first
-unfoldable pub bytesOf : List ℕ → List ℕ
-bytesOf [] = []
-bytesOf (w ∷ words) = w / 256 ∷ w % 256 ∷ bytesOf words
+unfoldable pub highFirst : List ℕ → List ℕ
+highFirst [] = []
+highFirst (w ∷ words) = w / 256 ∷ w % 256 ∷ highFirst words
 
 -- "P5", width and height, the largest value, a line each
 abbrev pub header : List ℕ
 header = 80 ∷ 53 ∷ 10 ∷ 51 ∷ 56 ∷ 52 ∷ 48 ∷ 32 ∷ 50 ∷ 49 ∷ 54 ∷ 48 ∷ 10 ∷ 52 ∷ 48 ∷ 57 ∷ 53 ∷ 10 ∷ []
 
 -- the two rows of line i of a piece, of its ten
-abbrev pub rowsOf : List ℕ → ℕ → List ℕ
-rowsOf picture i = take 7680 (drop (7680 * i) picture)
+abbrev pub rowsOfLine : List ℕ → ℕ → List ℕ
+rowsOfLine picture i = take 7680 (drop (7680 * i) picture)
 
 -- of a piece, the rows of its active lines are written
 unfoldable pub pieceBytes : ℕ → List ℕ → List ℕ
-pieceBytes piece picture = upto 5 (λ i. cond (isActive (lineIn piece i)) (bytesOf (rowsOf picture i)) [])
+pieceBytes piece picture = upto 5 (λ i. cond (isActive (lineOfPiece piece i)) (highFirst (rowsOfLine picture i)) [])
 
 -- the file: the header, and then piece after piece
 abbrev pub fileOf : Knock → List ℕ

@@ -21,6 +21,6 @@ abbrev pub afterFrame : Disparity
 afterFrame = afterFrom fresh 1 1125
 
 -- what is told by flags and an answer where all of it was written
-abbrev pub Told : Knock → Written → List ℕ → Type 0
-Told k (All after) heard = (heard ≡ heardOf k) × (after ≡ afterFrame)
-Told k Stopped heard = Unit
+abbrev pub FrameTold : Knock → Written → List ℕ → Type 0
+FrameTold k (All after) heard = (heard ≡ heardOf k) × (after ≡ afterFrame)
+FrameTold k Stopped heard = Unit

@@ -7,7 +7,7 @@ use mathlib.Core.List.{_++_}
 use Rattle.ground.specs.Written.{upto, table}
 use Rattle.rig.specs.declared.knock.Knock.{Knock}
 use Rattle.rig.specs.Knock.{lost}
-use Rattle.loopback.specs.File.{bytesOf, header, fileOf, rowShown}
+use Rattle.loopback.specs.File.{highFirst, header, fileOf, rowShown}
 use Rattle.loopback.specs.Frame.{heardOf}
 use Rattle.loopback.specs.Input.{millisecond}
 
@@ -19,4 +19,4 @@ pub record LoopbackLaws : Type 0 where
   -- the flags are those of lines 1 to 1125: 0 for a line that is lost, else 1
   pub heardIs : (k : Knock) → heardOf k ≡ table 1125 (λ i. cond (lost k (i + 1)) 0 1)
   -- the file is the header and 2,160 rows, each two bytes a word: those of the test picture, black where their line is lost
-  pub fileIs : (k : Knock) → fileOf k ≡ header ++ upto 2160 (λ i. bytesOf (rowShown k (i + 1)))
+  pub fileIs : (k : Knock) → fileOf k ≡ header ++ upto 2160 (λ i. highFirst (rowShown k (i + 1)))

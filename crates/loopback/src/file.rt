@@ -4,7 +4,7 @@ ghost use Prim.Native.Nat.{_+_, _*_, _≤_, _<_};
 ghost use lib.ListN.{length};
 ghost use lib.Seq.{sets};
 ghost use Rattle.io.specs.Counts.{Counts};
-ghost use Rattle.loopback.specs.File.{bytesOf, header, pieceBytes};
+ghost use Rattle.loopback.specs.File.{highFirst, header, pieceBytes};
 
 // The header: the kind of file, the picture's width and height, the largest value.
 pub(crate) fn put_header(out: &mut [u8]) -> usize
@@ -20,7 +20,7 @@ pub(crate) fn put_header(out: &mut [u8]) -> usize
 fn put_words(words: &[u16], out: &mut [u8], at: usize) -> usize
     requires { ⌜ at + 2 * length (now words) ≤ length (now out) ⌝ }
     ensures end { λ r. ⌜ r ≡ at + 2 * length (now (words .entry)) ⌝ }
-    ensures written { λ _. ⌜ now (out .exit) ≡ sets (now (out .entry)) at (bytesOf (now (words .entry))) ⌝ }
+    ensures written { λ _. ⌜ now (out .exit) ≡ sets (now (out .entry)) at (highFirst (now (words .entry))) ⌝ }
 {
     let mut i = 0;
     while i < words.len() {

@@ -5,7 +5,7 @@ use symbol::disparity::Disparity;
 ghost use mathlib.Core.Path.{_≡_};
 ghost use Prim.Native.Nat.{_≤_};
 ghost use lib.ListN.{length};
-ghost use Rattle.loopback.specs.Frame.{Told};
+ghost use Rattle.loopback.specs.Frame.{FrameTold};
 
 pub(crate) enum Written {
     // All of the picture, with the disparity after the frame.
@@ -25,7 +25,7 @@ pub(crate) fn write_frame(
     requires { ⌜ length (now heard) ≡ 1125 ⌝ }
     requires { ⌜ length (now picture) ≡ 38400 ⌝ }
     requires { ⌜ 76800 ≤ length (now bytes) ⌝ }
-    ensures { λ r. ⌜ Told k r (now (heard .exit)) ⌝ }
+    ensures { λ r. ⌜ FrameTold k r (now (heard .exit)) ⌝ }
 {
     let mut d = symbol::disparity::before_fresh_signal();
     let mut piece = 0;

@@ -13,7 +13,7 @@ use Rattle.ground.specs.Search.{firstBelow}
 use Rattle.ground.proofs.Searches.{is-only}
 use Rattle.ground.proofs.Tests.{both-left, both-right}
 use Rattle.packing.specs.declared.bytes.ThreeBytes.{ThreeBytes}
-use Rattle.packing.specs.Bytes.{bytesOf, sameBytes, wordsOf, packedOf}
+use Rattle.packing.specs.Bytes.{bytesOf, sameBytes, unpacked, packedOf}
 use Rattle.word.proofs.Words.{both-words, not-both-words}
 
 -- a byte and four bits above it
@@ -81,21 +81,21 @@ module _ (t : ThreeBytes) (h : AreBytes t) where
       omega arith
 
   -- the words of three bytes, worked out
-  pub words-are : wordsOf t ≡ record { a = wordA; b = wordB }
-  unfolding wordsOf
+  pub words-are : unpacked t ≡ record { a = wordA; b = wordB }
+  unfolding unpacked
   words-are =
       let e : firstBelow 16777216 test ≡ some at =
       is-only test 16777216 at (omega (arith, h .first-below, h .second-below, h .third-below)) found only in
       simp (e, first-word, second-word)
 
   -- and out of all of them as one number
-  pub words-together : {n : ℕ} → n ≡ t .first + t .second * 256 + t .third * 65536 → wordsOf t ≡ record { a = n % 4096; b = n / 4096 }
+  pub words-together : {n : ℕ} → n ≡ t .first + t .second * 256 + t .third * 65536 → unpacked t ≡ record { a = n % 4096; b = n / 4096 }
   words-together {n} e =
       let a : wordA ≡ n % 4096 = omega (arith, h .first-below, h .second-below, h .third-below) in
       let b : wordB ≡ n / 4096 = omega (arith, h .first-below, h .second-below, h .third-below) in
       rw (words-are, a, b)
 
-  pub pack-unpack : bytesOf (wordsOf t .a) (wordsOf t .b) ≡ t
+  pub pack-unpack : bytesOf (unpacked t .a) (unpacked t .b) ≡ t
   pack-unpack = rw words-are whole
 
 pub are-bytes : (a b : ℕ) → AreBytes (bytesOf a b)
@@ -103,7 +103,7 @@ unfolding bytesOf
 are-bytes a b = record { first-below = omega arith; second-below = omega arith; third-below = omega arith }
 
 module _ (a b : ℕ) (p : a < 4096) (q : b < 4096) where
-  pub unpack-pack : wordsOf (bytesOf a b) ≡ record { a = a; b = b }
+  pub unpack-pack : unpacked (bytesOf a b) ≡ record { a = a; b = b }
   unfolding bytesOf
   unpack-pack =
       let high : (b % 16 * 16 + a / 256 % 16) % 16 ≡ a / 256 % 16 = omega arith in

@@ -26,8 +26,8 @@ abbrev pub pair : ℕ → TwoWords
 pair n = record { a = n % 4096; b = n / 4096 }
 
 -- the words whose bytes these are: the inverse of bytesOf
-unfoldable pub wordsOf : ThreeBytes → TwoWords
-wordsOf t = pair (Option·getD (firstBelow 16777216 (λ n. sameBytes (bytesOf (n % 4096) (n / 4096)) t)) 0)
+unfoldable pub unpacked : ThreeBytes → TwoWords
+unpacked t = pair (Option·getD (firstBelow 16777216 (λ n. sameBytes (bytesOf (n % 4096) (n / 4096)) t)) 0)
 
 -- the paper's number and values for each answer
 abbrev pub paperPacked : Packed → Answer ThreeBytes

@@ -6,13 +6,13 @@ use lib.Dec.{eqb}
 use Rattle.ground.specs.Range.{within}
 
 -- the samples that may be sent at a depth of so many bits
-abbrev pub allowed : ℕ → ℕ → Bool
-allowed depth x = cond (eqb depth 10) (within 4 1019 x) (cond (eqb depth 12) (within 16 4079 x) false)
+abbrev pub allowedAtDepth : ℕ → ℕ → Bool
+allowedAtDepth depth x = cond (eqb depth 10) (within 4 1019 x) (cond (eqb depth 12) (within 16 4079 x) false)
 
 -- 004, 6.1: at ten bits a sample is shifted left by two, the low bits zero; at twelve it is the word itself. A word has twelve bits, so
 -- of a number that has more, and may not be sent, the low ones count
-abbrev pub sampleWord : ℕ → ℕ → ℕ
-sampleWord depth x = cond (eqb depth 10) (x * 4) x % 4096
+abbrev pub wordAtDepth : ℕ → ℕ → ℕ
+wordAtDepth depth x = cond (eqb depth 10) (x * 4) x % 4096
 
 -- the words that may be received: 16 to 4079, and at ten bits the low two bits zero
 abbrev pub allowedWord : ℕ → ℕ → Bool

@@ -1,6 +1,6 @@
 // Two words as three bytes, and back (004, 7.1; document 01, "A span").
 ghost use mathlib.Core.Path.{_≡_};
-ghost use Rattle.packing.specs.Bytes.{bytesOf, wordsOf, paperPacked, packedOf};
+ghost use Rattle.packing.specs.Bytes.{bytesOf, unpacked, paperPacked, packedOf};
 
 pub struct ThreeBytes {
     pub first: u8,
@@ -45,7 +45,7 @@ pub fn pack(a: u16, b: u16) -> Packed
 
 // The words of three bytes: all of them as one number, the second word above the first.
 pub fn unpack(t: ThreeBytes) -> TwoWords
-    ensures { λ r. ⌜ r ≡ wordsOf t ⌝ }
+    ensures { λ r. ⌜ r ≡ unpacked t ⌝ }
 {
     let both = t.first as u32 + t.second as u32 * 256 + t.third as u32 * 65536;
     TwoWords {

@@ -1,10 +1,10 @@
 // Samples and the words that carry them (004, 6.1).
 ghost use mathlib.Core.Path.{_≡_};
-ghost use Rattle.packing.specs.Sample.{allowed, sampleWord, allowedWord};
+ghost use Rattle.packing.specs.Sample.{allowedAtDepth, wordAtDepth, allowedWord};
 
 // Whether a sample may be sent at a depth; at a depth that is neither 10 nor 12, none may.
 pub fn allowed_sample(depth: u8, x: u16) -> bool
-    ensures { λ r. ⌜ r ≡ allowed depth x ⌝ }
+    ensures { λ r. ⌜ r ≡ allowedAtDepth depth x ⌝ }
 {
     if depth == 10 {
         return ground::range::within(4, 1019, x);
@@ -17,7 +17,7 @@ pub fn allowed_sample(depth: u8, x: u16) -> bool
 
 // The word of a sample, of which as many bits count as the depth has.
 pub fn sample_word(depth: u8, x: u16) -> u16
-    ensures { λ r. ⌜ r ≡ sampleWord depth x ⌝ }
+    ensures { λ r. ⌜ r ≡ wordAtDepth depth x ⌝ }
 {
     if depth == 10 {
         return x % 1024 * 4;

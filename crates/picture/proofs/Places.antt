@@ -10,19 +10,19 @@ use Rattle.ground.specs.Range.{within}
 use Rattle.ground.proofs.Cases.{on-test}
 use Rattle.ground.proofs.Ranges.{is-within, not-within}
 use Rattle.line.proofs.Travel.{travels}
-use Rattle.picture.specs.Division.{imageAt, lineIn, sampleIn, lineFrom, sampleFrom, h, w}
+use Rattle.picture.specs.Division.{imageAt, imageLine, imageSample, lineFrom, sampleFrom, h, w}
 use Rattle.picture.specs.Place.{isPictureLine, isSample, carried, placeOf, placedOf}
 use Rattle.picture.proofs.Steps.{step-again}
 
 -- document 01's two places
 pub place-of-1-1 :
     placedOf 1 1 ≡ given record { image = 2; line = record { 0 = 1 }; stream = record { 0 = 42 }; sample = 0 }
-unfolding within imageAt lineIn sampleIn
+unfolding within imageAt imageLine imageSample
 place-of-1-1 = refl
 
 pub place-of-2160-3839 :
     placedOf 2160 3839 ≡ given record { image = 4; line = record { 0 = 1080 }; stream = record { 0 = 1121 }; sample = 1919 }
-unfolding within imageAt lineIn sampleIn
+unfolding within imageAt imageLine imageSample
 place-of-2160-3839 = refl
 
 -- a sample of the picture is not refused
@@ -33,12 +33,12 @@ placed line sample p q r =
     simp (l, s)
 
 -- and its place is one of a basic image
-pub basic-line : (line : ℕ) → 1 ≤ line → line ≤ 2160 → (1 ≤ lineIn line) × (lineIn line ≤ 1080)
-unfolding lineIn
+pub basic-line : (line : ℕ) → 1 ≤ line → line ≤ 2160 → (1 ≤ imageLine line) × (imageLine line ≤ 1080)
+unfolding imageLine
 basic-line line p q = (omega arith, omega arith)
 
-pub basic-sample : (sample : ℕ) → sample ≤ 3839 → sampleIn sample ≤ 1919
-unfolding sampleIn
+pub basic-sample : (sample : ℕ) → sample ≤ 3839 → imageSample sample ≤ 1919
+unfolding imageSample
 basic-sample sample r = omega arith
 
 -- whatever else is asked for is refused

@@ -5,7 +5,7 @@ use Prim.Native.Nat.{ℕ, _+_, _-_, _*_, _/_, _%_, _≤_}
 use native.Mathlib.Omega.{arith}
 use Rattle.line.specs.declared.picture.PictureLine.{PictureLine}
 use Rattle.picture.specs.declared.division.Quarter.{Quarter}
-use Rattle.picture.specs.Division.{imageAt, lineIn, sampleIn, halved, h, w, lineFrom, sampleFrom}
+use Rattle.picture.specs.Division.{imageAt, imageLine, imageSample, halved, h, w, lineFrom, sampleFrom}
 
 abbrev quarter : ℕ → ℕ → ℕ → Quarter
 quarter image line sample = record { image = image; line = record { 0 = line }; sample = sample }
@@ -41,13 +41,13 @@ module _ (a b : ℕ) where
 pub quarter-is :
     (n k : ℕ) {image sample : ℕ} {line : PictureLine}
     → image ≡ imageAt n k
-    → line .0 ≡ lineIn n
-    → sample ≡ sampleIn k
+    → line .0 ≡ imageLine n
+    → sample ≡ imageSample k
     → _≡_ {A = Quarter} record { image = image; line = line; sample = sample } (halved n k)
 quarter-is n k {image} {sample} {line} p q r =
     ap (λ (i : ℕ). quarter i (line .0) sample) p
     ∙ ap (λ (l : ℕ). quarter (imageAt n k) l sample) q
-    ∙ ap (λ (s : ℕ). quarter (imageAt n k) (lineIn n) s) r
+    ∙ ap (λ (s : ℕ). quarter (imageAt n k) (imageLine n) s) r
 
 -- there are four images
 pub one-of-four : (line sample : ℕ) → (1 ≤ imageAt line sample) × (imageAt line sample ≤ 4)
@@ -56,12 +56,12 @@ one-of-four line sample = (omega arith, omega arith)
 
 -- from a picture to its images and back
 module _ (line sample : ℕ) where
-  pub line-back : 1 ≤ line → lineFrom (imageAt line sample) (lineIn line) ≡ line
-  unfolding imageAt lineIn lineFrom h
+  pub line-back : 1 ≤ line → lineFrom (imageAt line sample) (imageLine line) ≡ line
+  unfolding imageAt imageLine lineFrom h
   line-back p = omega arith
 
-  pub sample-back : sampleFrom (imageAt line sample) (sampleIn sample) ≡ sample
-  unfolding imageAt sampleIn sampleFrom w
+  pub sample-back : sampleFrom (imageAt line sample) (imageSample sample) ≡ sample
+  unfolding imageAt imageSample sampleFrom w
   sample-back = omega arith
 
 -- from an image to its picture and back
@@ -78,12 +78,12 @@ module _ (u l j : ℕ) (p : 1 ≤ u) (q : u ≤ 4) (r : 1 ≤ l) where
   unfolding imageAt
   image-again = omega (arith, h-again, w-again)
 
-  line-again : lineIn (lineFrom u l) ≡ l
-  unfolding lineIn lineFrom h
+  line-again : imageLine (lineFrom u l) ≡ l
+  unfolding imageLine lineFrom h
   line-again = omega arith
 
-  sample-again : sampleIn (sampleFrom u j) ≡ j
-  unfolding sampleIn sampleFrom w
+  sample-again : imageSample (sampleFrom u j) ≡ j
+  unfolding imageSample sampleFrom w
   sample-again = omega arith
 
   pub step-again : halved (lineFrom u l) (sampleFrom u j) ≡ record { image = u; line = record { 0 = l }; sample = j }

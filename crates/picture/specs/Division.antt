@@ -10,16 +10,16 @@ unfoldable pub imageAt : ℕ → ℕ → ℕ
 imageAt line sample = 1 + 2 * ((line + 1) % 2) + sample % 2
 
 -- in their image lines keep their order, counted from 1: lines 1 and 2 give line 1
-unfoldable pub lineIn : ℕ → ℕ
-lineIn line = (line + 1) / 2
+unfoldable pub imageLine : ℕ → ℕ
+imageLine line = (line + 1) / 2
 
 -- samples keep theirs, counted from 0: samples 0 and 1 give sample 0
-unfoldable pub sampleIn : ℕ → ℕ
-sampleIn sample = sample / 2
+unfoldable pub imageSample : ℕ → ℕ
+imageSample sample = sample / 2
 
 -- the step: from a line and a sample to the image, and line and sample there
 abbrev pub halved : ℕ → ℕ → Quarter
-halved line sample = record { image = imageAt line sample; line = record { 0 = lineIn line }; sample = sampleIn sample }
+halved line sample = record { image = imageAt line sample; line = record { 0 = imageLine line }; sample = imageSample sample }
 
 -- document 01: h is 0 for u = 1, 2 and 1 for u = 3, 4
 unfoldable pub h : ℕ → ℕ

@@ -3,9 +3,9 @@
 use Prim.Native.Nat.{ℕ, _+_, _*_, _≤_}
 use mathlib.Core.Path.{_≡_}
 use Rattle.ground.specs.Answer.{refused, given}
-use Rattle.ground.specs.Inside.Answer.{OneToOne}
+use Rattle.ground.specs.Inside.Answer.{Injective}
 use Rattle.picture.specs.Choice.{rowOn}
-use Rattle.picture.specs.Division.{imageAt, lineIn, sampleIn, halved, h, w, lineFrom, sampleFrom}
+use Rattle.picture.specs.Division.{imageAt, imageLine, imageSample, halved, h, w, lineFrom, sampleFrom}
 use Rattle.picture.specs.Place.{placeOf, paperPlaced, placedOf}
 
 pub record PictureLaws : Type 1 where
@@ -18,8 +18,8 @@ pub record PictureLaws : Type 1 where
   pub hListed : (h 1 ≡ 0) × (h 2 ≡ 0) × (h 3 ≡ 1) × (h 4 ≡ 1)
   pub wListed : (w 1 ≡ 0) × (w 2 ≡ 1) × (w 3 ≡ 0) × (w 4 ≡ 1)
   -- from a picture to its images and back is the same line and sample
-  pub lineBack : (line sample : ℕ) → 1 ≤ line → lineFrom (imageAt line sample) (lineIn line) ≡ line
-  pub sampleBack : (line sample : ℕ) → sampleFrom (imageAt line sample) (sampleIn sample) ≡ sample
+  pub lineBack : (line sample : ℕ) → 1 ≤ line → lineFrom (imageAt line sample) (imageLine line) ≡ line
+  pub sampleBack : (line sample : ℕ) → sampleFrom (imageAt line sample) (imageSample sample) ≡ sample
   -- from an image to its picture and back is the same image, line and sample
   pub imageBack :
       (u l j : ℕ)
@@ -29,8 +29,8 @@ pub record PictureLaws : Type 1 where
       → halved (lineFrom u l) (sampleFrom u j) ≡ record { image = u; line = record { 0 = l }; sample = j }
   -- the image is 1 to 4; where the picture has lines 1 to 2160 and samples 0 to 3839, the image has lines 1 to 1080 and samples 0 to 1919 (5.3)
   pub images : (line sample : ℕ) → (1 ≤ imageAt line sample) × (imageAt line sample ≤ 4)
-  pub lines : (line : ℕ) → 1 ≤ line → line ≤ 2160 → (1 ≤ lineIn line) × (lineIn line ≤ 1080)
-  pub samples : (sample : ℕ) → sample ≤ 3839 → sampleIn sample ≤ 1919
+  pub lines : (line : ℕ) → 1 ≤ line → line ≤ 2160 → (1 ≤ imageLine line) × (imageLine line ≤ 1080)
+  pub samples : (sample : ℕ) → sample ≤ 3839 → imageSample sample ≤ 1919
   -- document 01's two places
   pub placeOfFirst :
       placedOf 1 1 ≡ given record { image = 2; line = record { 0 = 1 }; stream = record { 0 = 42 }; sample = 0 }
@@ -44,4 +44,4 @@ pub record PictureLaws : Type 1 where
   pub pictureOn : {A : Type 0} (n : ℕ) (picture blanking : A) → 42 ≤ n → n ≤ 1121 → rowOn n picture blanking ≡ picture
   pub blankingOn : {A : Type 0} (n : ℕ) (picture blanking : A) → (42 ≤ n → n ≤ 1121 → ⊥) → rowOn n picture blanking ≡ blanking
   -- the paper's number and values tell any two answers apart, so that a promise about them fixes the answer
-  pub placedTold : OneToOne paperPlaced
+  pub placedTold : Injective paperPlaced

@@ -3,7 +3,7 @@
 use mathlib.Core.Path.{_≡_, refl}
 use Prim.Native.Nat.{ℕ}
 use Rattle.ground.specs.Answer.{Answer}
-use Rattle.ground.specs.Inside.Answer.{OneToOne}
+use Rattle.ground.specs.Inside.Answer.{Injective}
 use Rattle.picture.specs.declared.place.Place.{Place}
 use Rattle.picture.specs.declared.place.Placed.{Placed}
 use Rattle.picture.specs.declared.place.Placed.the-variants as Placed
@@ -27,7 +27,7 @@ placeBack p =
     answerBy (p .number) 0
     (record { image = p .image; line = record { 0 = p .line }; stream = record { 0 = p .«stream_line» }; sample = p .sample })
 
-pub place-told : OneToOne (λ (r : Placed). placeAnswerOf (paperPlaced r))
+pub place-told : Injective (λ (r : Placed). placeAnswerOf (paperPlaced r))
 unfolding placeBack
 place-told = through placeAnswerOf placeBack back placed-one-to-one
   where
@@ -39,7 +39,7 @@ place-told = through placeAnswerOf placeBack back placed-one-to-one
 numberBack : ℕ → Answer (Unit {0})
 numberBack n = answerBy n 0 tt
 
-pub copied-told : OneToOne (λ (r : Copied). numberIn (paperCopied r))
+pub copied-told : Injective (λ (r : Copied). numberIn (paperCopied r))
 unfolding numberBack
 copied-told = through numberIn numberBack back copied-one-to-one
   where
@@ -48,7 +48,7 @@ copied-told = through numberIn numberBack back copied-one-to-one
     back Copied.WrongInput = refl
     back Copied.WrongOutput = refl
 
-pub filled-told : OneToOne (λ (r : Filled). numberIn (paperFilled r))
+pub filled-told : Injective (λ (r : Filled). numberIn (paperFilled r))
 unfolding numberBack
 filled-told = through numberIn numberBack back filled-one-to-one
   where

@@ -1,7 +1,7 @@
 -- What holds of the answers of the calls on pictures to C: no two answers of the library cross as the same, so the number and the fields fix
 -- what was answered. `proofs/Laws` proves each.
 -- Assumes nothing.
-use Rattle.ground.specs.Inside.Answer.{OneToOne}
+use Rattle.ground.specs.Inside.Answer.{Injective}
 use Rattle.picture.specs.declared.place.Placed.{Placed}
 use Rattle.picture.specs.Place.{paperPlaced}
 use Rattle.dividing.specs.declared.row.Copied.{Copied}
@@ -13,8 +13,8 @@ use Rattle.picture_answers.specs.Pictures.{placeAnswerOf}
 
 pub record PictureAnswersLaws : Type 0 where
   -- the place of a sample
-  pub placeTold : OneToOne (λ (r : Placed). placeAnswerOf (paperPlaced r))
+  pub placeTold : Injective (λ (r : Placed). placeAnswerOf (paperPlaced r))
   -- dividing a row and joining two, by the number alone
-  pub copiedTold : OneToOne (λ (r : Copied). numberIn (paperCopied r))
+  pub copiedTold : Injective (λ (r : Copied). numberIn (paperCopied r))
   -- a row filled with blanking, by the number alone
-  pub filledTold : OneToOne (λ (r : Filled). numberIn (paperFilled r))
+  pub filledTold : Injective (λ (r : Filled). numberIn (paperFilled r))

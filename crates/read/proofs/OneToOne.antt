@@ -4,7 +4,7 @@ use mathlib.Core.Path.{_≡_, refl}
 use mathlib.Core.Bool.{cond}
 use lib.Dec.{eqb}
 use Rattle.ground.specs.Answer.{Answer, refused, given}
-use Rattle.ground.specs.Inside.Answer.{OneToOne}
+use Rattle.ground.specs.Inside.Answer.{Injective}
 use Rattle.ground.proofs.Answers.{told-again}
 use Rattle.window.specs.declared.delivery.Delivery.{Delivery}
 use Rattle.read.specs.declared.answer.Read.{Read}
@@ -23,7 +23,7 @@ readAgain (refused n k) =
     (cond (eqb n 22) (WrongLine k)
     (cond (eqb n 23) (WrongV k) (cond (eqb n 24) (WrongCrcc k) (cond (eqb n 25) (WrongSample k) (WrongFill k)))))))))
 
-pub read-one-to-one : OneToOne paperRead
+pub read-one-to-one : Injective paperRead
 read-one-to-one = told-again readAgain again
   where
     again : (r : Read) → readAgain (paperRead r) ≡ r

@@ -20,7 +20,7 @@ use Rattle.crcc.specs.Inside.Sums.{sumIn}
 use Rattle.window.specs.Words.{wordAt}
 use Rattle.window.specs.Inside.Columns.{columnOf, sumsOf}
 use Rattle.window.proofs.Placing.{stream-below}
-use Rattle.read_test21_26.specs.Inside.Holds.{crccBehind, holds24By}
+use Rattle.read_test21_26.specs.Inside.Holds.{crccReceived, holds24By}
 use Rattle.read_test21_26.specs.Inside.Verdict.{serviceTests}
 
 module _ (p : Shape) (w : List ℕ) (some-streams : 1 ≤ p .half) (few : p .half ≤ 2) where
@@ -38,8 +38,8 @@ module _ (p : Shape) (w : List ℕ) (some-streams : 1 ≤ p .half) (few : p .hal
       go (suc (suc zero)) e (suc (suc (suc (suc t)))) h = absurd (omega arith)
       go (suc (suc (suc half))) e (suc (suc t)) h = absurd (omega arith)
 
-  crcc-is : (t : ℕ) → t < streams p → crccBehind p w t (sumIn (sumsOf p w) t) ≡ crccWords (registerOf (streams p) (wordAt p w) t)
-  unfolding crccBehind registerOf
+  crcc-is : (t : ℕ) → t < streams p → crccReceived p w t (sumIn (sumsOf p w) t) ≡ crccWords (registerOf (streams p) (wordAt p w) t)
+  unfolding crccReceived registerOf
   crcc-is t h =
       let s = streams p in
       let rest = column s (wordAt p w) 1924 3 t ++ (repaired (wordOf s (wordAt p w) 1927 t) ∷ column s (wordAt p w) 1928 2 t) in

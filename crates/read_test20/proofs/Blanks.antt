@@ -12,7 +12,7 @@ use lib.ListN.{length}
 use borrow.Author.Tests.{ne-eqb}
 use Rattle.symbol.specs.Code.{symbolOf}
 use Rattle.decoder.specs.Inside.Mask.{ofMask}
-use Rattle.packing.specs.Bytes.{bytesOf, wordsOf}
+use Rattle.packing.specs.Bytes.{bytesOf, unpacked}
 use Rattle.packing.proofs.Packing.{unpack-pack}
 use Rattle.window.proofs.Filling.{Both, all-right}
 use Rattle.window.proofs.Plain.{pair-is}
@@ -24,7 +24,7 @@ use Rattle.window.specs.Inside.Fill.{fillRight}
 use Rattle.window.specs.Inside.Given.{plainPair}
 use Rattle.window.proofs.Symbols.{meant-of}
 use Rattle.read_test20.specs.Inside.Blank.{blankBy, Repeats, AreBlank}
-use Rattle.read_test20.specs.Inside.Run.{Going}
+use Rattle.read_test20.specs.Inside.Run.{RunInv}
 use Rattle.read_test20.specs.Inside.See.{maskBy}
 
 -- what the code names are the symbols of the book
@@ -88,21 +88,21 @@ module _ (w : List ℕ) (from turns : ℕ) where
         }
 
   -- ---- they are bytes where they stand
-  module _ (to : ℕ) (b : AreBlank w from to turns) (start : ℕ) (g : Going w 0 255 start from (maskBy turns)) where
-    going-by : (k : ℕ) → from + 3 * k ≤ to → Going w 0 255 start (from + 3 * k) (maskBy turns)
+  module _ (to : ℕ) (b : AreBlank w from to turns) (start : ℕ) (g : RunInv w 0 255 start from (maskBy turns)) where
+    going-by : (k : ℕ) → from + 3 * k ≤ to → RunInv w 0 255 start (from + 3 * k) (maskBy turns)
     going-by zero h = let at : from + 3 * 0 ≡ from = omega arith in rw at g
     going-by (suc k) h =
         let at : from + 3 * suc k ≡ from + 3 * k + 3 = omega arith in
         rw at
         (blank-turn w (going-by k (omega arith)) (b .first k (omega arith)) (b .second k (omega arith)) (b .third k (omega arith)))
 
-    pub blank-going : (k : ℕ) → to ≡ from + 3 * k → Going w 0 255 start to (maskBy turns)
+    pub blank-going : (k : ℕ) → to ≡ from + 3 * k → RunInv w 0 255 start to (maskBy turns)
     blank-going k e = rw e (going-by k (omega arith))
 
 -- ---- they are fill
 module _ (w : List ℕ) (o m : ℕ) where
   -- the bytes 00 01 10 (hex) are two words of 100
-  hundreds : wordsOf (record { first = 0x00; second = 0x01; third = 0x10 }) ≡ record { a = 0x100; b = 0x100 }
+  hundreds : unpacked (record { first = 0x00; second = 0x01; third = 0x10 }) ≡ record { a = 0x100; b = 0x100 }
   unfolding bytesOf
   hundreds = unpack-pack 0x100 0x100 (omega arith) (omega arith)
 

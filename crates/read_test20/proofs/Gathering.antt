@@ -21,7 +21,7 @@ use Rattle.decoder.proofs.Masks.{mask-again}
 use Rattle.window.specs.Scan.{meant, symbolAt, runningAt}
 use Rattle.window.proofs.Symbols.{meant-of, running-on}
 use Rattle.read_test20.specs.Inside.Blank.{blankBy}
-use Rattle.read_test20.specs.Inside.Run.{suitsBy, suits, Going}
+use Rattle.read_test20.specs.Inside.Run.{suitsBy, suits, RunInv}
 use Rattle.read_test20.proofs.Runs.{further}
 
 -- ---- bits gathered
@@ -50,7 +50,7 @@ suits-byte d e has none = ap₂ _&&_ (ap not (ne-eqb _ 0 (λ z. positive d (sym 
 
 module _ (w : List ℕ) where
   -- one run behind another
-  pub join : {from mid to m n : ℕ} → Going w 0 255 from mid m → Going w 0 255 mid to n → Going w 0 255 from to n
+  pub join : {from mid to m n : ℕ} → RunInv w 0 255 from mid m → RunInv w 0 255 mid to n → RunInv w 0 255 from to n
   join {from} {mid} {to} a b =
       record {
         come = omega (arith, a .come, b .come);
@@ -60,8 +60,8 @@ module _ (w : List ℕ) where
 
   -- ---- a character that is known
 
-  pub char-turn : (low high : ℕ) {from i : ℕ} (d : Disparity) (c : ℕ) → c < 268 → low ≤ c → c ≤ high → Going w low high from i (maskOf d)
-      → symbolAt w i ≡ symbolOf d c → Going w low high from (i + 1) (maskOf (afterOf d c))
+  pub char-turn : (low high : ℕ) {from i : ℕ} (d : Disparity) (c : ℕ) → c < 268 → low ≤ c → c ≤ high → RunInv w low high from i (maskOf d)
+      → symbolAt w i ≡ symbolOf d c → RunInv w low high from (i + 1) (maskOf (afterOf d c))
   unfolding suits
   char-turn low high {from} {i} d c small above below g is =
       let same : runningAt w i ≡ d = sym (mask-again (runningAt w i)) ∙ ap ofMask (sym (g .bit)) ∙ mask-again d in
@@ -78,18 +78,18 @@ module _ (w : List ℕ) where
   blank-flat Negative = (refl, refl, refl)
   blank-flat Positive = (refl, refl, refl)
 
-  three : {from i : ℕ} (d : Disparity) → Going w 0 255 from i (maskOf d)
+  three : {from i : ℕ} (d : Disparity) → RunInv w 0 255 from i (maskOf d)
       → symbolAt w i ≡ symbolOf d 0x00 → symbolAt w (i + 1) ≡ symbolOf d 0x01 → symbolAt w (i + 1 + 1) ≡ symbolOf d 0x10
-      → Going w 0 255 from (i + 1 + 1 + 1) (maskOf d)
+      → RunInv w 0 255 from (i + 1 + 1 + 1) (maskOf d)
   three d g x y z =
       let flat = blank-flat d in
       let first = rw (flat .0) at (char-turn 0 255 d 0x00 (omega arith) (omega arith) (omega arith) g x) in
       let second = rw (flat .1) at (char-turn 0 255 d 0x01 (omega arith) (omega arith) (omega arith) first y) in
       rw (flat .2) at (char-turn 0 255 d 0x10 (omega arith) (omega arith) (omega arith) second z)
 
-  pub blank-turn : {from i mask : ℕ} → Going w 0 255 from i mask
+  pub blank-turn : {from i mask : ℕ} → RunInv w 0 255 from i mask
       → symbolAt w i ≡ blankBy mask .first → symbolAt w (i + 1) ≡ blankBy mask .second → symbolAt w (i + 2) ≡ blankBy mask .third
-      → Going w 0 255 from (i + 3) mask
+      → RunInv w 0 255 from (i + 3) mask
   blank-turn {from} {i} {mask} g x y z =
       let d = ofMask mask in
       let bit : mask ≡ maskOf d = g .bit ∙ ap maskOf (sym (mask-again (runningAt w i)) ∙ ap ofMask (sym (g .bit))) in

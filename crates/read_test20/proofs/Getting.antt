@@ -20,12 +20,12 @@ use Rattle.window.specs.Tests.{rows as rowsOf, wordOf}
 use Rattle.window.specs.Words.{wordAt}
 use Rattle.window.specs.Inside.Columns.{columnOf, sumsOf}
 use Rattle.window.specs.Inside.Given.{plainPair}
-use Rattle.row_crc.specs.Inside.Sums.{rowOf, sumsIn}
+use Rattle.row_crc.specs.Inside.Sums.{streamRow, sumsIn}
 use Rattle.read_test20.specs.declared.picture.Passed.{Passed}
 use Rattle.read_test20.specs.declared.see.Six.{Six}
 use Rattle.read_test20.specs.declared.see.Three.{Three}
-use Rattle.read_test20.specs.Inside.Picture.{putTwo, pairIn, putPair, placeTwo, rowsTwo, placeFour, rowsFour, Got, Taken}
-use Rattle.read_test20.specs.Inside.See.{seenThree, seenSix, Clean}
+use Rattle.read_test20.specs.Inside.Picture.{putTwo, pairIn, putPair, placeTwo, rowsTwo, placeFour, rowsFour, RowsInv, TwoRowsInv}
+use Rattle.read_test20.specs.Inside.See.{seenThree, seenSix, GatherInv}
 use Rattle.read_test20.proofs.Seeing.{three-turn}
 
 -- where a pair stands
@@ -33,7 +33,7 @@ pair-at : (w : List ℕ) (j half u o : ℕ) → o ≡ 3 * (half * (4 + j) + u) �
 pair-at w j half u o e = ap (plainPair w) e
 
 module _ (w : List ℕ) {old : List ℕ} {j : ℕ} {v : Passed} {rows : List ℕ} (h : j < 1920) where
-  pub got-two : Got 1 w old j v rows → Got 1 w old (j + 1) (placeTwo w j v) (rowsTwo w j rows)
+  pub got-two : RowsInv 1 w old j v rows → RowsInv 1 w old (j + 1) (placeTwo w j v) (rowsTwo w j rows)
   unfolding seenThree
   got-two g =
       let at : 12 + 3 * j ≡ 3 * (1 * (4 + j) + 0) = omega arith in
@@ -49,7 +49,7 @@ module _ (w : List ℕ) {old : List ℕ} {j : ℕ} {v : Passed} {rows : List ℕ
         four = λ e. absurd (omega arith);
       }
 
-  pub got-four : Got 2 w old j v rows → Got 2 w old (j + 1) (placeFour w j v) (rowsFour w j rows)
+  pub got-four : RowsInv 2 w old j v rows → RowsInv 2 w old (j + 1) (placeFour w j v) (rowsFour w j rows)
   unfolding seenThree seenSix
   got-four g =
       let first : 24 + 6 * j ≡ 3 * (2 * (4 + j) + 0) = omega arith in
@@ -73,8 +73,8 @@ module _ (w : List ℕ) {old : List ℕ} {j : ℕ} {v : Passed} {rows : List ℕ
 -- ---- four words more
 
 module _ (w : List ℕ) {old : List ℕ} {j : ℕ} {v : Passed} {rows : List ℕ} (h : j + 4 ≤ 1920) where
-  pub four-of-two : Got 1 w old j v rows
-      → Got 1 w old (j + 4) (placeTwo w (j + 3) (placeTwo w (j + 2) (placeTwo w (j + 1) (placeTwo w j v))))
+  pub four-of-two : RowsInv 1 w old j v rows
+      → RowsInv 1 w old (j + 4) (placeTwo w (j + 3) (placeTwo w (j + 2) (placeTwo w (j + 1) (placeTwo w j v))))
       (rowsTwo w (j + 3) (rowsTwo w (j + 2) (rowsTwo w (j + 1) (rowsTwo w j rows))))
   four-of-two g =
       let two : j + 1 + 1 ≡ j + 2 = omega arith in
@@ -84,8 +84,8 @@ module _ (w : List ℕ) {old : List ℕ} {j : ℕ} {v : Passed} {rows : List ℕ
       (got-two w (omega arith)
       (rw three at (got-two w (omega arith) (rw two at (got-two w (omega arith) (got-two w (omega arith) g))))))
 
-  pub four-of-four : Got 2 w old j v rows
-      → Got 2 w old (j + 4) (placeFour w (j + 3) (placeFour w (j + 2) (placeFour w (j + 1) (placeFour w j v))))
+  pub four-of-four : RowsInv 2 w old j v rows
+      → RowsInv 2 w old (j + 4) (placeFour w (j + 3) (placeFour w (j + 2) (placeFour w (j + 1) (placeFour w j v))))
       (rowsFour w (j + 3) (rowsFour w (j + 2) (rowsFour w (j + 1) (rowsFour w j rows))))
   four-of-four g =
       let two : j + 1 + 1 ≡ j + 2 = omega arith in
@@ -138,8 +138,8 @@ module _ (w : List ℕ) (j : ℕ) (r0 : List ℕ) {r1 r2 r3 r4 : List ℕ} where
   put-four ea eb ec ed ek el em en q1 q2 q3 q4 = rw (q4, q3, q2, q1, ea, eb, ec, ed, ek, el, em, en)
 
 -- at the beginning nothing is
-pub got-begin : (half turns : ℕ) (w old : List ℕ) → Clean w (12 * half) (12 * half) 65535 turns
-    → Got half w old 0 (record { good = 65535; turns = turns }) old
+pub got-begin : (half turns : ℕ) (w old : List ℕ) → GatherInv w (12 * half) (12 * half) 65535 turns
+    → RowsInv half w old 0 (record { good = 65535; turns = turns }) old
 got-begin half turns w old g =
     let at : 12 * half ≡ 12 * half + 3 * half * 0 = omega arith in
     record {
@@ -165,12 +165,12 @@ module _ (p : Shape) (w : List ℕ) where
     second-column = table-same 1920 _ _ (λ i l. stream-b p w (4 + i) u refl (plain i l))
 
     pub put-columns : {old rows : List ℕ} {low high : ℕ}
-        → Taken (λ i. pairIn (p .half) w u i .a) (λ i. pairIn (p .half) w u i .b) 1920 low high old 1920 rows
+        → TwoRowsInv (λ i. pairIn (p .half) w u i .a) (λ i. pairIn (p .half) w u i .b) 1920 low high old 1920 rows
         → low ≡ 2 * u * 1920 → high ≡ 2 * u * 1920 + 1920 → rows ≡ putTwo p w u 4 1920 old
     put-columns t l k = t .put ∙ rw (first-column, second-column, l, k)
 
   module _ {old rows : List ℕ} {v : Passed} (small : p .half ≤ 2) (some : 1 ≤ p .half) (long : length old ≡ samplesIn p)
-      (g : Got (p .half) w old 1920 v rows) where
+      (g : RowsInv (p .half) w old 1920 v rows) where
     low-rows-are : g .low-rows ≡ putTwo p w 0 4 1920 old
     low-rows-are = put-columns 0 (omega arith) (g .low) refl refl
 
@@ -189,7 +189,7 @@ module _ (p : Shape) (w : List ℕ) where
     sized : (t : ℕ) → length (columnOf p w 4 1920 t) ≡ 1920
     sized t = length-table 1920 (λ i. wordOf (streams p) (wordAt p w) (4 + i) t)
 
-    row-is : (t : ℕ) → t < streams p → rowOf rows t ≡ columnOf p w 4 1920 t
+    row-is : (t : ℕ) → t < streams p → streamRow rows t ≡ columnOf p w 4 1920 t
     unfolding rowsOf
     row-is t h =
         table-same 1920 _ _

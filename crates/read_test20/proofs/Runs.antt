@@ -21,7 +21,7 @@ use Rattle.decoder.proofs.Masks.{legal-mask, after-mask}
 use Rattle.decoder.proofs.Reading.{legal-is, entry-in}
 use Rattle.window.specs.Scan.{meant, symbolAt, startOf, runningAt}
 use Rattle.window.proofs.Symbols.{meant-entry, some-meant, running-on}
-use Rattle.read_test20.specs.Inside.Run.{suitsBy, suits, Going}
+use Rattle.read_test20.specs.Inside.Run.{suitsBy, suits, RunInv}
 
 module _ (w : List ℕ) (low high : ℕ) where
   -- what the table says of a symbol is so
@@ -40,23 +40,23 @@ module _ (w : List ℕ) (low high : ℕ) where
       let legal = some-meant d s (both-left (isSome (charOf d s)) (within low high (meant s)) t) in
       after-mask d s (meant s) legal ∙ ap maskOf (sym (running-on w i)) ∙ ap (λ (k : ℕ). maskOf (runningAt w k)) (sym (add-one i))
 
-  pub begin : (from mask : ℕ) → mask ≡ maskOf (runningAt w from) → Going w low high from from mask
+  pub begin : (from mask : ℕ) → mask ≡ maskOf (runningAt w from) → RunInv w low high from from mask
   begin from mask e = record { come = omega arith; bit = e; suited = λ j h l. absurd (omega arith) }
 
   -- one symbol more
-  pub further : {from i mask next : ℕ} → Going w low high from i mask → suits w low high i ≡ true → next ≡ maskOf (runningAt w (i + 1))
-      → Going w low high from (i + 1) next
+  pub further : {from i mask next : ℕ} → RunInv w low high from i mask → suits w low high i ≡ true → next ≡ maskOf (runningAt w (i + 1))
+      → RunInv w low high from (i + 1) next
   further {from} {i} g here bit =
       record { come = omega (arith, g .come); bit = bit; suited = λ j h l. ⊎-elim (λ q. rw q at here) (λ q. g .suited j h q) (sooner j l) }
     where
       sooner : (j : ℕ) → j < i + 1 → (i ≡ j) ⊎ (j < i)
       sooner j l = ⊎-elim (λ q. inl (sym q)) (λ q. inr q) (eq-or-lt-of-le (let b : j ≤ i = omega arith in b))
 
-  module _ {from i mask e : ℕ} (g : Going w low high from i mask) (is : e ≡ entryIn decodingTable (symbolAt w i)) where
+  module _ {from i mask e : ℕ} (g : RunInv w low high from i mask) (is : e ≡ entryIn decodingTable (symbolAt w i)) where
     asked : suitsBy low high mask e ≡ suits w low high i
     asked = rw (is, entry-in (symbolAt w i), g .bit) (suits-is i)
 
-    pub turn : suitsBy low high mask e ≡ true → Going w low high from (i + 1) (afterBy mask e)
+    pub turn : suitsBy low high mask e ≡ true → RunInv w low high from (i + 1) (afterBy mask e)
     turn t =
         let here : suits w low high i ≡ true = sym asked ∙ t in
         further g here (rw (is, entry-in (symbolAt w i), g .bit) (after-suits i here))

@@ -21,14 +21,14 @@ use Rattle.decoder.proofs.Reading.{entry-in, entry-fits, flag-byte, byte-flag}
 use Rattle.read_test20.proofs.Gathering.{suits-byte}
 use Rattle.read_test20.proofs.Runs.{suits-is, begin, turn}
 use Rattle.packing.specs.declared.bytes.TwoWords.{TwoWords}
-use Rattle.packing.specs.Bytes.{wordsOf}
+use Rattle.packing.specs.Bytes.{unpacked}
 use Rattle.window.proofs.Plain.{pair-is}
 use Rattle.window.specs.Scan.{byteOf, symbolAt, runningAt}
 use Rattle.window.specs.Inside.Given.{plainPair}
 use Rattle.window.proofs.Symbols.{byte-is}
 use Rattle.read_test20.specs.declared.see.Seen.{Seen}
-use Rattle.read_test20.specs.Inside.Run.{suitsBy, Going}
-use Rattle.read_test20.specs.Inside.See.{seen, seenThree, passesBy, maskBy, AreBytes, Clean}
+use Rattle.read_test20.specs.Inside.Run.{suitsBy, RunInv}
+use Rattle.read_test20.specs.Inside.See.{seen, seenThree, passesBy, maskBy, AreBytes, GatherInv}
 
 -- ---- bits
 
@@ -150,11 +150,11 @@ after-seen d turns e o =
 -- ---- one symbol more
 
 module _ (w : List ℕ) where
-  pub see-begin : (from turns : ℕ) → turns < 16384 → maskBy turns ≡ maskOf (runningAt w from) → Clean w from from 65535 turns
+  pub see-begin : (from turns : ℕ) → turns < 16384 → maskBy turns ≡ maskOf (runningAt w from) → GatherInv w from from 65535 turns
   see-begin from turns h e = record { come = omega arith; fits = h; clean = λ _. begin w 0 255 from (maskBy turns) e; kept = λ _. refl }
 
-  pub see-turn : {from i good turns e : ℕ} → Clean w from i good turns → e ≡ entryOf (symbolAt w i)
-      → Clean w from (i + 1) (bitAnd good (bitOr e (turns / 4))) (bitXor turns e)
+  pub see-turn : {from i good turns e : ℕ} → GatherInv w from i good turns → e ≡ entryOf (symbolAt w i)
+      → GatherInv w from (i + 1) (bitAnd good (bitOr e (turns / 4))) (bitXor turns e)
   see-turn {from} {i} {good} {turns} {e} g is =
       let small : e < 16384 = rw is (entry-fits (symbolAt w i)) in
       record { come = omega (arith, g .come); fits = xor-lt 14 turns e (g .fits) small; clean = step; kept = keep }
@@ -178,7 +178,7 @@ module _ (w : List ℕ) where
           byte-one good (bitOr e (turns / 4)) ∙ ap₂ bitAnd byte (either-one e (turns / 4) ∙ ap₂ bitOr flag none-above) in
           ap₂ _&&_ (eq-eqb _ _ two) (eq-eqb _ _ one)
 
-      step : passesBy (bitAnd good (bitOr e (turns / 4))) ≡ true → Going w 0 255 from (i + 1) (maskBy (bitXor turns e))
+      step : passesBy (bitAnd good (bitOr e (turns / 4))) ≡ true → RunInv w 0 255 from (i + 1) (maskBy (bitXor turns e))
       step t =
           let legal : bitAnd good (bitOr e (turns / 4)) / 512 % 4 ≡ 3 = eqb-true _ _ (both-left (eqb (bitAnd good (bitOr e (turns / 4)) / 512 % 4) 3) (eqb (bitAnd good (bitOr e (turns / 4)) / 8192 % 2) 1) t) in
           let byte : bitAnd good (bitOr e (turns / 4)) / 8192 % 2 ≡ 1 = eqb-true _ _ (both-right (eqb (bitAnd good (bitOr e (turns / 4)) / 512 % 4) 3) (eqb (bitAnd good (bitOr e (turns / 4)) / 8192 % 2) 1) t) in
@@ -198,8 +198,8 @@ module _ (w : List ℕ) where
           (turn w 0 255 before (is ∙ sym (entry-in (symbolAt w i))) (rw (before .bit) suit))
 
   -- the same of what is answered for a symbol
-  pub seen-turn : {from i good turns : ℕ} {x : Seen} → Clean w from i good turns → x ≡ seen (symbolAt w i) good turns
-      → Clean w from (i + 1) (x .good) (x .turns)
+  pub seen-turn : {from i good turns : ℕ} {x : Seen} → GatherInv w from i good turns → x ≡ seen (symbolAt w i) good turns
+      → GatherInv w from (i + 1) (x .good) (x .turns)
   seen-turn g is = rw is (see-turn g refl)
 
   -- ---- three symbols
@@ -210,7 +210,7 @@ module _ (w : List ℕ) where
 
   pub three-is : {x y z : Seen} {u : TwoWords} (o good turns : ℕ) → x ≡ seen (symbolAt w o) good turns
       → y ≡ seen (symbolAt w (o + 1)) (x .good) (x .turns) → z ≡ seen (symbolAt w (o + 2)) (y .good) (y .turns)
-      → u ≡ wordsOf (record { first = x .entry % 256; second = y .entry % 256; third = z .entry % 256 })
+      → u ≡ unpacked (record { first = x .entry % 256; second = y .entry % 256; third = z .entry % 256 })
       → record { good = z .good; turns = z .turns; words = u } ≡ seenThree w o good turns
   unfolding seenThree
   three-is {x} {y} {z} {u} o good turns ex ey ez eu =
@@ -222,7 +222,7 @@ module _ (w : List ℕ) where
       (ap (λ (l : Seen). l .entry % 256) ez ∙ low-byte (symbolAt w (o + 2))) in
       rw (words, ez, ey, ex)
 
-  pub three-turn : {from i good turns : ℕ} → Clean w from i good turns → Clean w from (i + 3) (seenThree w i good turns .good) (seenThree w i good turns .turns)
+  pub three-turn : {from i good turns : ℕ} → GatherInv w from i good turns → GatherInv w from (i + 3) (seenThree w i good turns .good) (seenThree w i good turns .turns)
   unfolding seenThree
   three-turn {from} {i} g =
       let two : i + 1 + 1 ≡ i + 2 = omega arith in

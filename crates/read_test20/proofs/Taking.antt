@@ -8,7 +8,7 @@ use lib.ListN.{length, set}
 use lib.Seq.{sets, set-comm, length-sets}
 use Rattle.ground.specs.Written.{upto, table}
 use Rattle.ground.proofs.Writing.{sets-upto}
-use Rattle.read_test20.specs.Inside.Picture.{Taken}
+use Rattle.read_test20.specs.Inside.Picture.{TwoRowsInv}
 
 -- a store before a run of stores may come after it
 store-before : {A : Type 0} (ys l : List A) (k i : ℕ) (x : A) → k < i → set (sets l i ys) k x ≡ sets (set l k x) i ys
@@ -23,18 +23,18 @@ unfolding table
 store-next l i k n f e = sets-upto 1 (λ j. f j ∷ []) (λ m. refl) l i k n (omega arith)
 
 module _ {A B : ℕ → ℕ} {count low high : ℕ} {old : List ℕ} where
-  pub begin : {j : ℕ} → high ≡ low + count → j ≡ 0 → Taken A B count low high old j old
+  pub begin : {j : ℕ} → high ≡ low + count → j ≡ 0 → TwoRowsInv A B count low high old j old
   unfolding table upto
   begin h e = rw e (record { some = omega arith; apart = h; put = refl })
 
-  module _ {j : ℕ} {rows : List ℕ} (t : Taken A B count low high old j rows) where
+  module _ {j : ℕ} {rows : List ℕ} (t : TwoRowsInv A B count low high old j rows) where
     pub same-size : length rows ≡ length old
     same-size =
         ap (λ (l : List ℕ). length l) (t .put)
         ∙ length-sets (sets old low (table j A)) high (table j B) ∙ length-sets old low (table j A)
 
     -- a store before both rows is one into what they are put into
-    pub under : (k x : ℕ) → k < low → Taken A B count low high (set old k x) j (set rows k x)
+    pub under : (k x : ℕ) → k < low → TwoRowsInv A B count low high (set old k x) j (set rows k x)
     under k x h =
         record {
           some = t .some;
@@ -45,7 +45,7 @@ module _ {A B : ℕ → ℕ} {count low high : ℕ} {old : List ℕ} where
         }
 
     pub turn : {x y i k : ℕ} → j < count → i ≡ low + j → k ≡ high + j → x ≡ A j → y ≡ B j
-        → Taken A B count low high old (j + 1) (set (set rows i x) k y)
+        → TwoRowsInv A B count low high old (j + 1) (set (set rows i x) k y)
     turn {x} {y} {i} {k} h ei ek ex ey =
         record {
           some = omega arith;

@@ -20,9 +20,9 @@ use Rattle.span.specs.Format.{eavAt, symbolsIn}
 use Rattle.window.specs.Scan.{symbolAt, startOf, runningAt}
 use Rattle.window.proofs.Symbols.{running-start, starts}
 use Rattle.read_test20.specs.Inside.Picture.{Come}
-use Rattle.read_test20.specs.Inside.Run.{Going, scannedOf, Reached}
-use Rattle.read_test20.specs.Inside.See.{passesBy, maskBy, Clean}
-use Rattle.read_test20.specs.Inside.Whole.{Tied, Begun, Stays, Ending}
+use Rattle.read_test20.specs.Inside.Run.{RunInv, scannedOf, ScanInv}
+use Rattle.read_test20.specs.Inside.See.{passesBy, maskBy, GatherInv}
+use Rattle.read_test20.specs.Inside.Whole.{Tied, Begun, EavHolds, Ending}
 use Rattle.read_test20.proofs.Seeing.{see-begin}
 
 module _ (w : List ℕ) where
@@ -57,31 +57,31 @@ module _ (w : List ℕ) where
 
   -- ---- K29.7 twice
   eav-at : (d : Disparity) (at : ℕ) → runningAt w at ≡ d → symbolAt w at ≡ symbolOf d 266 → symbolAt w (at + 1) ≡ symbolOf d 266
-      → Going w 266 266 at (at + 2) (maskOf d)
+      → RunInv w 266 266 at (at + 2) (maskOf d)
   unfolding afterOf
   eav-at d at r x y =
       let second : at + 1 + 1 ≡ at + 2 = omega arith in
       let first = flat d (char-turn w 266 266 d 266 (omega arith) (omega arith) (omega arith) (begin w 266 266 at (maskOf d) (ap maskOf (sym r))) x) in
       rw second at (flat d (char-turn w 266 266 d 266 (omega arith) (omega arith) (omega arith) first y))
     where
-      flat : {i : ℕ} (d : Disparity) → Going w 266 266 at i (maskOf (afterOf d 266)) → Going w 266 266 at i (maskOf d)
+      flat : {i : ℕ} (d : Disparity) → RunInv w 266 266 at i (maskOf (afterOf d 266)) → RunInv w 266 266 at i (maskOf d)
       flat Negative g = g
       flat Positive g = g
 
   module _ (at turns : ℕ) where
-    pub stays-negative : turns / 2048 % 4 ≡ 2 → symbolAt w at ≡ 0x05D → symbolAt w (at + 1) ≡ 0x05D → Stays w at turns
+    pub stays-negative : turns / 2048 % 4 ≡ 2 → symbolAt w at ≡ 0x05D → symbolAt w (at + 1) ≡ 0x05D → EavHolds w at turns
     unfolding symbolOf
     stays-negative e x y = record { going = λ m. go (runningAt w at) refl m }
       where
-        go : (d : Disparity) → runningAt w at ≡ d → maskBy turns ≡ maskOf (runningAt w at) → Going w 266 266 at (at + 2) (maskBy turns)
+        go : (d : Disparity) → runningAt w at ≡ d → maskBy turns ≡ maskOf (runningAt w at) → RunInv w 266 266 at (at + 2) (maskBy turns)
         go Negative r m = rw (m, r) (eav-at Negative at r x y)
         go Positive r m = absurd (let z : maskBy turns ≡ 1024 = m ∙ ap maskOf r in omega arith)
 
-    pub stays-positive : (turns / 2048 % 4 ≡ 2 → ⊥) → symbolAt w at ≡ 0x3A2 → symbolAt w (at + 1) ≡ 0x3A2 → Stays w at turns
+    pub stays-positive : (turns / 2048 % 4 ≡ 2 → ⊥) → symbolAt w at ≡ 0x3A2 → symbolAt w (at + 1) ≡ 0x3A2 → EavHolds w at turns
     unfolding symbolOf
     stays-positive n x y = record { going = λ m. go (runningAt w at) refl m }
       where
-        go : (d : Disparity) → runningAt w at ≡ d → maskBy turns ≡ maskOf (runningAt w at) → Going w 266 266 at (at + 2) (maskBy turns)
+        go : (d : Disparity) → runningAt w at ≡ d → maskBy turns ≡ maskOf (runningAt w at) → RunInv w 266 266 at (at + 2) (maskBy turns)
         go Negative r m = absurd (n (let z : maskBy turns ≡ 512 = m ∙ ap maskOf r in omega arith))
         go Positive r m = rw (m, r) (eav-at Positive at r x y)
 
@@ -96,15 +96,15 @@ by-positive turns n = rw (ne-eqb (maskBy turns) 512 (λ e. n (omega arith))) ref
 
 module _ (p : Shape) (w : List ℕ) where
   -- what is gathered behind a run tells the running disparity there
-  pub tied : {from i j good turns : ℕ} → Clean w from i good turns → passesBy good ≡ true → i ≡ j → Tied w j turns
+  pub tied : {from i j good turns : ℕ} → GatherInv w from i good turns → passesBy good ≡ true → i ≡ j → Tied w j turns
   tied g t e = record { fits = g .fits; bit = rw e at (g .clean t .bit) }
 
   -- and a run begins there
-  pub goes-on : {i turns : ℕ} → Tied w i turns → Clean w i i 65535 turns
+  pub goes-on : {i turns : ℕ} → Tied w i turns → GatherInv w i i 65535 turns
   goes-on {i} {turns} t = see-begin w i turns (t .fits) (t .bit)
 
-  module _ {first head good goods turns after : ℕ} (sav : Begun w first) (bytes : Clean w 2 (12 * p .half) good head)
-      (right : passesBy good ≡ true) (picture : Clean w (12 * p .half) (12 * p .half + 3 * p .half * 1920) goods turns)
+  module _ {first head good goods turns after : ℕ} (sav : Begun w first) (bytes : GatherInv w 2 (12 * p .half) good head)
+      (right : passesBy good ≡ true) (picture : GatherInv w (12 * p .half) (12 * p .half + 3 * p .half * 1920) goods turns)
       (rights : passesBy goods ≡ true) (end : Ending p w turns after) where
     pub scanned-whole : record { place = length w; before = ofMask (maskBy first); after = ofMask (maskBy after) } ≡ scannedOf p w
     scanned-whole =
@@ -114,8 +114,8 @@ module _ (p : Shape) (w : List ℕ) where
         (all-suit p w (sav .going) (join w (bytes .clean right) (rw at at (picture .clean rights))) (rw eav at (end .eav)) (rw eav at (end .bytes)))
 
   -- as far as the picture words have come
-  pub reached-behind : {first head good turns words : ℕ} → Begun w first → Clean w 2 (12 * p .half) good head → passesBy good ≡ true
-      → Come (p .half) w words turns → length w ≡ symbolsIn p → Reached p w (12 * p .half + 3 * p .half * words) (maskBy turns)
+  pub reached-behind : {first head good turns words : ℕ} → Begun w first → GatherInv w 2 (12 * p .half) good head → passesBy good ≡ true
+      → Come (p .half) w words turns → length w ≡ symbolsIn p → ScanInv p w (12 * p .half + 3 * p .half * words) (maskBy turns)
   reached-behind {words = words} sav bytes right come long =
       let most : 3 * p .half * words ≤ 3 * p .half * 1920 = mul-le-mul-left (3 * p .half) (come .some) in
       reached p w (sav .going) (join w (bytes .clean right) (come .going)) (omega arith) (omega (arith, long))

@@ -25,7 +25,7 @@ use Rattle.span.specs.declared.format.Shape.{Shape}
 use Rattle.span.specs.Format.{eavAt}
 use Rattle.window.specs.Scan.{meant, symbolAt, startOf, runningAt, fits, holds20}
 use Rattle.window.proofs.Symbols.{fits-sav, fits-eav, fits-byte, meant-entry, legal-told, running-on, running-start}
-use Rattle.read_test20.specs.Inside.Run.{suits, Going, place20, scannedOf, Reached, holdsBy}
+use Rattle.read_test20.specs.Inside.Run.{suits, RunInv, place20, scannedOf, ScanInv, holdsBy}
 
 -- ---- the kinds of characters as ranges of numbers
 
@@ -60,10 +60,10 @@ module _ (p : Shape) (w : List ℕ) where
     same-test i h l = ap (λ (t : Bool). isSome (charOf (runningAt w i) (symbolAt w i)) && t) (kind i h l (meant (symbolAt w i)))
 
   -- nothing has been asked
-  pub not-yet : {mask : ℕ} → mask ≡ maskOf (startOf w) → Reached p w 0 mask
+  pub not-yet : {mask : ℕ} → mask ≡ maskOf (startOf w) → ScanInv p w 0 mask
   not-yet e = record { within = omega arith; bit = e ∙ ap maskOf (sym (running-start w)); held = λ j h. absurd (omega arith) }
 
-  module _ {i mask e : ℕ} (r : Reached p w i mask) (is : e ≡ entryIn decodingTable (symbolAt w i)) where
+  module _ {i mask e : ℕ} (r : ScanInv p w i mask) (is : e ≡ entryIn decodingTable (symbolAt w i)) where
     -- what the table says of a symbol is so
     asked : holdsBy p i mask e ≡ holds20 p w i
     unfolding holds20
@@ -73,7 +73,7 @@ module _ (p : Shape) (w : List ℕ) where
         (ap (fits p i) (sym (meant-entry (symbolAt w i)))))
 
     -- one symbol more
-    pub on : i < length w → holdsBy p i mask e ≡ true → Reached p w (i + 1) (afterBy mask e)
+    pub on : i < length w → holdsBy p i mask e ≡ true → ScanInv p w (i + 1) (afterBy mask e)
     on h t =
         let here : holds20 p w i ≡ true = sym asked ∙ t in
         record {
@@ -93,20 +93,20 @@ module _ (p : Shape) (w : List ℕ) where
         (record { from = omega arith; below = h; holds = ap not (sym asked ∙ t); least = λ j _ l. ap not (r .held j l) }))
 
   -- or the end
-  pub ends : {i mask : ℕ} → Reached p w i mask → length w ≤ i → i ≡ place20 p w
+  pub ends : {i mask : ℕ} → ScanInv p w i mask → length w ≤ i → i ≡ place20 p w
   unfolding place20
   ends {i} r h =
       let all : i ≡ length w = omega (arith, r .within) in
       rw (is-miss (λ k. not (holds20 p w k)) (length w) (record { never = λ j _ l. ap not (r .held j (omega arith)) })) all
 
   -- a window that has been asked to its end
-  scanned-is : {mask : ℕ} → Reached p w (length w) mask → record { place = length w; before = startOf w; after = ofMask mask } ≡ scannedOf p w
+  scanned-is : {mask : ℕ} → ScanInv p w (length w) mask → record { place = length w; before = startOf w; after = ofMask mask } ≡ scannedOf p w
   scanned-is r = rw (← (ends r (omega arith)), r .bit, mask-again (runningAt w (length w)))
 
   -- ---- the parts of a window one after the other, each run of symbols of one kind
-  module _ {m1 m2 : ℕ} (sav : Going w 261 261 0 2 m1) where
+  module _ {m1 m2 : ℕ} (sav : RunInv w 261 261 0 2 m1) where
     -- SAV and picture, as far as they have come
-    pub reached : {i : ℕ} → Going w 0 255 2 i m2 → i ≤ eavAt p → i ≤ length w → Reached p w i m2
+    pub reached : {i : ℕ} → RunInv w 0 255 2 i m2 → i ≤ eavAt p → i ≤ length w → ScanInv p w i m2
     reached {i} b l h =
         record {
           within = h;
@@ -123,8 +123,8 @@ module _ (p : Shape) (w : List ℕ) where
         in-sav j q = same-test 261 261 0 2 (λ k n m c. kind-sav p k c m) j (omega arith) q ∙ sav .suited j (omega arith) q
 
     -- all of it
-    pub all-suit : {m3 m4 : ℕ} → Going w 0 255 2 (eavAt p) m2 → Going w 266 266 (eavAt p) (eavAt p + 2) m3
-        → Going w 0 255 (eavAt p + 2) (length w) m4 → record { place = length w; before = startOf w; after = ofMask m4 } ≡ scannedOf p w
+    pub all-suit : {m3 m4 : ℕ} → RunInv w 0 255 2 (eavAt p) m2 → RunInv w 266 266 (eavAt p) (eavAt p + 2) m3
+        → RunInv w 0 255 (eavAt p + 2) (length w) m4 → record { place = length w; before = startOf w; after = ofMask m4 } ≡ scannedOf p w
     all-suit b d e =
         let before = reached b (omega arith) (omega (arith, d .come, e .come)) in
         scanned-is

@@ -8,8 +8,8 @@ ghost use Prim.Native.Nat.{ℕ, _+_, _-_, _*_, _%_, _≤_, _<_};
 ghost use mathlib.Core.List.{List};
 ghost use lib.ListN.{length};
 ghost use Rattle.decoder.specs.Inside.Decoder.{decodingTable};
-ghost use Rattle.read_test20.specs.Inside.Picture.{Got, Come, putPair};
-ghost use Rattle.read_test20.specs.Inside.See.{TenBits, AreBytes, Clean, passesBy};
+ghost use Rattle.read_test20.specs.Inside.Picture.{RowsInv, Come, putPair};
+ghost use Rattle.read_test20.specs.Inside.See.{TenBits, AreBytes, GatherInv, passesBy};
 
 // Words of each stream in a piece. None is looked at behind one with a fault: what is no window is soon known to be none.
 const PIECE: usize = 120;
@@ -48,7 +48,7 @@ fn turn_two(t: &[u16; 1024], symbols: &[u16], j: usize, v: Passed, rows: &mut [u
     requires { ⌜ 5772 ≤ length (now symbols) ⌝ }
     requires { ⌜ length (now rows) ≡ 3840 ⌝ }
     ensures size { λ _. ⌜ length (now (rows .exit)) ≡ 3840 ⌝ }
-    ensures got { λ r. ⌜ ((old : List ℕ) → Got 1 (now (symbols .entry)) old j v (now (rows .entry)) → Got 1 (now (symbols .entry)) old (j + 4) r (now (rows .exit))) ⌝ }
+    ensures got { λ r. ⌜ ((old : List ℕ) → RowsInv 1 (now (symbols .entry)) old j v (now (rows .entry)) → RowsInv 1 (now (symbols .entry)) old (j + 4) r (now (rows .exit))) ⌝ }
 {
     let a = crate::see::see_three(t, symbols, 12 + 3 * j, v.good, v.turns);
     let b = crate::see::see_three(t, symbols, 12 + 3 * (j + 1), a.good, a.turns);
@@ -85,7 +85,7 @@ fn take_two(
     requires { ⌜ 5772 ≤ length (now symbols) ⌝ }
     requires { ⌜ length (now rows) ≡ 3840 ⌝ }
     ensures size { λ _. ⌜ length (now (rows .exit)) ≡ 3840 ⌝ }
-    ensures got { λ r. ⌜ ((old : List ℕ) → Got 1 (now (symbols .entry)) old from v (now (rows .entry)) → Got 1 (now (symbols .entry)) old to r (now (rows .exit))) ⌝ }
+    ensures got { λ r. ⌜ ((old : List ℕ) → RowsInv 1 (now (symbols .entry)) old from v (now (rows .entry)) → RowsInv 1 (now (symbols .entry)) old to r (now (rows .exit))) ⌝ }
 {
     let mut p = v;
     let mut j = from;
@@ -117,7 +117,7 @@ fn turn_four(t: &[u16; 1024], symbols: &[u16], j: usize, v: Passed, rows: &mut [
     requires { ⌜ 11544 ≤ length (now symbols) ⌝ }
     requires { ⌜ length (now rows) ≡ 7680 ⌝ }
     ensures size { λ _. ⌜ length (now (rows .exit)) ≡ 7680 ⌝ }
-    ensures got { λ r. ⌜ ((old : List ℕ) → Got 2 (now (symbols .entry)) old j v (now (rows .entry)) → Got 2 (now (symbols .entry)) old (j + 4) r (now (rows .exit))) ⌝ }
+    ensures got { λ r. ⌜ ((old : List ℕ) → RowsInv 2 (now (symbols .entry)) old j v (now (rows .entry)) → RowsInv 2 (now (symbols .entry)) old (j + 4) r (now (rows .exit))) ⌝ }
 {
     let a = crate::see::see_six(t, symbols, 24 + 6 * j, v.good, v.turns);
     let b = crate::see::see_six(t, symbols, 24 + 6 * (j + 1), a.good, a.turns);
@@ -150,7 +150,7 @@ fn take_four(
     requires { ⌜ 11544 ≤ length (now symbols) ⌝ }
     requires { ⌜ length (now rows) ≡ 7680 ⌝ }
     ensures size { λ _. ⌜ length (now (rows .exit)) ≡ 7680 ⌝ }
-    ensures got { λ r. ⌜ ((old : List ℕ) → Got 2 (now (symbols .entry)) old from v (now (rows .entry)) → Got 2 (now (symbols .entry)) old to r (now (rows .exit))) ⌝ }
+    ensures got { λ r. ⌜ ((old : List ℕ) → RowsInv 2 (now (symbols .entry)) old from v (now (rows .entry)) → RowsInv 2 (now (symbols .entry)) old to r (now (rows .exit))) ⌝ }
 {
     let mut p = v;
     let mut j = from;
@@ -181,7 +181,7 @@ fn take_piece(
     requires { ⌜ 5772 * half ≤ length (now symbols) ⌝ }
     requires { ⌜ length (now rows) ≡ 3840 * half ⌝ }
     ensures size { λ _. ⌜ length (now (rows .exit)) ≡ 3840 * half ⌝ }
-    ensures got { λ r. ⌜ ((old : List ℕ) → Got half (now (symbols .entry)) old from v (now (rows .entry)) → Got half (now (symbols .entry)) old to r (now (rows .exit))) ⌝ }
+    ensures got { λ r. ⌜ ((old : List ℕ) → RowsInv half (now (symbols .entry)) old from v (now (rows .entry)) → RowsInv half (now (symbols .entry)) old to r (now (rows .exit))) ⌝ }
 {
     if half == 1 {
         return take_two(t, symbols, from, to, v, rows);
@@ -203,9 +203,9 @@ pub(crate) fn take_picture(
     requires { ⌜ half ≤ 2 ⌝ }
     requires { ⌜ 5772 * half ≤ length (now symbols) ⌝ }
     requires { ⌜ length (now rows) ≡ 3840 * half ⌝ }
-    requires { ⌜ Clean (now symbols) (12 * half) (12 * half) 65535 turns ⌝ }
+    requires { ⌜ GatherInv (now symbols) (12 * half) (12 * half) 65535 turns ⌝ }
     ensures size { λ _. ⌜ length (now (rows .exit)) ≡ 3840 * half ⌝ }
-    ensures got { λ r. ⌜ (passesBy (r .good) ≡ true → Got half (now (symbols .entry)) (now (rows .entry)) 1920 (record { good = r .good; turns = r .turns }) (now (rows .exit))) ⌝ }
+    ensures got { λ r. ⌜ (passesBy (r .good) ≡ true → RowsInv half (now (symbols .entry)) (now (rows .entry)) 1920 (record { good = r .good; turns = r .turns }) (now (rows .exit))) ⌝ }
     ensures come { λ r. ⌜ Come half (now (symbols .entry)) (r .words) (r .turns) ⌝ }
     ensures kept { λ r. ⌜ (AreBytes (now (symbols .entry)) (12 * half) (5772 * half) → passesBy (r .good) ≡ true) ⌝ }
 {

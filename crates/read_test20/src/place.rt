@@ -5,7 +5,7 @@ ghost use mathlib.Core.Path.{_≡_};
 ghost use Prim.Native.Nat.{_≤_};
 ghost use Rattle.decoder.specs.Inside.Decoder.{decodingTable};
 ghost use Rattle.window.specs.Scan.{startOf, fits};
-ghost use Rattle.read_test20.specs.Inside.Run.{holdsBy, Reached, place20};
+ghost use Rattle.read_test20.specs.Inside.Run.{holdsBy, ScanInv, place20};
 
 // The numbers of the special characters at which SAV and EAV begin.
 const K28_5: u16 = 261;
@@ -71,7 +71,7 @@ pub(crate) fn first_wrong(
 ) -> usize
     requires { ⌜ now t ≡ decodingTable ⌝ }
     requires { ⌜ p .half ≤ 2 ⌝ }
-    requires { ⌜ Reached p (now symbols) from mask ⌝ }
+    requires { ⌜ ScanInv p (now symbols) from mask ⌝ }
     ensures { λ r. ⌜ r ≡ place20 p (now (symbols .entry)) ⌝ }
 {
     let mut m = mask;

@@ -5,7 +5,7 @@ ghost use mathlib.Core.Path.{_≡_};
 ghost use Prim.Native.Nat.{_+_, _≤_, _<_};
 ghost use lib.ListN.{length};
 ghost use Rattle.decoder.specs.Inside.Decoder.{decodingTable};
-ghost use Rattle.read_test20.specs.Inside.See.{TenBits, Clean, seen, seenThree, seenSix, passesBy};
+ghost use Rattle.read_test20.specs.Inside.See.{TenBits, GatherInv, seen, seenThree, seenSix, passesBy};
 
 // The entry of a symbol, and what is gathered behind it. Bits 9, 10 and 13 of `good` stay set where each symbol was legal and a byte. Bits 11
 // and 12 of `turns` are those of the disparity that is not the running one, at which a symbol need not be legal.
@@ -97,8 +97,8 @@ pub(crate) fn see_run(t: &[u16; 1024], symbols: &[u16], from: usize, to: usize, 
     requires { ⌜ TenBits (now symbols) ⌝ }
     requires { ⌜ from ≤ to ⌝ }
     requires { ⌜ to ≤ length (now symbols) ⌝ }
-    requires { ⌜ Clean (now symbols) from from 65535 turns ⌝ }
-    ensures { λ r. ⌜ Clean (now (symbols .entry)) from to (r .good) (r .turns) ⌝ }
+    requires { ⌜ GatherInv (now symbols) from from 65535 turns ⌝ }
+    ensures { λ r. ⌜ GatherInv (now (symbols .entry)) from to (r .good) (r .turns) ⌝ }
 {
     let mut k = Kept { good: 65535, turns };
     let mut i = from;

@@ -15,9 +15,9 @@ ghost use Rattle.window.specs.Scan.{runningAt};
 ghost use Rattle.window.specs.Inside.Fill.{fillRight};
 ghost use Rattle.window.specs.Inside.Given.{Given};
 ghost use Rattle.read_test20.specs.Inside.Blank.{AreBlank};
-ghost use Rattle.read_test20.specs.Inside.Run.{Going, Reached, place20};
+ghost use Rattle.read_test20.specs.Inside.Run.{RunInv, ScanInv, place20};
 ghost use Rattle.read_test20.specs.Inside.See.{TenBits, AreBytes, maskBy};
-ghost use Rattle.read_test20.specs.Inside.Whole.{Twice, AllHold, wholeIf, placeIf20, Begun, Stays, Tied, RunTo, Ending, Wholly};
+ghost use Rattle.read_test20.specs.Inside.Whole.{Twice, AllHold, wholeIf, placeIf20, Begun, EavHolds, Tied, RunTo, Ending, Wholly};
 
 pub struct Taken {
     // Whether the window is as it should be: then all that follows is right, and the rows are.
@@ -80,7 +80,7 @@ fn behind_sav(symbols: &[u16]) -> u32
 // Whether K29.7 stands twice from a place on, at the disparity at which `turns` has been gathered, which it does not turn.
 fn is_eav(symbols: &[u16], at: usize, turns: u32) -> bool
     requires { ⌜ at + 2 ≤ length (now symbols) ⌝ }
-    ensures sound { λ r. ⌜ (r ≡ true → Stays (now (symbols .entry)) at turns) ⌝ }
+    ensures sound { λ r. ⌜ (r ≡ true → EavHolds (now (symbols .entry)) at turns) ⌝ }
     ensures kept { λ r. ⌜ (maskBy turns ≡ maskOf (runningAt (now (symbols .entry)) at) → Twice (now (symbols .entry)) 266 at → r ≡ true) ⌝ }
 {
     if turns / 2048 % 4 == 2 {
@@ -144,7 +144,7 @@ fn tail_of(t: &[u16; 1024], p: Shape, symbols: &[u16], turns: u32) -> Ended
     requires { ⌜ Given p (now t) (now symbols) ⌝ }
     requires { ⌜ TenBits (now symbols) ⌝ }
     requires { ⌜ Tied (now symbols) (5796 * p .half) turns ⌝ }
-    ensures whole { λ r. ⌜ (r .whole ≡ true → Going (now (symbols .entry)) 0 255 (5796 * p .half) (length (now (symbols .entry))) (maskBy (r .turns))) ⌝ }
+    ensures whole { λ r. ⌜ (r .whole ≡ true → RunInv (now (symbols .entry)) 0 255 (5796 * p .half) (length (now (symbols .entry))) (maskBy (r .turns))) ⌝ }
     ensures filled { λ r. ⌜ (r .filled ≡ true → fillRight p (now (symbols .entry)) ≡ true) ⌝ }
     ensures kept { λ r. ⌜ (AreBytes (now (symbols .entry)) (5796 * p .half) (length (now (symbols .entry))) → r .whole ≡ true) ⌝ }
 {
@@ -218,7 +218,7 @@ fn wanting_behind(t: &[u16; 1024], p: Shape, symbols: &[u16], words: usize, turn
     requires { ⌜ now t ≡ decodingTable ⌝ }
     requires { ⌜ p .half ≤ 2 ⌝ }
     requires { ⌜ words ≤ 1920 ⌝ }
-    requires { ⌜ Reached p (now symbols) (12 * p .half + 3 * p .half * words) (maskBy turns) ⌝ }
+    requires { ⌜ ScanInv p (now symbols) (12 * p .half + 3 * p .half * words) (maskBy turns) ⌝ }
     ensures { λ r. ⌜ (r .whole ≡ false) × (r .filled ≡ false) × (r .place ≡ place20 p (now (symbols .entry))) ⌝ }
 {
     let clean = span::layout::PICTURE_SYMBOL * p.half + 3 * p.half * words;

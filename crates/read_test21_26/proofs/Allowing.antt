@@ -12,26 +12,26 @@ use borrow.Author.Tests.{ne-eqb}
 use Rattle.ground.proofs.Cases.{on-test}
 use Rattle.ground.proofs.Reading.{next-left}
 use Rattle.packing.specs.Sample.{allowedWord}
-use Rattle.read_test21_26.specs.Inside.Picture.{allAllowed, wrongOf}
+use Rattle.read_test21_26.specs.Inside.Picture.{allAllowed, wrongFlag}
 
 -- a one that is put in stays
 stays : (found : ℕ) → eqb (bitOr found 1) 0 ≡ false
 stays found = ne-eqb (bitOr found 1) 0 (λ z. omega (arith, or-add-and found 1, and-le-l found 1))
 
 module _ (depth : ℕ) where
-  pub wrong-is : (w : ℕ) {t : Bool} → allowedWord depth w ≡ t → wrongOf depth w ≡ cond t 0 1
+  pub wrong-is : (w : ℕ) {t : Bool} → allowedWord depth w ≡ t → wrongFlag depth w ≡ cond t 0 1
   wrong-is w e = ap (λ (t : Bool). cond t 0 1) e
 
   -- one word more
   looked :
       (found x : ℕ) (xs : List ℕ)
-      → (eqb (bitOr found (wrongOf depth x)) 0 && allAllowed depth xs) ≡ (eqb found 0 && allAllowed depth (x ∷ xs))
+      → (eqb (bitOr found (wrongFlag depth x)) 0 && allAllowed depth xs) ≡ (eqb found 0 && allAllowed depth (x ∷ xs))
   unfolding allAllowed
   looked found x xs = on-test (allowedWord depth x) (λ t. simp (t, or-zero-r)) (λ t. simp (t, stays, and-false))
 
   pub look-turn :
       {out : ℕ} (found : ℕ) (xs : List ℕ) (i : ℕ)
-      → i < length xs → out ≡ wrongOf depth (getD xs i 0)
+      → i < length xs → out ≡ wrongFlag depth (getD xs i 0)
       → (eqb (bitOr found out) 0 && allAllowed depth (drop (i + 1) xs)) ≡ (eqb found 0 && allAllowed depth (drop i xs))
   look-turn found xs i h e = rw (e, next-left xs i 0 h) (looked found (getD xs i 0) (drop (i + 1) xs))
 

@@ -14,7 +14,7 @@ use Rattle.line.specs.Stream.{lineBefore}
 use Rattle.span.specs.declared.format.Shape.{Shape}
 use Rattle.span.specs.Format.{streams}
 use Rattle.packing.specs.declared.bytes.TwoWords.{TwoWords}
-use Rattle.packing.specs.Bytes.{wordsOf}
+use Rattle.packing.specs.Bytes.{unpacked}
 use Rattle.crcc.specs.Crcc.{crc, crcWord, crccWords}
 use Rattle.word.specs.LineNumber.{lineOf, namedOf}
 use Rattle.window.specs.Tests.{wordOf, sumOf, nextLine, lineRead, repairCount}
@@ -23,7 +23,7 @@ use Rattle.window.specs.Words.{fixedByte, byteAt, pairAt, wordAt}
 use Rattle.window.proofs.Bytes.{word-below}
 use Rattle.window.proofs.Encoded.{fixed-two, fixed-four}
 use Rattle.window.proofs.Placing.{four, word-of-place, stream-of-place, place-again}
-use Rattle.read_test21_26.specs.Inside.Holds.{crccBehind}
+use Rattle.read_test21_26.specs.Inside.Holds.{crccReceived}
 
 -- ---- bytes
 
@@ -44,11 +44,11 @@ fixed-ones (suc (suc (suc half))) i a b h x = absurd (omega arith)
 
 module _ (p : Shape) (w : List ℕ) (k : ℕ) {x y z : ℕ} (first : x ≡ byteAt p w (3 * (k / 2)))
     (second : y ≡ byteAt p w (3 * (k / 2) + 1)) (third : z ≡ byteAt p w (3 * (k / 2) + 2)) where
-  pub word-even : {u : TwoWords} → u ≡ wordsOf (record { first = x; second = y; third = z }) → k % 2 ≡ 0 → u .a ≡ wordAt p w k
+  pub word-even : {u : TwoWords} → u ≡ unpacked (record { first = x; second = y; third = z }) → k % 2 ≡ 0 → u .a ≡ wordAt p w k
   unfolding wordAt pairAt
   word-even e q = rw (e, first, second, third, eq-eqb (k % 2) 0 q)
 
-  pub word-odd : {u : TwoWords} → u ≡ wordsOf (record { first = x; second = y; third = z }) → (k % 2 ≡ 0 → ⊥) → u .b ≡ wordAt p w k
+  pub word-odd : {u : TwoWords} → u ≡ unpacked (record { first = x; second = y; third = z }) → (k % 2 ≡ 0 → ⊥) → u .b ≡ wordAt p w k
   unfolding wordAt pairAt
   word-odd e q = rw (e, first, second, third, ne-eqb (k % 2) 0 q)
 
@@ -110,8 +110,8 @@ module _ (p : Shape) (w : List ℕ) (i : ℕ) where
       (crcWord (crcWord (crcWord (crcWord (crcWord (crcWord c
       (wordOf (streams p) (wordAt p w) 1924 i)) (wordOf (streams p) (wordAt p w) 1925 i)) (wordOf (streams p) (wordAt p w) 1926 i))
       (repaired (wordOf (streams p) (wordAt p w) 1927 i))) (wordOf (streams p) (wordAt p w) 1928 i)) (wordOf (streams p) (wordAt p w) 1929 i))
-      ≡ crccBehind p w i c
-  unfolding crccBehind table upto crc
+      ≡ crccReceived p w i c
+  unfolding crccReceived table upto crc
   six c = refl
 
 -- ---- places

@@ -16,13 +16,13 @@ use Rattle.ground.proofs.Tests.{both-left}
 use Rattle.line.specs.Stream.{isLine, vOf}
 use Rattle.span.specs.declared.format.Shape.{Shape}
 use Rattle.span.specs.Format.{streams}
-use Rattle.word.specs.LineNumber.{ln0, ln1, names, lineOf}
+use Rattle.word.specs.LineNumber.{ln0, ln1, areWordsOf, lineOf}
 use Rattle.crcc.specs.declared.sums.Sums.{Sums}
 use Rattle.window.specs.Tests.{same, wordOf, named, nextLine, lineRead, holds21, holds22, holds23}
 use Rattle.word.specs.Received.{isTiming, vIn}
 use Rattle.crcc.specs.Inside.Sums.{sumIn}
 use Rattle.window.specs.Words.{wordAt}
-use Rattle.read_test21_26.specs.Inside.Holds.{crccBehind, holds24By}
+use Rattle.read_test21_26.specs.Inside.Holds.{crccReceived, holds24By}
 
 -- two bits compared
 pub same-is : (a b : Bool) → Bool·beq a b ≡ same a b
@@ -84,11 +84,11 @@ module _ (s : ℕ) (word : ℕ → ℕ) (j t : ℕ) where
 
 -- ---- 24
 module _ (p : Shape) (w : List ℕ) (c : Sums) (j t : ℕ) where
-  pub first-24 : j ≡ 1930 → holds24By p w c j t ≡ eqb (wordOf (streams p) (wordAt p w) j t) (crccBehind p w t (sumIn c t) .crcc0)
+  pub first-24 : j ≡ 1930 → holds24By p w c j t ≡ eqb (wordOf (streams p) (wordAt p w) j t) (crccReceived p w t (sumIn c t) .crcc0)
   unfolding holds24By
   first-24 e = rw (eq-eqb j 1930 e)
 
-  pub second-24 : j ≡ 1931 → holds24By p w c j t ≡ eqb (wordOf (streams p) (wordAt p w) j t) (crccBehind p w t (sumIn c t) .crcc1)
+  pub second-24 : j ≡ 1931 → holds24By p w c j t ≡ eqb (wordOf (streams p) (wordAt p w) j t) (crccReceived p w t (sumIn c t) .crcc1)
   unfolding holds24By
   second-24 e =
       let far : j ≡ 1930 → ⊥ = λ q. omega arith in
@@ -104,7 +104,7 @@ module _ (p : Shape) (w : List ℕ) (c : Sums) (j t : ℕ) where
 named-line : (a b m : ℕ) → lineOf a b ≡ some m → 1 ≤ m
 unfolding lineOf
 named-line a b m e =
-    from-low 1 1125 m (both-left (isLine m) (eqb (ln0 m) a && eqb (ln1 m) b) (hit (names a b) 1126 m e .holds))
+    from-low 1 1125 m (both-left (isLine m) (eqb (ln0 m) a && eqb (ln1 m) b) (hit (areWordsOf a b) 1126 m e .holds))
 
 pub some-line : (s : ℕ) (word : ℕ → ℕ) → not (eqb (nextLine s word) 0) ≡ isSome (named s word)
 unfolding nextLine

@@ -13,7 +13,7 @@ ghost use Rattle.window.specs.Read.{placed};
 ghost use Rattle.window.specs.Tests.{nextLine, repairCount, holds21, holds22, holds23};
 ghost use Rattle.window.specs.Words.{wordAt};
 ghost use Rattle.window.specs.Inside.Given.{Given};
-ghost use Rattle.read_test21_26.specs.Inside.Holds.{Told, holds24By, holdsAt, firstWrong, crccBehind};
+ghost use Rattle.read_test21_26.specs.Inside.Holds.{LineKnown, holds24By, holdsAt, firstWrong, crccReceived};
 
 // The line that the two words of stream 1 name; 0 where they name none. This and `read_line_words` rule out the fault by which a recital
 // was lost: both words are one stream's and one span's, and name a line only if both are what is sent for it.
@@ -93,7 +93,7 @@ fn v_holds(t: &[u16; 1024], p: Shape, symbols: &[u16], next: StreamLine, k: usiz
 fn crcc_behind(t: &[u16; 1024], p: Shape, symbols: &[u16], i: usize, c: u32) -> CrccWords
     requires { ⌜ Given p (now t) (now symbols) ⌝ }
     requires { ⌜ i < streams p ⌝ }
-    ensures { λ r. ⌜ r ≡ crccBehind p (now (symbols .entry)) i c ⌝ }
+    ensures { λ r. ⌜ r ≡ crccReceived p (now (symbols .entry)) i c ⌝ }
 {
     let s = 2 * p.half;
     let at = span::layout::EAV * s + i;
@@ -157,7 +157,7 @@ fn holds(
     c: Sums,
     k: usize,
 ) -> bool
-    requires { ⌜ Told p (now t) (now symbols) next ⌝ }
+    requires { ⌜ LineKnown p (now t) (now symbols) next ⌝ }
     requires { ⌜ k < 2 * pairsIn p ⌝ }
     ensures { λ r. ⌜ r ≡ holdsAt number f p (now (symbols .entry)) c k ⌝ }
 {
@@ -192,7 +192,7 @@ pub(crate) fn first_wrong(
     from: usize,
     to: usize,
 ) -> usize
-    requires { ⌜ Told p (now t) (now symbols) next ⌝ }
+    requires { ⌜ LineKnown p (now t) (now symbols) next ⌝ }
     requires { ⌜ from ≤ to ⌝ }
     requires { ⌜ to ≤ 2 * pairsIn p ⌝ }
     ensures { λ r. ⌜ r ≡ firstWrong (holdsAt number f p (now (symbols .entry)) c) from to ⌝ }

@@ -4,11 +4,11 @@ use span::format::Format;
 use span::format::Shape;
 ghost use mathlib.Core.Path.{_≡_};
 ghost use Prim.Native.Nat.{_+_, _<_};
-ghost use Rattle.read_test21_26.specs.Inside.Picture.{allAllowed, wrongOf};
+ghost use Rattle.read_test21_26.specs.Inside.Picture.{allAllowed, wrongFlag};
 
 // 1 where a word may not be that of a sample.
 fn wrong_word(depth: u8, w: u16) -> u16
-    ensures { λ r. ⌜ r ≡ wrongOf depth w ⌝ }
+    ensures { λ r. ⌜ r ≡ wrongFlag depth w ⌝ }
 {
     if packing::sample::allowed_word(depth, w) {
         return 0;

@@ -7,7 +7,7 @@ ghost use mathlib.Core.Path.{_≡_};
 ghost use Prim.Native.Nat.{_*_, _≤_};
 ghost use Rattle.span.specs.Format.{streams};
 ghost use Rattle.span.specs.Layout.{ancillaryStart};
-ghost use Rattle.read_test21_26.specs.Inside.Holds.{Told, holdsAt, wrongIn};
+ghost use Rattle.read_test21_26.specs.Inside.Holds.{LineKnown, holdsAt, wrongIn};
 ghost use Rattle.read_test21_26.specs.Inside.Verdict.{passed, verdictOf, firstRow, serviceTests};
 
 // The number of the test that does not hold, and its lowest place; 0 where all hold.
@@ -28,7 +28,7 @@ fn judge_one(
     from: usize,
     to: usize,
 ) -> Verdict
-    requires { ⌜ Told p (now t) (now symbols) next ⌝ }
+    requires { ⌜ LineKnown p (now t) (now symbols) next ⌝ }
     requires { ⌜ from ≤ to ⌝ }
     requires { ⌜ to ≤ ancillaryStart ⌝ }
     ensures { λ r. ⌜ r ≡ verdictOf number (wrongIn (holdsAt number f p (now (symbols .entry)) c) (streams p * from) (streams p * to)) passed ⌝ }
@@ -53,7 +53,7 @@ pub(crate) fn judge_words(
     next: StreamLine,
     c: Sums,
 ) -> Verdict
-    requires { ⌜ Told p (now t) (now symbols) next ⌝ }
+    requires { ⌜ LineKnown p (now t) (now symbols) next ⌝ }
     ensures { λ r. ⌜ r ≡ firstRow (serviceTests p (now (symbols .entry)) c) ⌝ }
 {
     let sav = judge_one(21, f, t, p, symbols, next, c, 0, span::layout::PICTURE);

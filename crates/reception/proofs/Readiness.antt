@@ -10,10 +10,10 @@ use borrow.Author.Tests.{le-leb, lt-leb, eq-eqb, ne-eqb, leb-true, eqb-true}
 use Rattle.ground.proofs.Tests.{both-left, both-right}
 use Rattle.recording.specs.Recording.{deliveryFrom}
 use Rattle.reception.specs.Link.{link}
-use Rattle.reception.specs.Receiving.{heardFrom, shownFrom, ready, heardBy, shownBy}
+use Rattle.reception.specs.Receiving.{heardFrom, shownFrom, receivable, heardBy, shownBy}
 
 module _ (first symbols heard picture : ℕ) where
-  pub line-behind : 1121 < first → ready first symbols heard picture ≡ false
+  pub line-behind : 1121 < first → receivable first symbols heard picture ≡ false
   line-behind h = simp (lt-leb first 1121 h)
 
   pub record Ready : Type 0 where
@@ -23,17 +23,17 @@ module _ (first symbols heard picture : ℕ) where
     pub rows : picture ≡ 38400
 
   module _ (line : first ≤ 1121) where
-    pub too-many : 95040 < symbols → ready first symbols heard picture ≡ false
+    pub too-many : 95040 < symbols → receivable first symbols heard picture ≡ false
     too-many h = simp (le-leb first 1121 line, lt-leb symbols 95040 h)
 
     module _ (short : symbols ≤ 95040) where
-      pub no-room : (heard ≡ 5 → ⊥) → ready first symbols heard picture ≡ false
+      pub no-room : (heard ≡ 5 → ⊥) → receivable first symbols heard picture ≡ false
       no-room x = simp (le-leb first 1121 line, le-leb symbols 95040 short, ne-eqb heard 5 x)
 
-      pub by-rows : heard ≡ 5 → ready first symbols heard picture ≡ eqb picture 38400
+      pub by-rows : heard ≡ 5 → receivable first symbols heard picture ≡ eqb picture 38400
       by-rows e = simp (le-leb first 1121 line, le-leb symbols 95040 short, eq-eqb heard 5 e)
 
-  pub ready-told : ready first symbols heard picture ≡ true → Ready
+  pub ready-told : receivable first symbols heard picture ≡ true → Ready
   ready-told t =
       let rooms = eqb heard 5 && eqb picture 38400 in
       let behind = both-right (leb first 1121) (leb symbols 95040 && rooms) t in
@@ -45,13 +45,13 @@ module _ (first symbols heard picture : ℕ) where
         rows = eqb-true picture 38400 (both-right (eqb heard 5) (eqb picture 38400) both);
       }
 
-  pub is-ready : Ready → ready first symbols heard picture ≡ true
+  pub is-ready : Ready → receivable first symbols heard picture ≡ true
   is-ready r = by-rows (r .line) (r .short) (r .flags) ∙ eq-eqb picture 38400 (r .rows)
 
--- the call, where it was ready and where it was not
+-- the call, where it was receivable and where it was not
 module _ (first : ℕ) (symbols heard picture : List ℕ) where
   abbrev wasReady : Bool
-  wasReady = ready first (length symbols) (length heard) (length picture)
+  wasReady = receivable first (length symbols) (length heard) (length picture)
 
   abbrev Made : List ℕ → List ℕ → Type 0
   Made heardExit pictureExit =

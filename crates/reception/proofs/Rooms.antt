@@ -9,14 +9,14 @@ use lib.ListN.{length}
 use lib.Seq.{sets}
 use borrow.Author.Tests.{eq-eqb, ne-eqb, le-leb, lt-leb}
 use Rattle.io.specs.Counts.{Counts}
-use Rattle.reception.specs.Summary.{ready, summary, summaryEnd, summaryPut}
+use Rattle.reception.specs.Summary.{receivable, summary, summaryEnd, summaryPut}
 
 module _ (heard out : List ℕ) where
   -- what the call promises
   abbrev Promised : ℕ → List ℕ → Type 0
   Promised end after = Counts end after × ((end ≡ summaryEnd heard (length out)) × (after ≡ summaryPut heard out))
 
-  nothing : ready (length heard) (length out) ≡ false → Promised 0 out
+  nothing : receivable (length heard) (length out) ≡ false → Promised 0 out
   nothing t = ((omega arith, refl), (simp t, simp t))
 
   pub no-frame : (length heard ≡ 1125 → ⊥) → Promised 0 out
@@ -29,5 +29,5 @@ module _ (heard out : List ℕ) where
     pub room : 128 ≤ length out → {end : ℕ} {after : List ℕ} → Counts end after → end ≡ length (summary heard) → after ≡ sets out 0 (summary heard)
         → Promised end after
     room h counts e w =
-        let t : ready (length heard) (length out) ≡ true = simp (eq-eqb (length heard) 1125 frame, le-leb 128 (length out) h) in
+        let t : receivable (length heard) (length out) ≡ true = simp (eq-eqb (length heard) 1125 frame, le-leb 128 (length out) h) in
         (counts, (e ∙ simp t, w ∙ simp t))

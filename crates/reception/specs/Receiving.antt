@@ -14,19 +14,19 @@ use Rattle.recording.specs.Recording.{Reading, deliveryFrom}
 use Rattle.reception.specs.Link.{link}
 
 -- the number of the line that was read
-abbrev pub lineRead : Reading → ℕ
-lineRead x = x .values .line .0
+abbrev pub lineHeard : Reading → ℕ
+lineHeard x = x .values .line .0
 
 -- two streams joined: the row of the picture whose even samples the one has, and its odd ones the other (004, 5.3)
-unfoldable pub rowOf : ℕ → List ℕ → List ℕ
-rowOf t words = joined 1920 (streamIn words t) (streamIn words (t + 1))
+unfoldable pub joinedRow : ℕ → List ℕ → List ℕ
+joinedRow t words = joined 1920 (streamIn words t) (streamIn words (t + 1))
 
 -- the two lines of the picture that a span brings: images 1 and 2 make line 2l - 1, images 3 and 4 line 2l. A blanking line brings none.
 abbrev pub bothRows : List ℕ → List ℕ
-bothRows words = rowOf 0 words ++ rowOf 2 words
+bothRows words = joinedRow 0 words ++ joinedRow 2 words
 
 abbrev pub brings : Reading → List ℕ
-brings x = cond (isActive (lineRead x)) (bothRows (x .words)) []
+brings x = cond (isActive (lineHeard x)) (bothRows (x .words)) []
 
 -- its line was heard: 1
 abbrev pub flag : Reading → List ℕ
@@ -39,7 +39,7 @@ isOf first n = within first (first + 4) n
 -- what a span brings is put at the place of its line among the five, each with room for so many words. A span of another line brings nothing.
 abbrev pub putOne : ℕ → (Reading → List ℕ) → ℕ → List ℕ → Reading → List ℕ
 putOne size what first buffer x =
-    cond (isOf first (lineRead x)) (sets buffer (size * (lineRead x - first)) (what x)) buffer
+    cond (isOf first (lineHeard x)) (sets buffer (size * (lineHeard x - first)) (what x)) buffer
 
 -- and so with each span that is delivered
 unfoldable pub putAll : ℕ → (Reading → List ℕ) → ℕ → List ℕ → List (Found Reading) → List ℕ
@@ -57,8 +57,8 @@ shownFrom = putAll 7680 brings
 -- ---- the call: what a piece of symbols brings into cleared memory
 
 -- a line with four lines behind it, no more symbols than five spans have, and room for five flags and ten rows
-abbrev pub ready : ℕ → ℕ → ℕ → ℕ → Bool
-ready first symbols heard picture = leb first 1121 && (leb symbols 95040 && (eqb heard 5 && eqb picture 38400))
+abbrev pub receivable : ℕ → ℕ → ℕ → ℕ → Bool
+receivable first symbols heard picture = leb first 1121 && (leb symbols 95040 && (eqb heard 5 && eqb picture 38400))
 
 -- the flags and the rows
 abbrev pub heardBy : ℕ → List ℕ → List ℕ
@@ -68,8 +68,8 @@ abbrev pub shownBy : ℕ → List ℕ → List ℕ
 shownBy first symbols = shownFrom first (replicate 38400 0) (deliveryFrom link symbols 0)
 
 -- lent memory afterwards: of anything else nothing is made
-abbrev pub flagsAfter : ℕ → List ℕ → List ℕ → ℕ → List ℕ
-flagsAfter first symbols heard picture = cond (ready first (length symbols) (length heard) picture) (heardBy first symbols) heard
+abbrev pub flagsReceived : ℕ → List ℕ → List ℕ → ℕ → List ℕ
+flagsReceived first symbols heard picture = cond (receivable first (length symbols) (length heard) picture) (heardBy first symbols) heard
 
-abbrev pub rowsAfter : ℕ → List ℕ → ℕ → List ℕ → List ℕ
-rowsAfter first symbols heard picture = cond (ready first (length symbols) heard (length picture)) (shownBy first symbols) picture
+abbrev pub rowsReceived : ℕ → List ℕ → ℕ → List ℕ → List ℕ
+rowsReceived first symbols heard picture = cond (receivable first (length symbols) heard (length picture)) (shownBy first symbols) picture

@@ -66,11 +66,11 @@ summary heard =
     ++ cond (eqb (length heard - delivered heard) 0) [] (which heard)))
 
 -- ---- the call: the flags of a frame's 1,125 lines, and room for the text; for anything else nothing is put
-abbrev pub ready : ℕ → ℕ → Bool
-ready heard out = eqb heard 1125 && leb 128 out
+abbrev pub receivable : ℕ → ℕ → Bool
+receivable heard out = eqb heard 1125 && leb 128 out
 
 abbrev pub summaryEnd : List ℕ → ℕ → ℕ
-summaryEnd heard out = cond (ready (length heard) out) (length (summary heard)) 0
+summaryEnd heard out = cond (receivable (length heard) out) (length (summary heard)) 0
 
 abbrev pub summaryPut : List ℕ → List ℕ → List ℕ
-summaryPut heard out = cond (ready (length heard) (length out)) (sets out 0 (summary heard)) out
+summaryPut heard out = cond (receivable (length heard) (length out)) (sets out 0 (summary heard)) out

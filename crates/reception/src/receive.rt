@@ -8,14 +8,14 @@ ghost use lib.ListN.{length};
 ghost use lib.Seq.{sets};
 ghost use Rattle.recording.specs.Recording.{deliveryFrom};
 ghost use Rattle.reception.specs.Link.{link};
-ghost use Rattle.reception.specs.Receiving.{rowOf, brings, flag, putOne, heardFrom, shownFrom, ready, flagsAfter, rowsAfter};
+ghost use Rattle.reception.specs.Receiving.{joinedRow, brings, flag, putOne, heardFrom, shownFrom, receivable, flagsReceived, rowsReceived};
 
 // Two streams of a span joined into a row of the picture, which stands at a place.
 fn put_row(rows: &[u16], t: usize, picture: &mut [u16], at: usize)
     requires { ⌜ length (now rows) ≡ 7680 ⌝ }
     requires { ⌜ t ≤ 2 ⌝ }
     requires { ⌜ at + 3840 ≤ length (now picture) ⌝ }
-    ensures { λ _. ⌜ now (picture .exit) ≡ sets (now (picture .entry)) at (rowOf t (now (rows .entry))) ⌝ }
+    ensures { λ _. ⌜ now (picture .exit) ≡ sets (now (picture .entry)) at (joinedRow t (now (rows .entry))) ⌝ }
 {
     let first = 1920 * t;
     let second = first + 1920;
@@ -91,7 +91,7 @@ fn receive_all(
 
 // Whether there are five lines from the first on, no more symbols than they have, and room for what they bring.
 fn is_ready(first: StreamLine, symbols: usize, heard: usize, picture: usize) -> bool
-    ensures { λ r. ⌜ r ≡ ready (first .0) symbols heard picture ⌝ }
+    ensures { λ r. ⌜ r ≡ receivable (first .0) symbols heard picture ⌝ }
 {
     if 1121 < line::stream::number_of(first) {
         return false;
@@ -108,8 +108,8 @@ fn is_ready(first: StreamLine, symbols: usize, heard: usize, picture: usize) -> 
 // The symbols of five lines, the first of which is given, as they were received: 1 for each line that is delivered, else 0; and ten rows of
 // the picture, black where a line is not delivered and on blanking lines. Of anything else nothing is made.
 pub fn receive(first: StreamLine, symbols: &[u16], heard: &mut [u16], picture: &mut [u16])
-    ensures heard { λ _. ⌜ now (heard .exit) ≡ flagsAfter (first .0) (now (symbols .entry)) (now (heard .entry)) (length (now (picture .entry))) ⌝ }
-    ensures picture { λ _. ⌜ now (picture .exit) ≡ rowsAfter (first .0) (now (symbols .entry)) (length (now (heard .entry))) (now (picture .entry)) ⌝ }
+    ensures heard { λ _. ⌜ now (heard .exit) ≡ flagsReceived (first .0) (now (symbols .entry)) (now (heard .entry)) (length (now (picture .entry))) ⌝ }
+    ensures picture { λ _. ⌜ now (picture .exit) ≡ rowsReceived (first .0) (now (symbols .entry)) (length (now (heard .entry))) (now (picture .entry)) ⌝ }
 {
     if is_ready(first, symbols.len(), heard.len(), picture.len()) {
         let mut rows = [0u16; 7680];

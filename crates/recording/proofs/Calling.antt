@@ -11,7 +11,7 @@ use borrow.Author.Tests.{eq-eqb, ne-eqb, le-leb, lt-leb}
 use Rattle.ground.specs.Answer.{Answer, refused, given}
 use Rattle.span.specs.declared.format.Format.{Format}
 use Rattle.span.specs.Format.{isKnown, shapeOf, samplesIn, symbolsIn}
-use Rattle.delivery.specs.Delivery.{Found, windowAt, readFrom, nextFrom as nextBy}
+use Rattle.delivery.specs.Delivery.{Found, windowAt, readFrom, nextBy as nextBy}
 use Rattle.delivery.proofs.Finding.{told, stands-whole, found-told}
 use Rattle.recording.specs.declared.seek.Spanned.{Spanned}
 use Rattle.recording.specs.Call.{findOf, spanned, nextOf, endOr, afterNext, wordsOr, rowsNext}

@@ -12,7 +12,7 @@ use lib.ListN.{getD}
 use borrow.Author.Tests.{ne-eqb, ltb-true, ltb-false}
 use Rattle.ground.proofs.Cases.{on-test}
 use Rattle.symbol.specs.Code.{symbolOf}
-use Rattle.recording.specs.Inside.Look.{isComma, commaIn, gathered, commaAt, pairAt, near, mayBegin, Passed}
+use Rattle.recording.specs.Inside.Look.{isComma, commaIn, gathered, commaAt, commaPair, lookAhead, mayBegin, LookInv}
 
 -- ---- one symbol
 
@@ -85,25 +85,25 @@ module _ (r : List ℕ) (q : ℕ) where
     second-fails n = rw (is-comma (getD r q 0) first, not-comma (getD r (q + 1) 0) n)
 
     module _ (second : commaIn (getD r (q + 1) 0) ≡ 1) where
-      pub rest-tells : eqb (gathered near (commaAt r (q + 2))) 0 ≡ mayBegin r q
+      pub rest-tells : eqb (gathered lookAhead (commaAt r (q + 2))) 0 ≡ mayBegin r q
       rest-tells = rw (is-comma (getD r q 0) first, is-comma (getD r (q + 1) 0) second) refl
 
       pub third-fails : (commaIn (getD r (q + 2) 0) ≡ 0 → ⊥) → mayBegin r q ≡ false
       third-fails n =
           sym rest-tells
-          ∙ ne-eqb (gathered near (commaAt r (q + 2))) 0
+          ∙ ne-eqb (gathered lookAhead (commaAt r (q + 2))) 0
           (λ z.
           let here : q + 2 + 0 ≡ q + 2 = omega arith in
-          n (rw here at (each-none (commaAt r (q + 2)) near z 0 (omega arith))))
+          n (rw here at (each-none (commaAt r (q + 2)) lookAhead z 0 (omega arith))))
 
 module _ (r : List ℕ) where
   -- ---- places passed over
 
-  pub nothing-yet : (from : ℕ) → Passed r from from
+  pub nothing-yet : (from : ℕ) → LookInv r from from
   nothing-yet from = record { at = omega arith; none = λ j p q. absurd (omega arith) }
 
   -- those up to mid, and those from there on
-  pub further : {from mid q : ℕ} → Passed r from mid → Passed r mid q → Passed r from q
+  pub further : {from mid q : ℕ} → LookInv r from mid → LookInv r mid q → LookInv r from q
   further {from} {mid} {q} a b =
       record {
         at = omega (arith, a .at, b .at);
@@ -111,19 +111,19 @@ module _ (r : List ℕ) where
       }
 
   -- no more of them than are asked for
-  pub up-to : {from mid q : ℕ} → Passed r from q → from ≤ mid → mid ≤ q → Passed r from mid
+  pub up-to : {from mid q : ℕ} → LookInv r from q → from ≤ mid → mid ≤ q → LookInv r from mid
   up-to p a b = record { at = a; none = λ j h l. p .none j h (omega arith) }
 
   -- one place
-  one-passed : {q : ℕ} → mayBegin r q ≡ false → Passed r q (q + 1)
+  one-passed : {q : ℕ} → mayBegin r q ≡ false → LookInv r q (q + 1)
   one-passed {q} e = record { at = omega arith; none = λ j p l. let is : j ≡ q = omega arith in rw is e }
 
-  pub without : {from q : ℕ} → Passed r from q → mayBegin r q ≡ false → Passed r from (q + 1)
+  pub without : {from q : ℕ} → LookInv r from q → mayBegin r q ≡ false → LookInv r from (q + 1)
   without p e = further p (one-passed e)
 
   -- n places by marks: where a mark is 0 no span begins
   marked : (from n : ℕ) (mark : ℕ → ℕ) → ((k : ℕ) → mark k ≡ 0 → mayBegin r (from + k) ≡ false) → gathered n mark ≡ 0
-      → Passed r from (from + n)
+      → LookInv r from (from + n)
   marked from n mark tells z =
       record {
         at = omega arith;
@@ -132,8 +132,8 @@ module _ (r : List ℕ) where
             rw here at (tells (j - from) (each-none mark n z (j - from) (omega arith)));
       }
 
-  pub no-commas : (from n : ℕ) {x : ℕ} → x ≡ gathered n (commaAt r from) → x ≡ 0 → Passed r from (from + n)
+  pub no-commas : (from n : ℕ) {x : ℕ} → x ≡ gathered n (commaAt r from) → x ≡ 0 → LookInv r from (from + n)
   no-commas from n e z = marked from n (commaAt r from) (λ k. no-comma r (from + k)) (sym e ∙ z)
 
-  pub no-pairs : (from n : ℕ) {x : ℕ} → x ≡ gathered n (pairAt r from) → x ≡ 0 → Passed r from (from + n)
-  no-pairs from n e z = marked from n (pairAt r from) (λ k. no-two r (from + k)) (sym e ∙ z)
+  pub no-pairs : (from n : ℕ) {x : ℕ} → x ≡ gathered n (commaPair r from) → x ≡ 0 → LookInv r from (from + n)
+  no-pairs from n e z = marked from n (commaPair r from) (λ k. no-two r (from + k)) (sym e ∙ z)

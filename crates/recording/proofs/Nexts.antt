@@ -10,7 +10,7 @@ use lib.ListN.{length, take, drop}
 use Rattle.span.specs.declared.format.Format.{Format}
 use Rattle.span.specs.Format.{isKnown, shapeOf, samplesIn, symbolsIn}
 use Rattle.read.proofs.Windows.{length-picture}
-use Rattle.delivery.specs.Delivery.{Found, windowAt, readFrom, nextFrom as nextBy}
+use Rattle.delivery.specs.Delivery.{Found, windowAt, readFrom, nextBy as nextBy}
 use Rattle.delivery.specs.Inside.Marked.{Whole}
 use Rattle.delivery.proofs.Finding.{told, stands-whole, found-told}
 use Rattle.recording.specs.Recording.{Reading, reading, findFrom, nextFrom}

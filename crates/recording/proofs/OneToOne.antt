@@ -6,7 +6,7 @@ use mathlib.Core.Option.{Option, none, some}
 use Prim.Native.Nat.{ℕ}
 use lib.Dec.{eqb}
 use Rattle.ground.specs.Answer.{Answer, refused, given}
-use Rattle.ground.specs.Inside.Answer.{OneToOne}
+use Rattle.ground.specs.Inside.Answer.{Injective}
 use Rattle.ground.proofs.Answers.{told-again}
 use Rattle.recording.specs.declared.find.Found.{Found}
 use Rattle.recording.specs.declared.find.Found.the-variants.{At, Nowhere, UnknownFormat, WrongInput, WrongStart}
@@ -26,7 +26,7 @@ nextAgain (given (some s)) = Delivered s
 nextAgain (given none) = NoSpan
 nextAgain (refused n k) = cond (eqb n 1) NoFormat (cond (eqb n 3) NoInput (cond (eqb n 4) WrongOutput NoStart))
 
-pub found-one-to-one : OneToOne paperFound
+pub found-one-to-one : Injective paperFound
 found-one-to-one = told-again foundAgain again
   where
     again : (r : Found) → foundAgain (paperFound r) ≡ r
@@ -36,7 +36,7 @@ found-one-to-one = told-again foundAgain again
     again WrongInput = refl
     again WrongStart = refl
 
-pub next-one-to-one : OneToOne paperNext
+pub next-one-to-one : Injective paperNext
 next-one-to-one = told-again nextAgain again
   where
     again : (r : NextSpan) → nextAgain (paperNext r) ≡ r

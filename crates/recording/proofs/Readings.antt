@@ -30,7 +30,7 @@ use Rattle.window.proofs.Accepting.{Accepted, accepted-told}
 use Rattle.window.proofs.Specials.{k28-5-at, only-k28-5}
 use Rattle.recording.proofs.Looking.{all-none}
 use Rattle.recording.specs.Recording.{Reading, withWords, reading, accepts}
-use Rattle.recording.specs.Inside.Look.{isComma, commaAt, gathered, near, mayBegin}
+use Rattle.recording.specs.Inside.Look.{isComma, commaAt, gathered, lookAhead, mayBegin}
 
 module _ (f : Format) (w : List ℕ) where
   -- what is read has a span's length, and `readSpan` answers it
@@ -86,7 +86,7 @@ module _ (f : Format) (known : isKnown f ≡ true) where
   n = symbolsIn (shapeOf f)
 
   -- longer than what the quick look needs behind its last place
-  pub long : 66 + near + 3 ≤ n
+  pub long : 66 + lookAhead + 3 ≤ n
   long = omega (arith, known-has-streams f known)
 
   module _ (w : List ℕ) (x : Reading) (e : reading f w ≡ some x) where
@@ -131,8 +131,8 @@ module _ (f : Format) (known : isKnown f ≡ true) where
         let here : q + 0 ≡ q = omega arith in
         let one = sym (ap isComma (at 0 (omega (arith, long)))) ∙ first window x e in
         let two = sym (ap isComma (at 1 (omega (arith, long)))) ∙ second window x e in
-        let rest : gathered near (commaAt r (q + 2)) ≡ 0 =
-        all-none (commaAt r (q + 2)) near
+        let rest : gathered lookAhead (commaAt r (q + 2)) ≡ 0 =
+        all-none (commaAt r (q + 2)) lookAhead
         (λ k h.
         on-test (isComma (getD r (q + 2 + k) 0))
         (λ u.

@@ -22,11 +22,11 @@ use Rattle.read.specs.declared.answer.Read.{Read}
 use Rattle.read.specs.declared.answer.Read.the-variants.{Delivered, UnknownFormat, WrongInput, WrongOutput, WrongSymbol, WrongTiming, WrongLine, WrongV, WrongCrcc, WrongSample, WrongFill}
 use Rattle.read.specs.Call.{paperRead}
 use Rattle.read.proofs.Windows.{read-is}
-use Rattle.delivery.specs.Delivery.{Found, nextFrom as nextBy}
+use Rattle.delivery.specs.Delivery.{Found, nextBy as nextBy}
 use Rattle.delivery.proofs.Finding.{found-at, found-nowhere, not-at-the-end}
 use Rattle.recording.specs.Call.{spanned, wordsOr}
 use Rattle.recording.specs.Recording.{Reading, reading, accepts, nextFrom}
-use Rattle.recording.specs.Inside.Look.{mayBegin, Passed}
+use Rattle.recording.specs.Inside.Look.{mayBegin, LookInv}
 use Rattle.recording.proofs.Readings.{is-read, not-read, span-whole, accepted-begins}
 
 -- what is not delivered is refused
@@ -57,7 +57,7 @@ module _ (f : Format) (r : List ℕ) where
 
   module _ (known : isKnown f ≡ true) where
     -- what the quick look passes over
-    pub pass : {start i q : ℕ} → Sofar start i → Passed r i q → Sofar start q
+    pub pass : {start i q : ℕ} → Sofar start i → LookInv r i q → Sofar start q
     pass {start} {i} {q} s p =
         record {
           at = omega (arith, s .at, p .at);

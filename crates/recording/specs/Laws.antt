@@ -8,7 +8,7 @@ use mathlib.Core.Option.{none, some}
 use Prim.Native.Nat.{ℕ}
 use lib.ListN.{length, take, drop}
 use Rattle.ground.specs.Answer.{refused, given}
-use Rattle.ground.specs.Inside.Answer.{OneToOne}
+use Rattle.ground.specs.Inside.Answer.{Injective}
 use Rattle.span.specs.declared.format.Format.{Format}
 use Rattle.span.specs.Format.{isKnown, shapeOf, symbolsIn}
 use Rattle.window.specs.declared.delivery.Delivery.{Delivery}
@@ -43,5 +43,5 @@ pub record RecordingLaws : Type 0 where
       → accepts f (take (symbolsIn (shapeOf f)) (drop q r)) ≡ true
       → mayBegin r q ≡ true
   -- the paper's number and values tell any two answers of a call apart, so that a promise about them fixes the answer
-  pub foundTold : OneToOne paperFound
-  pub nextTold : OneToOne paperNext
+  pub foundTold : Injective paperFound
+  pub nextTold : Injective paperNext

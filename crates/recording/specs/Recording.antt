@@ -12,7 +12,7 @@ use Rattle.span.specs.declared.format.Format.{Format}
 use Rattle.span.specs.Format.{shapeOf, symbolsIn}
 use Rattle.window.specs.declared.delivery.Delivery.{Delivery}
 use Rattle.window.specs.Read.{pictureOf, readSpan}
-use Rattle.delivery.specs.Delivery.{Found, findFrom as findBy, nextFrom as nextBy, deliveryFrom as deliverBy}
+use Rattle.delivery.specs.Delivery.{Found, findBy as findBy, nextBy as nextBy, deliverBy as deliverBy}
 
 -- document 01: the finder takes a recording of at most 2,097,152 symbols. No law asks what the number is.
 unfoldable pub limit : ℕ

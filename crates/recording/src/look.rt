@@ -2,7 +2,7 @@
 ghost use mathlib.Core.Path.{_≡_};
 ghost use Prim.Native.Nat.{_+_, _≤_};
 ghost use lib.ListN.{length};
-ghost use Rattle.recording.specs.Inside.Look.{commaIn, gathered, commaAt, pairAt, near, mayBegin, Passed};
+ghost use Rattle.recording.specs.Inside.Look.{commaIn, gathered, commaAt, commaPair, lookAhead, mayBegin, LookInv};
 
 // Symbols that are looked at together. The compiler knows the number, and makes the loop over them flat.
 const PIECE: usize = 64;
@@ -40,7 +40,7 @@ pub(crate) fn commas(symbols: &[u16], from: usize, count: usize) -> u16
 // 0 only where it stands nowhere twice: so it is nearly everywhere in noise, even where K28.5 is in it.
 fn twice(symbols: &[u16], from: usize, count: usize) -> u16
     requires { ⌜ from + count + 1 ≤ length (now symbols) ⌝ }
-    ensures { λ r. ⌜ r ≡ gathered count (pairAt (now (symbols .entry)) from) ⌝ }
+    ensures { λ r. ⌜ r ≡ gathered count (commaPair (now (symbols .entry)) from) ⌝ }
 {
     let mut found = 0;
     let mut k = 0;
@@ -54,7 +54,7 @@ fn twice(symbols: &[u16], from: usize, count: usize) -> u16
 // Whether a span may begin at a place: K28.5 stands twice, and not again near behind. The third symbol is asked first, since the first of many
 // that are K28.5 is then soon passed over.
 fn may_begin(symbols: &[u16], i: usize) -> bool
-    requires { ⌜ i + 2 + near ≤ length (now symbols) ⌝ }
+    requires { ⌜ i + 2 + lookAhead ≤ length (now symbols) ⌝ }
     ensures { λ r. ⌜ r ≡ mayBegin (now (symbols .entry)) i ⌝ }
 {
     if comma(symbols[i]) == 1 {
@@ -69,8 +69,8 @@ fn may_begin(symbols: &[u16], i: usize) -> bool
 
 // The first place, of those from one to another, at which a span may begin; the end where there is none.
 fn look_in(symbols: &[u16], from: usize, to: usize) -> usize
-    requires { ⌜ to + 2 + near ≤ length (now symbols) ⌝ }
-    ensures { λ q. ⌜ Passed (now (symbols .entry)) from q ⌝ }
+    requires { ⌜ to + 2 + lookAhead ≤ length (now symbols) ⌝ }
+    ensures { λ q. ⌜ LookInv (now (symbols .entry)) from q ⌝ }
 {
     let mut i = from;
     while i < to {
@@ -84,8 +84,8 @@ fn look_in(symbols: &[u16], from: usize, to: usize) -> usize
 
 // The same, piece by piece: most have no K28.5. The last piece may go beyond the end.
 pub(crate) fn look(symbols: &[u16], from: usize, to: usize) -> usize
-    requires { ⌜ to + 66 + near ≤ length (now symbols) ⌝ }
-    ensures { λ q. ⌜ Passed (now (symbols .entry)) from q ⌝ }
+    requires { ⌜ to + 66 + lookAhead ≤ length (now symbols) ⌝ }
+    ensures { λ q. ⌜ LookInv (now (symbols .entry)) from q ⌝ }
 {
     let mut i = from;
     while i < to {

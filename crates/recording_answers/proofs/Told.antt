@@ -5,7 +5,7 @@ use mathlib.Core.Bool.{cond}
 use mathlib.Core.Option.{Option, none, some}
 use Prim.Native.Nat.{ℕ}
 use Rattle.ground.specs.Answer.{Answer, given}
-use Rattle.ground.specs.Inside.Answer.{OneToOne}
+use Rattle.ground.specs.Inside.Answer.{Injective}
 use Rattle.window.specs.declared.delivery.Delivery.{Delivery}
 use Rattle.recording.specs.declared.find.Found.{Found}
 use Rattle.recording.specs.declared.find.Found.the-variants as Found
@@ -24,7 +24,7 @@ use Rattle.span_answers.proofs.Told.{valuesBack, values-back}
 findBack : FindAnswer → Answer (Option ℕ)
 findBack a = answerBy (a .number) 0 (cond (a .found) (some (a .place)) none)
 
-pub find-told : OneToOne (λ (r : Found). findAnswerOf (paperFound r))
+pub find-told : Injective (λ (r : Found). findAnswerOf (paperFound r))
 unfolding findBack
 find-told = through findAnswerOf findBack back found-one-to-one
   where
@@ -58,7 +58,7 @@ resume-told NextSpan.WrongOutput n = refl
 resume-told NextSpan.WrongStart n = refl
 
 -- the answer, and where to go on
-pub next-told : OneToOne (λ (r : Next). nextAnswerOf (paperNext (r .answer)) (r .after))
+pub next-told : Injective (λ (r : Next). nextAnswerOf (paperNext (r .answer)) (r .after))
 next-told a b p =
     let answer = next-one-to-one (a .answer) (b .answer)
     (sym (next-back (a .answer) (a .after)) ∙ ap nextBack p ∙ next-back (b .answer) (b .after)) in

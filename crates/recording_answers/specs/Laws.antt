@@ -1,7 +1,7 @@
 -- What holds of the answers of the calls on recordings to C: no two answers of the library cross as the same, so the number and the fields fix
 -- what was answered. `proofs/Laws` proves each.
 -- Assumes nothing.
-use Rattle.ground.specs.Inside.Answer.{OneToOne}
+use Rattle.ground.specs.Inside.Answer.{Injective}
 use Rattle.recording.specs.declared.find.Found.{Found}
 use Rattle.recording.specs.declared.next.Next.{Next}
 use Rattle.recording.specs.Call.{paperFound, paperNext}
@@ -9,6 +9,6 @@ use Rattle.recording_answers.specs.Recordings.{findAnswerOf, nextAnswerO
 
 pub record RecordingAnswersLaws : Type 0 where
   -- finding a span
-  pub findTold : OneToOne (λ (r : Found). findAnswerOf (paperFound r))
+  pub findTold : Injective (λ (r : Found). findAnswerOf (paperFound r))
   -- the next span, and where to go on
-  pub nextTold : OneToOne (λ (r : Next). nextAnswerOf (paperNext (r .answer)) (r .after))
+  pub nextTold : Injective (λ (r : Next). nextAnswerOf (paperNext (r .answer)) (r .after))

@@ -31,7 +31,7 @@ use Rattle.demands.proofs.Sendings.{sent-read}
 use Rattle.rig.specs.declared.knock.Knock.{Knock}
 use Rattle.reception.specs.Link.{link}
 use Rattle.rig.specs.Knock.{struck, lost}
-use Rattle.rig.specs.Sending.{askedOn}
+use Rattle.rig.specs.Sending.{requestOn}
 use Rattle.rig.proofs.Knocking.{length-knocked, knocked-at}
 use Rattle.rig.proofs.Lines.{length-span, line-sent}
 use Rattle.reception.proofs.Links.{link-known, link-symbols}
@@ -64,23 +64,23 @@ no-comma = refl
 
 -- a line's sending
 abbrev pub sending : Disparity → ℕ → Sending
-sending d n = record { before = d; asked = askedOn n }
+sending d n = record { before = d; asked = requestOn n }
 
 -- the place of its first symbol in the frame, and its symbols as they arrive
 abbrev pub placeOf : ℕ → ℕ
 placeOf n = 19008 * (n - 1)
 
 abbrev pub arrived : Knock → Disparity → ℕ → List ℕ
-arrived k d n = knocked k (placeOf n) (spanSymbols d link (askedOn n))
+arrived k d n = knocked k (placeOf n) (spanSymbols d link (requestOn n))
 
 module _ (k : Knock) (d : Disparity) (n : ℕ) (low : 1 ≤ n) (high : n ≤ 1125) where
   abbrev span : List ℕ
-  span = spanSymbols d link (askedOn n)
+  span = spanSymbols d link (requestOn n)
 
   was-sent : WasSent link (sending d n)
   was-sent = record {
     room = 19008;
-    after = spanAfter d link (askedOn n);
+    after = spanAfter d link (requestOn n);
     sent = line-sent n low high d;
     content = record { sav1 = omega arith; sav2 = omega arith; eav1 = omega arith; eav2 = omega arith };
   }

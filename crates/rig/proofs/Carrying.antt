@@ -8,13 +8,13 @@ use native.Mathlib.Omega.{arith}
 use lib.Dec.{eqb, ltb}
 use borrow.Author.Tests.{lt-ltb, le-ltb, eq-eqb, ne-eqb, eqb-true}
 use Rattle.ground.specs.Answer.{Answer, refused, given, unlessRefused}
-use Rattle.ground.specs.Inside.Answer.{OneToOne}
+use Rattle.ground.specs.Inside.Answer.{Injective}
 use Rattle.ground.proofs.Answers.{told-again, when-refused, when-given}
 use Rattle.ground.proofs.Cases.{on-test}
 use Rattle.symbol.specs.declared.disparity.Disparity.{Disparity}
 use Rattle.rig.specs.declared.carry.Carried.{Carried}
 use Rattle.rig.specs.declared.carry.Carried.the-variants.{After, NoPiece, WrongOutput}
-use Rattle.rig.specs.Frame.{lineIn}
+use Rattle.rig.specs.Frame.{lineOfPiece}
 use Rattle.rig.specs.Piece.{paperCarried, carryOf}
 use Rattle.rig.specs.Sending.{afterFrom}
 
@@ -24,7 +24,7 @@ abbrev carriedAgain : Answer Disparity → Carried
 carriedAgain (refused number place) = cond (eqb number 2) NoPiece WrongOutput
 carriedAgain (given d) = After d
 
-pub carried-one-to-one : OneToOne paperCarried
+pub carried-one-to-one : Injective paperCarried
 carried-one-to-one = told-again carriedAgain again
   where
     again : (r : Carried) → carriedAgain (paperCarried r) ≡ r
@@ -47,7 +47,7 @@ module _ (piece : ℕ) (d : Disparity) (heard picture : ℕ) where
         simp (lt-ltb piece 225 there, t, ne-eqb picture 38400 other))
         (λ t. simp (lt-ltb piece 225 there, t))
 
-    pub carries : heard ≡ 5 → picture ≡ 38400 → carryOf piece d heard picture ≡ given (afterFrom d (lineIn piece 0) 5)
+    pub carries : heard ≡ 5 → picture ≡ 38400 → carryOf piece d heard picture ≡ given (afterFrom d (lineOfPiece piece 0) 5)
     carries p q = simp (lt-ltb piece 225 there, eq-eqb heard 5 p, eq-eqb picture 38400 q)
 
 -- ---- what a call promises: its answer, the flags and the rows

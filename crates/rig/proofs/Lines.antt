@@ -17,53 +17,53 @@ use Rattle.line.specs.Stream.{isLine, lineAfter}
 use Rattle.span.specs.declared.content.Content.the-variants.{NoneNamed}
 use Rattle.span.specs.declared.format.Format.{Format}
 use Rattle.span.specs.Span.{spanSymbols, spanAfter, signalFrom}
-use Rattle.span.specs.Stream.{Asked}
+use Rattle.span.specs.Stream.{Request}
 use Rattle.span.proofs.Lengths.{known-has-streams, length-of-symbols}
 use Rattle.send.specs.declared.send.Sent.{Sent}
 use Rattle.send.specs.declared.send.Sent.the-variants.{After, UnknownFormat, NoLine, WrongInput, WrongOutput, NotAllowed}
-use Rattle.send.specs.Send.{asked, paperSent, sendOf, sentBuffer}
+use Rattle.send.specs.Send.{request, paperSent, sendOf, sentBuffer}
 use Rattle.test_picture.specs.Putting.{samplesPut}
 use Rattle.test_picture.specs.TestPicture.{testSamples}
 use Rattle.test_picture.proofs.Puttings.{puts-samples}
 use Rattle.test_picture.proofs.Sendings.{is-sent}
 use Rattle.reception.specs.Link.{link}
-use Rattle.rig.specs.Sending.{askedOn, afterFrom}
+use Rattle.rig.specs.Sending.{requestOn, afterFrom}
 use Rattle.reception.proofs.Links.{link-known, link-samples, link-symbols}
-use Rattle.rig.specs.Inside.Sending.{askedFrom, sentFrom}
+use Rattle.rig.specs.Inside.Sending.{requestsFrom, sentFrom}
 
 -- ---- one line
 
-pub length-span : (d : Disparity) (n : ℕ) → length (spanSymbols d link (askedOn n)) ≡ 19008
-length-span d n = length-of-symbols link (askedOn n) (known-has-streams link link-known) d ∙ link-symbols
+pub length-span : (d : Disparity) (n : ℕ) → length (spanSymbols d link (requestOn n)) ≡ 19008
+length-span d n = length-of-symbols link (requestOn n) (known-has-streams link link-known) d ∙ link-symbols
 
 module _ (n : ℕ) (low : 1 ≤ n) (high : n ≤ 1125) where
   is-line : isLine n ≡ true
   is-line = is-within 1 1125 n low high
 
-  pub line-sent : (d : Disparity) → sendOf d link (askedOn n) 19008 ≡ given (spanAfter d link (askedOn n))
-  line-sent d = ap (sendOf d link (askedOn n)) (sym link-symbols) ∙ is-sent link n d NoneNamed link-known is-line
+  pub line-sent : (d : Disparity) → sendOf d link (requestOn n) 19008 ≡ given (spanAfter d link (requestOn n))
+  line-sent d = ap (sendOf d link (requestOn n)) (sym link-symbols) ∙ is-sent link n d NoneNamed link-known is-line
 
   -- what the code asks for, where the format was answered
   pub asked-is : {f : Format} (words : List ℕ) {samples : List ℕ} → f ≡ link → length words ≡ 7680 → samples ≡ samplesPut f n words
-      → asked n NoneNamed samples ≡ askedOn n
+      → request n NoneNamed samples ≡ requestOn n
   asked-is {f} words {samples} e long put =
       let are : samples ≡ testSamples link n =
       put
       ∙ ap (λ (g : Format). samplesPut g n words) e
       ∙ sym (when-given words (testSamples link n) (puts-samples link n words link-known is-line (long ∙ sym link-samples))) in
-      ap (asked n NoneNamed) are
+      ap (request n NoneNamed) are
 
   -- and what it is answered
-  module _ (d : Disparity) {f : Format} {a : Asked} (symbols : List ℕ) (e : f ≡ link) (is : a ≡ askedOn n) (room : length symbols ≡ 19008) where
-    answer : sendOf d f a (length symbols) ≡ given (spanAfter d link (askedOn n))
+  module _ (d : Disparity) {f : Format} {a : Request} (symbols : List ℕ) (e : f ≡ link) (is : a ≡ requestOn n) (room : length symbols ≡ 19008) where
+    answer : sendOf d f a (length symbols) ≡ given (spanAfter d link (requestOn n))
     answer =
-        ap₂ (λ (g : Format) (b : Asked). sendOf d g b (length symbols)) e is
-        ∙ ap (sendOf d link (askedOn n)) room
+        ap₂ (λ (g : Format) (b : Request). sendOf d g b (length symbols)) e is
+        ∙ ap (sendOf d link (requestOn n)) room
         ∙ line-sent d
 
-    pub after-is : {r : Sent} {after : Disparity} → r ≡ After after → paperSent r ≡ sendOf d f a (length symbols) → after ≡ spanAfter d link (askedOn n)
+    pub after-is : {r : Sent} {after : Disparity} → r ≡ After after → paperSent r ≡ sendOf d f a (length symbols) → after ≡ spanAfter d link (requestOn n)
     after-is {r} {after} x y =
-        let same : given after ≡ given (spanAfter d link (askedOn n)) = sym (ap paperSent x) ∙ y ∙ answer in
+        let same : given after ≡ given (spanAfter d link (requestOn n)) = sym (ap paperSent x) ∙ y ∙ answer in
         cc same
 
     not-refused : {number place : ℕ} → refused number place ≡ sendOf d f a (length symbols) → ⊥
@@ -77,11 +77,11 @@ module _ (n : ℕ) (low : 1 ≤ n) (high : n ≤ 1125) where
     is-after WrongOutput x y = not-refused y
     is-after (NotAllowed place) x y = not-refused y
 
-    pub symbols-are : {out : List ℕ} → out ≡ sentBuffer d f a symbols → out ≡ spanSymbols d link (askedOn n)
+    pub symbols-are : {out : List ℕ} → out ≡ sentBuffer d f a symbols → out ≡ spanSymbols d link (requestOn n)
     symbols-are x =
         x
         ∙ sym (when-given symbols (spanSymbols d f a) answer)
-        ∙ ap₂ (λ (g : Format) (b : Asked). spanSymbols d g b) e is
+        ∙ ap₂ (λ (g : Format) (b : Request). spanSymbols d g b) e is
 
 -- ---- one after the other
 
@@ -90,25 +90,25 @@ pub next-line : (n : ℕ) → n < 1125 → lineAfter n ≡ n + 1
 next-line n h = simp (lt-ltb n 1125 h)
 
 pub no-line-more : (d : Disparity) (n : ℕ) → (sentFrom d n 0 ≡ []) × (afterFrom d n 0 ≡ d)
-unfolding askedFrom signalFrom afterFrom
+unfolding requestsFrom signalFrom afterFrom
 no-line-more d n = (refl, refl)
 
 pub sent-more : (d : Disparity) (n m : ℕ)
-    → sentFrom d n (suc m) ≡ spanSymbols d link (askedOn n) ++ sentFrom (spanAfter d link (askedOn n)) (suc n) m
-unfolding askedFrom signalFrom
+    → sentFrom d n (suc m) ≡ spanSymbols d link (requestOn n) ++ sentFrom (spanAfter d link (requestOn n)) (suc n) m
+unfolding requestsFrom signalFrom
 sent-more d n m = refl
 
-after-more : (d : Disparity) (n m : ℕ) → afterFrom d n (suc m) ≡ afterFrom (spanAfter d link (askedOn n)) (suc n) m
+after-more : (d : Disparity) (n m : ℕ) → afterFrom d n (suc m) ≡ afterFrom (spanAfter d link (requestOn n)) (suc n) m
 unfolding afterFrom
 after-more d n m = refl
 
 pub length-sent : (d : Disparity) (n m : ℕ) → length (sentFrom d n m) ≡ 19008 * m
 length-sent d n zero = ap length (no-line-more d n .0)
 length-sent d n (suc m) =
-    let rest = sentFrom (spanAfter d link (askedOn n)) (suc n) m in
+    let rest = sentFrom (spanAfter d link (requestOn n)) (suc n) m in
     ap length (sent-more d n m)
-    ∙ length-append (spanSymbols d link (askedOn n)) rest
-    ∙ omega (arith, length-span d n, length-sent (spanAfter d link (askedOn n)) (suc n) m)
+    ∙ length-append (spanSymbols d link (requestOn n)) rest
+    ∙ omega (arith, length-span d n, length-sent (spanAfter d link (requestOn n)) (suc n) m)
 
 pub all-sent : (d : Disparity) (n : ℕ) (symbols : List ℕ) → length symbols ≡ 95040 → sets symbols 0 (sentFrom d n 5) ≡ sentFrom d n 5
 all-sent d n symbols room = sets-whole symbols (sentFrom d n 5) (length-sent d n 5 ∙ sym room)
@@ -125,8 +125,8 @@ sent-on d n zero b =
 sent-on d n (suc a) b =
     let p : suc a + b ≡ suc (a + b) = omega arith in
     let q : suc n + a ≡ n + suc a = omega arith in
-    let span = spanSymbols d link (askedOn n) in
-    let e = spanAfter d link (askedOn n) in
+    let span = spanSymbols d link (requestOn n) in
+    let e = spanAfter d link (requestOn n) in
     ap (sentFrom d n) p
     ∙ sent-more d n (a + b)
     ∙ ap (λ (l : List ℕ). span ++ l) (sent-on e (suc n) a b)
@@ -142,16 +142,16 @@ after-on d n zero b =
 after-on d n (suc a) b =
     let p : suc a + b ≡ suc (a + b) = omega arith in
     let q : suc n + a ≡ n + suc a = omega arith in
-    let e = spanAfter d link (askedOn n) in
+    let e = spanAfter d link (requestOn n) in
     ap (afterFrom d n) p
     ∙ after-more d n (a + b)
     ∙ after-on e (suc n) a b
     ∙ ap₂ (λ (x : Disparity) (i : ℕ). afterFrom x i b) (sym (after-more d n a)) q
 
 -- a loop over five lines: what is left, put behind what is there, is the whole
-module _ (first k : ℕ) (h : k < 5) (d : Disparity) {after : Disparity} (n : ℕ) (here : n ≡ first + k) (was : after ≡ spanAfter d link (askedOn n)) where
-  is : after ≡ spanAfter d link (askedOn (first + k))
-  is = was ∙ ap (λ (i : ℕ). spanAfter d link (askedOn i)) here
+module _ (first k : ℕ) (h : k < 5) (d : Disparity) {after : Disparity} (n : ℕ) (here : n ≡ first + k) (was : after ≡ spanAfter d link (requestOn n)) where
+  is : after ≡ spanAfter d link (requestOn (first + k))
+  is = was ∙ ap (λ (i : ℕ). spanAfter d link (requestOn i)) here
 
   pub after-turn : afterFrom after (first + (k + 1)) (5 - (k + 1)) ≡ afterFrom d (first + k) (5 - k)
   after-turn =
@@ -161,16 +161,16 @@ module _ (first k : ℕ) (h : k < 5) (d : Disparity) {after : Disparity} (n : �
       ap₂ (λ (e : Disparity) (n : ℕ). afterFrom e n m) is (sym next)
       ∙ sym (ap (afterFrom d (first + k)) more ∙ after-more d (first + k) m)
 
-  pub sent-turn : (symbols : List ℕ) {out : List ℕ} → out ≡ sets symbols (19008 * k) (spanSymbols d link (askedOn n))
+  pub sent-turn : (symbols : List ℕ) {out : List ℕ} → out ≡ sets symbols (19008 * k) (spanSymbols d link (requestOn n))
       → sets out (19008 * (k + 1)) (sentFrom after (first + (k + 1)) (5 - (k + 1))) ≡ sets symbols (19008 * k) (sentFrom d (first + k) (5 - k))
   sent-turn symbols put =
       let m = 5 - (k + 1) in
       let more : 5 - k ≡ suc m = omega arith in
       let next : suc (first + k) ≡ first + (k + 1) = omega arith in
-      let span = spanSymbols d link (askedOn (first + k)) in
-      let rest = sentFrom (spanAfter d link (askedOn (first + k))) (suc (first + k)) m in
+      let span = spanSymbols d link (requestOn (first + k)) in
+      let rest = sentFrom (spanAfter d link (requestOn (first + k))) (suc (first + k)) m in
       ap₂ (λ (l r : List ℕ). sets l (19008 * (k + 1)) r)
-      (put ∙ ap (λ (i : ℕ). sets symbols (19008 * k) (spanSymbols d link (askedOn i))) here)
+      (put ∙ ap (λ (i : ℕ). sets symbols (19008 * k) (spanSymbols d link (requestOn i))) here)
       (ap₂ (λ (e : Disparity) (n : ℕ). sentFrom e n m) is (sym next))
       ∙ sets-append symbols span rest (19008 * k) (19008 * (k + 1)) (omega (arith, length-span d (first + k)))
       ∙ ap (sets symbols (19008 * k)) (sym (ap (sentFrom d (first + k)) more ∙ sent-more d (first + k) m))

@@ -18,8 +18,8 @@ use Rattle.dividing.specs.Row.{divided}
 use Rattle.span.specs.declared.content.Content.the-variants.{NoneNamed}
 use Rattle.span.specs.Format.{shapeOf, streams}
 use Rattle.span.specs.Numbers.{IsFormat}
-use Rattle.span.specs.Stream.{Asked, picture}
-use Rattle.send.specs.Send.{asked}
+use Rattle.span.specs.Stream.{Request, picture}
+use Rattle.send.specs.Send.{request}
 use Rattle.recording.specs.Recording.{Reading, deliveryFrom}
 use Rattle.demands.specs.Demands.{IsRow}
 use Rattle.demands.specs.Form.{readingOf, wordsFor}
@@ -29,11 +29,11 @@ use Rattle.test_picture.proofs.Images.{on-four}
 use Rattle.test_picture.proofs.Rows.{length-row as length-of-row, row-of-codes, row-ten, row-twelve}
 use Rattle.rig.specs.declared.knock.Knock.{Knock}
 use Rattle.reception.specs.Link.{link}
-use Rattle.rig.specs.Frame.{lineIn}
+use Rattle.rig.specs.Frame.{lineOfPiece}
 use Rattle.rig.specs.Knock.{lost}
 use Rattle.rig.specs.Piece.{black, sentRows, rowsAt, pictureIn, heardIn}
-use Rattle.reception.specs.Receiving.{rowOf, bothRows, brings, flag, putAll, ready, heardBy, shownBy}
-use Rattle.rig.specs.Sending.{askedOn, afterFrom}
+use Rattle.reception.specs.Receiving.{joinedRow, bothRows, brings, flag, putAll, receivable, heardBy, shownBy}
+use Rattle.rig.specs.Sending.{requestOn, afterFrom}
 use Rattle.rig.proofs.Arriving.{sending, placeOf}
 use Rattle.reception.proofs.Bringing.{length-row}
 use Rattle.reception.proofs.Readiness.{is-ready}
@@ -77,10 +77,10 @@ codes line = words-are (rowAt link line) ∙ row-of-codes line
 module _ (n : ℕ) (active : isActive n ≡ true) where
   -- the words of its span
   abbrev words : List ℕ
-  words = upto (streams (shapeOf link)) (picture link (askedOn n))
+  words = upto (streams (shapeOf link)) (picture link (requestOn n))
 
   rows-back : bothRows words ≡ testRow (2 * basicLineOf n - 1) ++ testRow (2 * basicLineOf n)
-  unfolding rowOf
+  unfolding joinedRow
   rows-back =
       let l = n - 41 in
       let p : 1 ≤ l = omega (arith, from-low 42 1121 n active) in
@@ -91,10 +91,10 @@ module _ (n : ℕ) (active : isActive n ≡ true) where
       let even = rowAt link (2 * l) in
       let samples = divided 0 1920 odd ++ (divided 1 1920 odd ++ (divided 0 1920 even ++ divided 1 1920 even)) in
       let carried : samples ≡ testSamples link (l + 41) = sym (on-four link l p q four ∙ simp append-assoc) in
-      let is : asked (l + 41) NoneNamed samples ≡ askedOn n =
-      ap (asked (l + 41) NoneNamed) carried ∙ ap askedOn line in
+      let is : request (l + 41) NoneNamed samples ≡ requestOn n =
+      ap (request (l + 41) NoneNamed) carried ∙ ap requestOn line in
       let back = four-back link odd even l at-twelve refl p q (is-row (2 * l - 1)) (is-row (2 * l)) NoneNamed in
-      ap (λ (a : Asked). bothRows (upto (streams (shapeOf link)) (picture link a))) (sym is)
+      ap (λ (a : Request). bothRows (upto (streams (shapeOf link)) (picture link a))) (sym is)
       ∙ ap₂ (λ (x y : List ℕ). x ++ y) (back .0 ∙ codes (2 * l - 1)) (back .1 ∙ codes (2 * l))
       ∙ ap (λ (i : ℕ). testRow (2 * i - 1) ++ testRow (2 * i)) basic
 
@@ -160,30 +160,30 @@ module _ (k : Knock) (piece : ℕ) (there : piece < 225) (d : Disparity) {first 
   long : length symbols ≡ 95040
   long = ap length was-struck ∙ length-knocked k (95040 * piece) sent ∙ ap length was-sent ∙ length-sent d first 5
 
-  room : ready first (length symbols) (length heard) (length picture) ≡ true
+  room : receivable first (length symbols) (length heard) (length picture) ≡ true
   room =
       is-ready first (length symbols) (length heard) (length picture)
       (record { line = omega arith; short = omega (arith, long); flags = flags-fit; rows = rows-fit })
 
   -- the slots of the piece's lines are those of lines from its first on
   lines : {size : ℕ} {what : Reading → List ℕ} {slot : ℕ → List ℕ} → Slots k size what slot
-      → putAll size what first (replicate (size * 5) 0) (deliveryFrom link symbols 0) ≡ upto 5 (λ i. slot (lineIn piece i))
+      → putAll size what first (replicate (size * 5) 0) (deliveryFrom link symbols 0) ≡ upto 5 (λ i. slot (lineOfPiece piece i))
   lines {size} {what} {slot} s =
       ap (λ (l : List ℕ). putAll size what first (replicate (size * 5) 0) (deliveryFrom link l 0)) symbols-are
       ∙ piece-put k s first (omega arith) (omega arith) d
       ∙ ap (λ (n : ℕ). upto 5 (λ i. slot (n + i))) from
 
-  pub heard-is : {out : List ℕ} → out ≡ cond (ready first (length symbols) (length heard) (length picture)) (heardBy first symbols) heard
+  pub heard-is : {out : List ℕ} → out ≡ cond (receivable first (length symbols) (length heard) (length picture)) (heardBy first symbols) heard
       → out ≡ heardIn k piece
   unfolding heardIn table
   heard-is e = e ∙ ap (λ (b : Bool). cond b (heardBy first symbols) heard) room ∙ lines (flags k)
 
-  pub picture-is : {out : List ℕ} → out ≡ cond (ready first (length symbols) (length heard) (length picture)) (shownBy first symbols) picture
+  pub picture-is : {out : List ℕ} → out ≡ cond (receivable first (length symbols) (length heard) (length picture)) (shownBy first symbols) picture
       → out ≡ pictureIn k piece
   unfolding pictureIn
   picture-is e = e ∙ ap (λ (b : Bool). cond b (shownBy first symbols) picture) room ∙ lines (rows k)
 
 -- and the disparity after it
 pub after-is : (piece : ℕ) (d : Disparity) {first : ℕ} → first ≡ 5 * piece + 1 → {after : Disparity} → after ≡ afterFrom d first 5
-    → after ≡ afterFrom d (lineIn piece 0) 5
-after-is piece d {first} from e = let q : first ≡ lineIn piece 0 = omega arith in e ∙ ap (λ (n : ℕ). afterFrom d n 5) q
+    → after ≡ afterFrom d (lineOfPiece piece 0) 5
+after-is piece d {first} from e = let q : first ≡ lineOfPiece piece 0 = omega arith in e ∙ ap (λ (n : ℕ). afterFrom d n 5) q

@@ -16,7 +16,7 @@ use Rattle.ground.proofs.Writing.{upto-more, length-upto}
 use Rattle.symbol.specs.declared.disparity.Disparity.{Disparity}
 use Rattle.span.specs.Format.{shapeOf, symbolsIn}
 use Rattle.span.specs.Span.{spanSymbols, spanAfter}
-use Rattle.delivery.specs.Delivery.{Found, either, deliver, deliveryFrom as deliverBy}
+use Rattle.delivery.specs.Delivery.{Found, either, deliver, deliverBy as deliverBy}
 use Rattle.delivery.proofs.Marks.{apart}
 use Rattle.delivery.proofs.Steps.{of-nothing}
 use Rattle.recording.specs.Recording.{Reading, reading, deliveryFrom}
@@ -27,7 +27,7 @@ use Rattle.rig.specs.declared.knock.Knock.{Knock}
 use Rattle.reception.specs.Link.{link}
 use Rattle.rig.specs.Knock.{lost}
 use Rattle.reception.specs.Receiving.{putOne, putAll}
-use Rattle.rig.specs.Sending.{askedOn}
+use Rattle.rig.specs.Sending.{requestOn}
 use Rattle.rig.proofs.Arriving.{sending, placeOf, arrived, arrives, is-lost, none-inside}
 use Rattle.rig.proofs.Knocking.{knocked-append}
 use Rattle.rig.proofs.Lines.{length-span, no-line-more, sent-more}
@@ -50,11 +50,11 @@ module _ (k : Knock) where
 
   -- the first of them by itself, and then the others
   pub line-then : (d : Disparity) (n m : ℕ) → 1 ≤ n → n ≤ 1125 → (p : ℕ)
-      → let rest = on (p + N) (arrivedFrom (spanAfter d link (askedOn n)) (suc n) m) in
+      → let rest = on (p + N) (arrivedFrom (spanAfter d link (requestOn n)) (suc n) m) in
       on p (arrivedFrom d n (suc m)) ≡ either p (reading link (arrived k d n)) rest rest
   line-then d n m low high p =
-      let span = spanSymbols d link (askedOn n) in
-      let rest = sentFrom (spanAfter d link (askedOn n)) (suc n) m in
+      let span = spanSymbols d link (requestOn n) in
+      let rest = sentFrom (spanAfter d link (requestOn n)) (suc n) m in
       let q : placeOf n + length span ≡ placeOf (suc n) = omega (arith, length-span d n) in
       ap (λ (l : List ℕ). on p (knocked k (placeOf n) l)) (sent-more d n m)
       ∙ ap (on p) (knocked-append k (placeOf n) span rest ∙ ap (λ (j : ℕ). arrived k d n ++ knocked k j rest) q)
@@ -85,20 +85,20 @@ module _ (k : Knock) where
     -- one line: its slot is filled, or stays empty
     line-put : (j m : ℕ) (d : Disparity) (p : ℕ) → j < 5
         → putAll size what first (filled j (suc m)) (on p (arrivedFrom d (first + j) (suc m)))
-        ≡ putAll size what first (filled (j + 1) m) (on (p + N) (arrivedFrom (spanAfter d link (askedOn (first + j))) (first + (j + 1)) m))
+        ≡ putAll size what first (filled (j + 1) m) (on (p + N) (arrivedFrom (spanAfter d link (requestOn (first + j))) (first + (j + 1)) m))
     unfolding putAll
     line-put j m d p h =
         ap (putAll size what first (filled j (suc m))) (line-then d n m (omega arith) (omega arith) p)
         ∙ on-test (lost k n)
         (λ t. by (is-lost k d n (omega arith) (omega arith) t) ∙ then (next j m [] (omega arith) (s .dark n t)))
         (λ t. by (arrives k d n (omega arith) (omega arith) t) ∙ then (one t))
-        ∙ ap (λ (i : ℕ). putAll size what first (filled (j + 1) m) (on (p + N) (arrivedFrom (spanAfter d link (askedOn n)) i m))) q
+        ∙ ap (λ (i : ℕ). putAll size what first (filled (j + 1) m) (on (p + N) (arrivedFrom (spanAfter d link (requestOn n)) i m))) q
       where
         n : ℕ
         n = first + j
 
         rest : List (Found Reading)
-        rest = on (p + N) (arrivedFrom (spanAfter d link (askedOn n)) (suc n) m)
+        rest = on (p + N) (arrivedFrom (spanAfter d link (requestOn n)) (suc n) m)
 
         q : suc n ≡ first + (j + 1)
         q = omega arith
@@ -128,7 +128,7 @@ module _ (k : Knock) where
         ∙ ap₂ (λ (i z : ℕ). upto i of ++ replicate z 0) all empty
         ∙ append-nil (upto 5 of)
     all-put (suc m) j d p e =
-        line-put j m d p (omega arith) ∙ all-put m (j + 1) (spanAfter d link (askedOn (first + j))) (p + N) (omega arith)
+        line-put j m d p (omega arith) ∙ all-put m (j + 1) (spanAfter d link (requestOn (first + j))) (p + N) (omega arith)
 
     -- the law: of five lines from line `first` on, the slots are what is made of their delivery
     pub piece-put : (d : Disparity) → putAll size what first (replicate (size * 5) 0) (deliveryFrom link (arrivedFrom d first 5) 0) ≡ upto 5 of

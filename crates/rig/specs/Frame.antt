@@ -3,5 +3,5 @@
 use Prim.Native.Nat.{ℕ, _+_, _*_}
 
 -- pieces count from 0, and each has five lines: 1 to 5, 6 to 10, and so on
-abbrev pub lineIn : ℕ → ℕ → ℕ
-lineIn piece k = 5 * piece + 1 + k
+abbrev pub lineOfPiece : ℕ → ℕ → ℕ
+lineOfPiece piece k = 5 * piece + 1 + k

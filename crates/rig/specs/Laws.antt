@@ -6,10 +6,10 @@ use mathlib.Core.Bool.{true, false}
 use mathlib.Core.List.{_++_}
 use lib.ListN.{length}
 use Rattle.ground.specs.Answer.{refused, given}
-use Rattle.ground.specs.Inside.Answer.{OneToOne}
+use Rattle.ground.specs.Inside.Answer.{Injective}
 use Rattle.symbol.specs.declared.disparity.Disparity.{Disparity}
 use Rattle.rig.specs.declared.knock.Knock.{Knock}
-use Rattle.rig.specs.Frame.{lineIn}
+use Rattle.rig.specs.Frame.{lineOfPiece}
 use Rattle.rig.specs.Knock.{lost}
 use Rattle.rig.specs.Piece.{paperCarried, carryOf}
 use Rattle.rig.specs.Sending.{afterFrom}
@@ -36,7 +36,7 @@ pub record RigLaws : Type 0 where
       → piece < 225
       → heard ≡ 5
       → picture ≡ 38400
-      → carryOf piece d heard picture ≡ given (afterFrom d (lineIn piece 0) 5)
+      → carryOf piece d heard picture ≡ given (afterFrom d (lineOfPiece piece 0) 5)
   pub carryMeets2 : (piece : ℕ) (d : Disparity) (heard picture : ℕ) → (piece < 225 → ⊥) → carryOf piece d heard picture ≡ refused 2 0
   pub carryMeets4 :
       (piece : ℕ) (d : Disparity) (heard picture : ℕ)
@@ -47,4 +47,4 @@ pub record RigLaws : Type 0 where
   pub lengthSent : (d : Disparity) (n m : ℕ) → length (sentFrom d n m) ≡ 19008 * m
   pub sentOn : (d : Disparity) (n a b : ℕ) → sentFrom d n (a + b) ≡ sentFrom d n a ++ sentFrom (afterFrom d n a) (n + a) b
   -- the numbers tell any two answers apart, so that a promise about them fixes the answer
-  pub carriedTold : OneToOne paperCarried
+  pub carriedTold : Injective paperCarried

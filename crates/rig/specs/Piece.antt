@@ -14,7 +14,7 @@ use Rattle.test_picture.specs.TestPicture.{testRow}
 use Rattle.rig.specs.declared.carry.Carried.{Carried}
 use Rattle.rig.specs.declared.carry.Carried.the-variants.{After, NoPiece, WrongOutput}
 use Rattle.rig.specs.declared.knock.Knock.{Knock}
-use Rattle.rig.specs.Frame.{lineIn}
+use Rattle.rig.specs.Frame.{lineOfPiece}
 use Rattle.rig.specs.Knock.{lost}
 use Rattle.rig.specs.Sending.{afterFrom}
 
@@ -33,11 +33,11 @@ rowsAt k n = cond (lost k n) black (sentRows n)
 
 -- all of a piece
 unfoldable pub pictureIn : Knock → ℕ → List ℕ
-pictureIn k piece = upto 5 (λ i. rowsAt k (lineIn piece i))
+pictureIn k piece = upto 5 (λ i. rowsAt k (lineOfPiece piece i))
 
 -- which of its lines were heard: 1, and 0 for a line that is lost
 unfoldable pub heardIn : Knock → ℕ → List ℕ
-heardIn k piece = table 5 (λ i. cond (lost k (lineIn piece i)) 0 1)
+heardIn k piece = table 5 (λ i. cond (lost k (lineOfPiece piece i)) 0 1)
 
 -- ---- the call
 
@@ -50,11 +50,11 @@ paperCarried WrongOutput = refused 4 0
 -- 2 where the frame has no such piece: it has 225; then 4 where there is not room for five flags and ten rows. Else the disparity after its spans.
 abbrev pub carryOf : ℕ → Disparity → ℕ → ℕ → Answer Disparity
 carryOf piece d heard picture =
-    checked (unless 2 (ltb piece 225) ∷ unless 4 (eqb heard 5 && eqb picture 38400) ∷ []) (afterFrom d (lineIn piece 0) 5)
+    checked (unless 2 (ltb piece 225) ∷ unless 4 (eqb heard 5 && eqb picture 38400) ∷ []) (afterFrom d (lineOfPiece piece 0) 5)
 
 -- lent memory afterwards: as it was where the call is refused
-abbrev pub flagsAfter : Knock → ℕ → Disparity → List ℕ → ℕ → List ℕ
-flagsAfter k piece d heard picture = unlessRefused (carryOf piece d (length heard) picture) heard (heardIn k piece)
+abbrev pub flagsCarried : Knock → ℕ → Disparity → List ℕ → ℕ → List ℕ
+flagsCarried k piece d heard picture = unlessRefused (carryOf piece d (length heard) picture) heard (heardIn k piece)
 
-abbrev pub rowsAfter : Knock → ℕ → Disparity → ℕ → List ℕ → List ℕ
-rowsAfter k piece d heard picture = unlessRefused (carryOf piece d heard (length picture)) picture (pictureIn k piece)
+abbrev pub rowsCarried : Knock → ℕ → Disparity → ℕ → List ℕ → List ℕ
+rowsCarried k piece d heard picture = unlessRefused (carryOf piece d heard (length picture)) picture (pictureIn k piece)

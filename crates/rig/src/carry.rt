@@ -4,8 +4,8 @@ use symbol::disparity::Disparity;
 ghost use mathlib.Core.Path.{_≡_};
 ghost use Prim.Native.Nat.{_<_};
 ghost use lib.ListN.{length};
-ghost use Rattle.rig.specs.Frame.{lineIn};
-ghost use Rattle.rig.specs.Piece.{pictureIn, heardIn, paperCarried, carryOf, flagsAfter, rowsAfter};
+ghost use Rattle.rig.specs.Frame.{lineOfPiece};
+ghost use Rattle.rig.specs.Piece.{pictureIn, heardIn, paperCarried, carryOf, flagsCarried, rowsCarried};
 ghost use Rattle.rig.specs.Sending.{afterFrom};
 
 pub enum Carried {
@@ -32,7 +32,7 @@ fn carry_in(
     requires { ⌜ length (now words) ≡ 7680 ⌝ }
     requires { ⌜ length (now heard) ≡ 5 ⌝ }
     requires { ⌜ length (now picture) ≡ 38400 ⌝ }
-    ensures after { λ r. ⌜ r ≡ afterFrom d (lineIn piece 0) 5 ⌝ }
+    ensures after { λ r. ⌜ r ≡ afterFrom d (lineOfPiece piece 0) 5 ⌝ }
     ensures heard { λ _. ⌜ now (heard .exit) ≡ heardIn k piece ⌝ }
     ensures picture { λ _. ⌜ now (picture .exit) ≡ pictureIn k piece ⌝ }
 {
@@ -53,8 +53,8 @@ pub fn carry(
     picture: &mut [u16],
 ) -> Carried
     ensures answer { λ r. ⌜ paperCarried r ≡ carryOf piece d (length (now (heard .entry))) (length (now (picture .entry))) ⌝ }
-    ensures heard { λ _. ⌜ now (heard .exit) ≡ flagsAfter k piece d (now (heard .entry)) (length (now (picture .entry))) ⌝ }
-    ensures picture { λ _. ⌜ now (picture .exit) ≡ rowsAfter k piece d (length (now (heard .entry))) (now (picture .entry)) ⌝ }
+    ensures heard { λ _. ⌜ now (heard .exit) ≡ flagsCarried k piece d (now (heard .entry)) (length (now (picture .entry))) ⌝ }
+    ensures picture { λ _. ⌜ now (picture .exit) ≡ rowsCarried k piece d (length (now (heard .entry))) (now (picture .entry)) ⌝ }
 {
     if 225 <= piece {
         return Carried::NoPiece;

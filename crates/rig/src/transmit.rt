@@ -8,7 +8,7 @@ ghost use Prim.Native.Nat.{_≤_};
 ghost use lib.ListN.{length};
 ghost use Rattle.span.specs.Span.{spanSymbols, spanAfter};
 ghost use Rattle.reception.specs.Link.{link};
-ghost use Rattle.rig.specs.Sending.{askedOn, afterFrom};
+ghost use Rattle.rig.specs.Sending.{requestOn, afterFrom};
 ghost use Rattle.rig.specs.Inside.Sending.{sentFrom};
 
 // The span of a line. Its samples go into words that are lent for them.
@@ -17,8 +17,8 @@ fn send_line(l: StreamLine, d: Disparity, words: &mut [u16], symbols: &mut [u16]
     requires { ⌜ l .0 ≤ 1125 ⌝ }
     requires { ⌜ length (now words) ≡ 7680 ⌝ }
     requires { ⌜ length (now symbols) ≡ 19008 ⌝ }
-    ensures after { λ r. ⌜ r ≡ spanAfter d link (askedOn (l .0)) ⌝ }
-    ensures symbols { λ _. ⌜ now (symbols .exit) ≡ spanSymbols d link (askedOn (l .0)) ⌝ }
+    ensures after { λ r. ⌜ r ≡ spanAfter d link (requestOn (l .0)) ⌝ }
+    ensures symbols { λ _. ⌜ now (symbols .exit) ≡ spanSymbols d link (requestOn (l .0)) ⌝ }
 {
     let f = reception::link::link();
     test_picture::samples::put_samples(f, l, words);

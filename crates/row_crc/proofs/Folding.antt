@@ -17,7 +17,7 @@ use Rattle.ground.proofs.Xors.{⊕-zero, zero-⊕, ⊕-self, ⊕-comm, ⊕-asso
 use Rattle.crcc.specs.Crcc.{crc, crcWord}
 use Rattle.crcc.proofs.Linear.{crc-next, crc-sum}
 use Rattle.row_crc.specs.declared.fold.Two.{Two}
-use Rattle.row_crc.specs.Inside.Fold.{withMoved, left, Empty, Folds}
+use Rattle.row_crc.specs.Inside.Fold.{withMoved, left, Empty, FoldInv}
 use Rattle.row_crc.specs.Inside.Sums.{wordsIn}
 use Rattle.row_crc.proofs.Moving.{zeros, only, moves, moves-nothing}
 
@@ -79,7 +79,7 @@ first-of-four p x =
     rw (is-only p x p refl, not-only (p + 86) x p (λ e. omega arith), not-only (p + 93) x p (λ e. omega arith), not-only (p + 139) x p (λ e. omega arith), ⊕-zero 0, ⊕-zero x, ⊕-zero x) refl
 
 module _ (row moved : List ℕ) where
-  pub begin : Empty moved → Folds row moved 0
+  pub begin : Empty moved → FoldInv row moved 0
   begin z =
       record {
         same =
@@ -93,7 +93,7 @@ module _ (row moved : List ℕ) where
       }
 
   -- word j is moved, with what has been moved to it
-  module _ {j x : ℕ} (h : j < 1781) (long : length moved ≡ 1984) (g : Folds row moved j) (is : x ≡ withMoved row moved j) where
+  module _ {j x : ℕ} (h : j < 1781) (long : length moved ≡ 1984) (g : FoldInv row moved j) (is : x ≡ withMoved row moved j) where
     abbrev next : List ℕ
     next = set moved (139 + j) x
 
@@ -131,7 +131,7 @@ module _ (row moved : List ℕ) where
             (ap₂ (λ (y z : ℕ). y ⊕ z) (sym (not-only j x i n)) (only-further i (j + 86) _ (139 + j) x (omega arith)))
             (ap₂ (λ (y z : ℕ). y ⊕ z) (only-further i (j + 93) _ (139 + j) x (omega arith)) (ap (λ (m : ℕ). only m x i) place)))
 
-    pub folds-on : Folds row next (j + 1)
+    pub folds-on : FoldInv row next (j + 1)
     folds-on =
         record {
           same =
@@ -156,5 +156,5 @@ module _ (row moved : List ℕ) where
       ap₂ crcWord e (is ∙ ap (λ (b : Bool). cond b 0 (withMoved row moved j)) (sym (le-ltb j 1781 h)))
       ∙ crc-next j (left row moved 1781)
 
-  pub all-left : {c j : ℕ} → c ≡ crc 0 (table j (left row moved 1781)) → j ≡ 1920 → Folds row moved 1781 → c ≡ crc 0 (wordsIn row 0)
+  pub all-left : {c j : ℕ} → c ≡ crc 0 (table j (left row moved 1781)) → j ≡ 1920 → FoldInv row moved 1781 → c ≡ crc 0 (wordsIn row 0)
   all-left e at g = e ∙ ap (λ (k : ℕ). crc 0 (table k (left row moved 1781))) at ∙ g .same

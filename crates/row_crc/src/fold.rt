@@ -7,7 +7,7 @@ ghost use mathlib.Core.Path.{_≡_};
 ghost use Prim.Native.Nat.{_<_};
 ghost use lib.ListN.{length};
 ghost use Rattle.crcc.specs.Crcc.{crc};
-ghost use Rattle.row_crc.specs.Inside.Fold.{withMoved, Empty, Folds};
+ghost use Rattle.row_crc.specs.Inside.Fold.{withMoved, Empty, FoldInv};
 ghost use Rattle.row_crc.specs.Inside.Sums.{wordsIn};
 
 // Word j that is moved is put at 139 + j. So what word i gets stands at i, which is the word 139 before it, at i + 53, the word 86 before, and at
@@ -38,7 +38,7 @@ fn fold(row: &[u16], moved: &mut [u16])
     requires { ⌜ length (now moved) ≡ 1984 ⌝ }
     requires { ⌜ Empty (now moved) ⌝ }
     ensures size { λ _. ⌜ length (now (moved .exit)) ≡ 1984 ⌝ }
-    ensures folds { λ _. ⌜ Folds (now (row .entry)) (now (moved .exit)) 1781 ⌝ }
+    ensures folds { λ _. ⌜ FoldInv (now (row .entry)) (now (moved .exit)) 1781 ⌝ }
 {
     let mut j = 0;
     while j < FOLDED {
@@ -53,8 +53,8 @@ fn crc_of_last(a: &[u16], ma: &[u16], b: &[u16], mb: &[u16]) -> Two
     requires { ⌜ length (now ma) ≡ 1984 ⌝ }
     requires { ⌜ length (now b) ≡ 1920 ⌝ }
     requires { ⌜ length (now mb) ≡ 1984 ⌝ }
-    requires { ⌜ Folds (now a) (now ma) 1781 ⌝ }
-    requires { ⌜ Folds (now b) (now mb) 1781 ⌝ }
+    requires { ⌜ FoldInv (now a) (now ma) 1781 ⌝ }
+    requires { ⌜ FoldInv (now b) (now mb) 1781 ⌝ }
     ensures { λ r. ⌜ r ≡ record { a = crc 0 (wordsIn (now (a .entry)) 0); b = crc 0 (wordsIn (now (b .entry)) 0) } ⌝ }
 {
     let mut c = 0;

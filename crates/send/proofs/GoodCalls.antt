@@ -18,7 +18,7 @@ use Rattle.symbol.specs.declared.disparity.Disparity.{Disparity}
 use Rattle.span.specs.declared.format.Format.{Format}
 use Rattle.span.specs.Format.{isKnown, numbered, shapeOf, samplesIn, symbolsIn}
 use Rattle.span.specs.Span.{spanAfter}
-use Rattle.span.specs.Stream.{Asked}
+use Rattle.span.specs.Stream.{Request}
 use Rattle.span.specs.Inside.Sample.{boundsOf}
 use Rattle.span.proofs.Formats.{is-known, known-told}
 use Rattle.send.specs.Check.{firstOutside}
@@ -100,7 +100,7 @@ module _ (f : Format) (long room : ℕ) where
 not-refused : {A : Type 0} {r : Answer A} {e : A} {number place : ℕ} → r ≡ given e → r ≡ refused number place → ⊥
 not-refused g x = let z : _≡_ {A = ℕ} 0 1 = cc in omega arith
 
-module _ (d : Disparity) (f : Format) (a : Asked) (room : ℕ) where
+module _ (d : Disparity) (f : Format) (a : Request) (room : ℕ) where
   abbrev inside : ℕ → Type 0
   inside i = inBounds f (a .line) (getD (a .samples) i 0) ≡ true
 

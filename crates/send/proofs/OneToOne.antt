@@ -4,7 +4,7 @@ use mathlib.Core.Path.{_≡_, refl}
 use mathlib.Core.Bool.{cond}
 use lib.Dec.{eqb}
 use Rattle.ground.specs.Answer.{Answer, refused, given}
-use Rattle.ground.specs.Inside.Answer.{OneToOne}
+use Rattle.ground.specs.Inside.Answer.{Injective}
 use Rattle.ground.proofs.Answers.{told-again}
 use Rattle.symbol.specs.declared.disparity.Disparity.{Disparity}
 use Rattle.send.specs.declared.send.Sent.{Sent}
@@ -17,7 +17,7 @@ sentAgain (refused n place) =
     (cond (eqb n 2) NoLine (cond (eqb n 3) WrongInput (cond (eqb n 4) WrongOutput (NotAllowed place))))
 sentAgain (given d) = After d
 
-pub sent-one-to-one : OneToOne paperSent
+pub sent-one-to-one : Injective paperSent
 sent-one-to-one = told-again sentAgain again
   where
     again : (r : Sent) → sentAgain (paperSent r) ≡ r

@@ -15,7 +15,7 @@ use Rattle.symbol.specs.declared.disparity.Disparity.{Disparity}
 use Rattle.span.specs.declared.format.Format.{Format}
 use Rattle.span.specs.Format.{isKnown, shapeOf, samplesIn, symbolsIn}
 use Rattle.span.specs.Span.{spanAfter}
-use Rattle.span.specs.Stream.{Asked}
+use Rattle.span.specs.Stream.{Request}
 use Rattle.span.specs.Inside.Sample.{boundsOf}
 use Rattle.span.proofs.Formats.{known-told}
 use Rattle.span.proofs.Samples.{allowed-is}
@@ -23,7 +23,7 @@ use Rattle.send.specs.Check.{firstOutside}
 use Rattle.send.specs.Send.{Good, forbidden, firstForbidden, sendOf}
 use Rattle.send.proofs.Checking.{outsideAt, found-first, found-none}
 
-module _ (f : Format) (a : Asked) where
+module _ (f : Format) (a : Request) where
   abbrev low : ℕ
   low = boundsOf f (a .line) .low
 
@@ -38,7 +38,7 @@ module _ (f : Format) (a : Asked) where
   unfolding firstForbidden
   same-search known = ap (firstBelow (length (a .samples))) (fun-ext (forbidden-is known))
 
-module _ (d : Disparity) (f : Format) (a : Asked) (room : ℕ) where
+module _ (d : Disparity) (f : Format) (a : Request) (room : ℕ) where
   pub send-meets-1 : isKnown f ≡ false → sendOf d f a room ≡ refused 1 0
   send-meets-1 t = simp t
 

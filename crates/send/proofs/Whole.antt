@@ -27,7 +27,7 @@ use Rattle.span.specs.Format.{isKnown, shapeOf, samplesIn, symbolsIn}
 use Rattle.span.specs.Encoding.{symbolsFrom, afterRun}
 use Rattle.span.specs.Sample.{allowed, sampleWord}
 use Rattle.span.specs.Span.{interleaved, bytes, charsFromSav, charsFromEav, spanChars, spanSymbols, spanAfter}
-use Rattle.span.specs.Stream.{Asked, picture, eav, lineNumber, register, crcc}
+use Rattle.span.specs.Stream.{Request, picture, eav, lineNumber, register, crcc}
 use Rattle.span.specs.Inside.Sample.{boundsOf}
 use Rattle.span.proofs.Formats.{Known, known-told, small}
 use Rattle.span.proofs.Lengths.{known-has-streams, length-chars}
@@ -46,7 +46,7 @@ regroup t g h c r =
     ap (λ (l : List ℕ). t ++ l) (append-assoc g h (c ++ r) ∙ ap (λ (l : List ℕ). g ++ l) (sym (append-assoc h c r)) ∙ sym (append-assoc g (h ++ c) r))
     ∙ sym (append-assoc t (g ++ (h ++ c)) r)
 
-module _ (f : Format) (a : Asked) (good : Good f a) (factor : ℕ) (is : factor ≡ boundsOf f (a .line) .factor) where
+module _ (f : Format) (a : Request) (good : Good f a) (factor : ℕ) (is : factor ≡ boundsOf f (a .line) .factor) where
   abbrev half : ℕ
   half = shapeOf f .half
 

@@ -28,7 +28,7 @@ use Rattle.span.specs.declared.format.Shape.{Shape}
 use Rattle.span.specs.Content.{contentOf}
 use Rattle.span.specs.Encoding.{symbolsFrom, afterRun}
 use Rattle.span.specs.Format.{shapeOf}
-use Rattle.span.specs.Span.{interleaved, listed, bytes}
+use Rattle.span.specs.Span.{interleaved, bytesListed, bytes}
 use Rattle.send.specs.declared.coder.Coded.{Coded}
 use Rattle.send.specs.declared.coder.Three.{Three}
 use Rattle.send.specs.declared.put.Four.{Four}
@@ -56,7 +56,7 @@ threeOf e x y z =
 
 -- the characters of a pair of words
 abbrev pub pairChars : ℕ → ℕ → List ℕ
-pairChars a b = listed (bytesOf a b)
+pairChars a b = bytesListed (bytesOf a b)
 
 -- the characters of one word of each stream
 unfoldable pub groupChars : ℕ → (ℕ → ℕ) → List ℕ

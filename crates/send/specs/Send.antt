@@ -17,12 +17,12 @@ use Rattle.span.specs.declared.format.Format.{Format}
 use Rattle.span.specs.Format.{isKnown, shapeOf, samplesIn, symbolsIn}
 use Rattle.span.specs.Sample.{allowed}
 use Rattle.span.specs.Span.{spanSymbols, spanAfter}
-use Rattle.span.specs.Stream.{Asked}
+use Rattle.span.specs.Stream.{Request}
 use Rattle.send.specs.declared.send.Sent.{Sent}
 use Rattle.send.specs.declared.send.Sent.the-variants.{After, UnknownFormat, NoLine, WrongInput, WrongOutput, NotAllowed}
 
-abbrev pub asked : ℕ → Content → List ℕ → Asked
-asked n content samples = record { line = n; content = content; samples = samples }
+abbrev pub request : ℕ → Content → List ℕ → Request
+request n content samples = record { line = n; content = content; samples = samples }
 
 -- the paper's number and values for each answer
 abbrev pub paperSent : Sent → Answer Disparity
@@ -34,21 +34,21 @@ paperSent WrongOutput = refused 4 0
 paperSent (NotAllowed place) = refused 6 place
 
 -- sample i, as given, may not be sent: it is one of stream i / 1920
-abbrev pub forbidden : Format → Asked → ℕ → Bool
+abbrev pub forbidden : Format → Request → ℕ → Bool
 forbidden f a i = not (allowed f (a .line) (i / 1920) (getD (a .samples) i 0))
 
 -- 6: the lowest index of a sample that may not be sent
-unfoldable pub firstForbidden : Format → Asked → Option ℕ
+unfoldable pub firstForbidden : Format → Request → Option ℕ
 firstForbidden f a = firstBelow (length (a .samples)) (forbidden f a)
 
 -- what may be sent, the symbol buffer apart
-pub record Good (f : Format) (a : Asked) : Type 0 where
+pub record Good (f : Format) (a : Request) : Type 0 where
   pub known : isKnown f ≡ true
   pub samples : length (a .samples) ≡ samplesIn (shapeOf f)
   pub allowed : (i : ℕ) → i < length (a .samples) → forbidden f a i ≡ false
 
 -- the refusals in the order tried, where the symbol buffer has so much room
-abbrev pub refusals : Format → Asked → ℕ → List Row
+abbrev pub refusals : Format → Request → ℕ → List Row
 refusals f a room =
     unless 1 (isKnown f)
     ∷ unless 2 (isLine (a .line))
@@ -58,9 +58,9 @@ refusals f a room =
     ∷ []
 
 -- the disparity after the span, or the refusal
-abbrev pub sendOf : Disparity → Format → Asked → ℕ → Answer Disparity
+abbrev pub sendOf : Disparity → Format → Request → ℕ → Answer Disparity
 sendOf d f a room = checked (refusals f a room) (spanAfter d f a)
 
 -- the symbol buffer afterwards
-abbrev pub sentBuffer : Disparity → Format → Asked → List ℕ → List ℕ
+abbrev pub sentBuffer : Disparity → Format → Request → List ℕ → List ℕ
 sentBuffer d f a symbols = unlessRefused (sendOf d f a (length symbols)) symbols (spanSymbols d f a)

@@ -1,7 +1,7 @@
 // Characters to symbols through the lent tables, with the running disparity kept as its offset in them.
 ghost use mathlib.Core.Path.{_≡_};
 ghost use Prim.Native.Nat.{_<_};
-ghost use Rattle.encoder.specs.Inside.Tables.{offsetOf, ofOffset, symbolTable, turnTable};
+ghost use Rattle.encoder.specs.Inside.Tables.{offsetOf, ofOffset, symbolTable, flipTable};
 ghost use Rattle.send.specs.Put.{coded, threeOf};
 
 pub(crate) struct Coded {
@@ -20,7 +20,7 @@ pub(crate) struct Three {
 // The symbol of character c at offset d, and the offset after it.
 pub(crate) fn code(symbols: &[u16; 536], turns: &[u16; 268], d: usize, c: u16) -> Coded
     requires { ⌜ now symbols ≡ symbolTable ⌝ }
-    requires { ⌜ now turns ≡ turnTable ⌝ }
+    requires { ⌜ now turns ≡ flipTable ⌝ }
     requires { ⌜ d ≡ offsetOf (ofOffset d) ⌝ }
     requires { ⌜ c < 268 ⌝ }
     ensures { λ r. ⌜ r ≡ coded (ofOffset d) c ⌝ }
@@ -42,7 +42,7 @@ pub(crate) fn code_three(
     z: u16,
 ) -> Three
     requires { ⌜ now symbols ≡ symbolTable ⌝ }
-    requires { ⌜ now turns ≡ turnTable ⌝ }
+    requires { ⌜ now turns ≡ flipTable ⌝ }
     requires { ⌜ d ≡ offsetOf (ofOffset d) ⌝ }
     requires { ⌜ x < 268 ⌝ }
     requires { ⌜ y < 268 ⌝ }

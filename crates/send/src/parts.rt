@@ -9,7 +9,7 @@ use word::line_number::LineWords;
 ghost use mathlib.Core.Path.{_≡_};
 ghost use Prim.Native.Nat.{_+_, _*_, _≤_};
 ghost use lib.ListN.{length};
-ghost use Rattle.encoder.specs.Inside.Tables.{offsetOf, ofOffset, symbolTable, turnTable};
+ghost use Rattle.encoder.specs.Inside.Tables.{offsetOf, ofOffset, symbolTable, flipTable};
 ghost use Rattle.line.specs.Stream.{lineAfter};
 ghost use Rattle.span.specs.Format.{symbolsIn};
 ghost use Rattle.span.specs.Inside.Format.{Small};
@@ -40,7 +40,7 @@ fn put_crcc(
     at: usize,
 ) -> usize
     requires { ⌜ now symbols ≡ symbolTable ⌝ }
-    requires { ⌜ now turns ≡ turnTable ⌝ }
+    requires { ⌜ now turns ≡ flipTable ⌝ }
     requires { ⌜ 1 ≤ half ⌝ }
     requires { ⌜ half ≤ 2 ⌝ }
     requires { ⌜ d ≡ offsetOf (ofOffset d) ⌝ }
@@ -80,7 +80,7 @@ pub(crate) fn put_behind(
     at: usize,
 ) -> usize
     requires { ⌜ now symbols ≡ symbolTable ⌝ }
-    requires { ⌜ now turns ≡ turnTable ⌝ }
+    requires { ⌜ now turns ≡ flipTable ⌝ }
     requires { ⌜ 1 ≤ half ⌝ }
     requires { ⌜ half ≤ 2 ⌝ }
     requires { ⌜ p .offset ≡ offsetOf (ofOffset (p .offset)) ⌝ }
@@ -121,7 +121,7 @@ pub(crate) fn put_span(
     out: &mut [u16],
 ) -> usize
     requires { ⌜ now symbols ≡ symbolTable ⌝ }
-    requires { ⌜ now turns ≡ turnTable ⌝ }
+    requires { ⌜ now turns ≡ flipTable ⌝ }
     requires { ⌜ 1 ≤ p .half ⌝ }
     requires { ⌜ Small p ⌝ }
     requires { ⌜ AreWords (now words) ⌝ }

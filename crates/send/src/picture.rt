@@ -3,7 +3,7 @@
 ghost use mathlib.Core.Path.{_≡_};
 ghost use Prim.Native.Nat.{_+_, _*_, _≤_, _<_};
 ghost use lib.ListN.{length};
-ghost use Rattle.encoder.specs.Inside.Tables.{offsetOf, ofOffset, symbolTable, turnTable};
+ghost use Rattle.encoder.specs.Inside.Tables.{offsetOf, ofOffset, symbolTable, flipTable};
 ghost use Rattle.send.specs.Put.{behind, put, pairAt, wordAt, pictureChars, passedAt, AreWords};
 
 // Behind so many words of each stream: the offset of the running disparity, and the CRC of each stream.
@@ -26,7 +26,7 @@ fn put_at(
     at: usize,
 ) -> usize
     requires { ⌜ now symbols ≡ symbolTable ⌝ }
-    requires { ⌜ now turns ≡ turnTable ⌝ }
+    requires { ⌜ now turns ≡ flipTable ⌝ }
     requires { ⌜ AreWords (now words) ⌝ }
     requires { ⌜ place + 1920 < length (now words) ⌝ }
     requires { ⌜ d ≡ offsetOf (ofOffset d) ⌝ }
@@ -50,7 +50,7 @@ fn put_two_streams(
     at: usize,
 ) -> usize
     requires { ⌜ now symbols ≡ symbolTable ⌝ }
-    requires { ⌜ now turns ≡ turnTable ⌝ }
+    requires { ⌜ now turns ≡ flipTable ⌝ }
     requires { ⌜ AreWords (now words) ⌝ }
     requires { ⌜ length (now words) ≡ 3840 ⌝ }
     requires { ⌜ d ≡ offsetOf (ofOffset d) ⌝ }
@@ -81,7 +81,7 @@ fn put_four_streams(
     at: usize,
 ) -> usize
     requires { ⌜ now symbols ≡ symbolTable ⌝ }
-    requires { ⌜ now turns ≡ turnTable ⌝ }
+    requires { ⌜ now turns ≡ flipTable ⌝ }
     requires { ⌜ AreWords (now words) ⌝ }
     requires { ⌜ length (now words) ≡ 7680 ⌝ }
     requires { ⌜ d ≡ offsetOf (ofOffset d) ⌝ }
@@ -113,7 +113,7 @@ fn put_streams(
     at: usize,
 ) -> usize
     requires { ⌜ now symbols ≡ symbolTable ⌝ }
-    requires { ⌜ now turns ≡ turnTable ⌝ }
+    requires { ⌜ now turns ≡ flipTable ⌝ }
     requires { ⌜ 1 ≤ half ⌝ }
     requires { ⌜ half ≤ 2 ⌝ }
     requires { ⌜ AreWords (now words) ⌝ }
@@ -140,7 +140,7 @@ pub(crate) fn put_picture(
     at: usize,
 ) -> Passed
     requires { ⌜ now symbols ≡ symbolTable ⌝ }
-    requires { ⌜ now turns ≡ turnTable ⌝ }
+    requires { ⌜ now turns ≡ flipTable ⌝ }
     requires { ⌜ 1 ≤ half ⌝ }
     requires { ⌜ half ≤ 2 ⌝ }
     requires { ⌜ AreWords (now words) ⌝ }

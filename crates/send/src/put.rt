@@ -3,7 +3,7 @@ ghost use mathlib.Core.Path.{_≡_};
 ghost use Prim.Native.Nat.{_+_, _*_, _/_, _%_, _≤_, _<_};
 ghost use mathlib.Core.List.{[], _∷_};
 ghost use lib.ListN.{length};
-ghost use Rattle.encoder.specs.Inside.Tables.{offsetOf, ofOffset, symbolTable, turnTable};
+ghost use Rattle.encoder.specs.Inside.Tables.{offsetOf, ofOffset, symbolTable, flipTable};
 ghost use Rattle.send.specs.Put.{behind, put, pairChars, groupChars, wordIn, runChars, Stays};
 
 // One word of each stream; with two streams the last two count for nothing.
@@ -26,7 +26,7 @@ pub(crate) fn put_three(
     at: usize,
 ) -> usize
     requires { ⌜ now symbols ≡ symbolTable ⌝ }
-    requires { ⌜ now turns ≡ turnTable ⌝ }
+    requires { ⌜ now turns ≡ flipTable ⌝ }
     requires { ⌜ d ≡ offsetOf (ofOffset d) ⌝ }
     requires { ⌜ x < 268 ⌝ }
     requires { ⌜ y < 268 ⌝ }
@@ -53,7 +53,7 @@ pub(crate) fn put_pair(
     at: usize,
 ) -> usize
     requires { ⌜ now symbols ≡ symbolTable ⌝ }
-    requires { ⌜ now turns ≡ turnTable ⌝ }
+    requires { ⌜ now turns ≡ flipTable ⌝ }
     requires { ⌜ d ≡ offsetOf (ofOffset d) ⌝ }
     requires { ⌜ at + 3 ≤ length (now out) ⌝ }
     ensures offset { λ r. ⌜ r ≡ behind d (pairChars a b) ⌝ }
@@ -82,7 +82,7 @@ pub(crate) fn put_both(
     at: usize,
 ) -> usize
     requires { ⌜ now symbols ≡ symbolTable ⌝ }
-    requires { ⌜ now turns ≡ turnTable ⌝ }
+    requires { ⌜ now turns ≡ flipTable ⌝ }
     requires { ⌜ d ≡ offsetOf (ofOffset d) ⌝ }
     requires { ⌜ both < 16777216 ⌝ }
     requires { ⌜ at + 3 ≤ length (now out) ⌝ }
@@ -112,7 +112,7 @@ pub(crate) fn put_four(
     at: usize,
 ) -> usize
     requires { ⌜ now symbols ≡ symbolTable ⌝ }
-    requires { ⌜ now turns ≡ turnTable ⌝ }
+    requires { ⌜ now turns ≡ flipTable ⌝ }
     requires { ⌜ 1 ≤ half ⌝ }
     requires { ⌜ half ≤ 2 ⌝ }
     requires { ⌜ d ≡ offsetOf (ofOffset d) ⌝ }
@@ -138,7 +138,7 @@ pub(crate) fn put_same(
     at: usize,
 ) -> usize
     requires { ⌜ now symbols ≡ symbolTable ⌝ }
-    requires { ⌜ now turns ≡ turnTable ⌝ }
+    requires { ⌜ now turns ≡ flipTable ⌝ }
     requires { ⌜ 1 ≤ half ⌝ }
     requires { ⌜ half ≤ 2 ⌝ }
     requires { ⌜ d ≡ offsetOf (ofOffset d) ⌝ }
@@ -173,7 +173,7 @@ pub(crate) fn put_run(
     at: usize,
 )
     requires { ⌜ now symbols ≡ symbolTable ⌝ }
-    requires { ⌜ now turns ≡ turnTable ⌝ }
+    requires { ⌜ now turns ≡ flipTable ⌝ }
     requires { ⌜ d ≡ offsetOf (ofOffset d) ⌝ }
     requires { ⌜ Stays d w ⌝ }
     requires { ⌜ at + 3 * pairs ≤ length (now out) ⌝ }

@@ -12,7 +12,7 @@ ghost use Rattle.span.specs.Format.{isKnown, shapeOf, samplesIn, symbolsIn};
 ghost use Rattle.span.specs.Span.{spanSymbols, spanAfter};
 ghost use Rattle.span.specs.Inside.Sample.{boundsOf};
 ghost use Rattle.send.specs.Put.{behind, put, wordsOf, spanPut, AreWords, Fits};
-ghost use Rattle.send.specs.Send.{Good, asked, paperSent, sendOf, sentBuffer};
+ghost use Rattle.send.specs.Send.{Good, request, paperSent, sendOf, sentBuffer};
 
 pub enum Sent {
     // The disparity after the span.
@@ -78,12 +78,12 @@ fn send_scaled(
     words: &mut [u16],
     out: &mut [u16],
 ) -> Disparity
-    requires { ⌜ Good f (asked (l .0) content (now samples)) ⌝ }
+    requires { ⌜ Good f (request (l .0) content (now samples)) ⌝ }
     requires { ⌜ factor ≡ boundsOf f (l .0) .factor ⌝ }
     requires { ⌜ length (now words) ≡ length (now samples) ⌝ }
     requires { ⌜ length (now out) ≡ symbolsIn (shapeOf f) ⌝ }
-    ensures after { λ r. ⌜ r ≡ spanAfter d f (asked (l .0) content (now (samples .entry))) ⌝ }
-    ensures symbols { λ _. ⌜ now (out .exit) ≡ spanSymbols d f (asked (l .0) content (now (samples .entry))) ⌝ }
+    ensures after { λ r. ⌜ r ≡ spanAfter d f (request (l .0) content (now (samples .entry))) ⌝ }
+    ensures symbols { λ _. ⌜ now (out .exit) ≡ spanSymbols d f (request (l .0) content (now (samples .entry))) ⌝ }
 {
     scale(factor, samples, words);
     send_words(f, l, d, content, words, out)
@@ -99,11 +99,11 @@ fn send_span(
     samples: &[u16],
     out: &mut [u16],
 ) -> Disparity
-    requires { ⌜ Good f (asked (l .0) content (now samples)) ⌝ }
+    requires { ⌜ Good f (request (l .0) content (now samples)) ⌝ }
     requires { ⌜ factor ≡ boundsOf f (l .0) .factor ⌝ }
     requires { ⌜ length (now out) ≡ symbolsIn (shapeOf f) ⌝ }
-    ensures after { λ r. ⌜ r ≡ spanAfter d f (asked (l .0) content (now (samples .entry))) ⌝ }
-    ensures symbols { λ _. ⌜ now (out .exit) ≡ spanSymbols d f (asked (l .0) content (now (samples .entry))) ⌝ }
+    ensures after { λ r. ⌜ r ≡ spanAfter d f (request (l .0) content (now (samples .entry))) ⌝ }
+    ensures symbols { λ _. ⌜ now (out .exit) ≡ spanSymbols d f (request (l .0) content (now (samples .entry))) ⌝ }
 {
     if factor == 1 {
         return send_words(f, l, d, content, samples, out);
@@ -126,8 +126,8 @@ fn send_samples(
     requires { ⌜ isLine (l .0) ≡ true ⌝ }
     requires { ⌜ length (now samples) ≡ samplesIn (shapeOf f) ⌝ }
     requires { ⌜ length (now symbols) ≡ symbolsIn (shapeOf f) ⌝ }
-    ensures answer { λ r. ⌜ paperSent r ≡ sendOf d f (asked (l .0) content (now (samples .entry))) (length (now (symbols .entry))) ⌝ }
-    ensures symbols { λ _. ⌜ now (symbols .exit) ≡ sentBuffer d f (asked (l .0) content (now (samples .entry))) (now (symbols .entry)) ⌝ }
+    ensures answer { λ r. ⌜ paperSent r ≡ sendOf d f (request (l .0) content (now (samples .entry))) (length (now (symbols .entry))) ⌝ }
+    ensures symbols { λ _. ⌜ now (symbols .exit) ≡ sentBuffer d f (request (l .0) content (now (samples .entry))) (now (symbols .entry)) ⌝ }
 {
     let bounds = span::sample::bounds_of(f, l);
     let wrong = crate::check::first_outside(bounds.low, bounds.high, samples);
@@ -146,8 +146,8 @@ pub fn send(
     samples: &[u16],
     symbols: &mut [u16],
 ) -> Sent
-    ensures answer { λ r. ⌜ paperSent r ≡ sendOf d f (asked (l .0) content (now (samples .entry))) (length (now (symbols .entry))) ⌝ }
-    ensures symbols { λ _. ⌜ now (symbols .exit) ≡ sentBuffer d f (asked (l .0) content (now (samples .entry))) (now (symbols .entry)) ⌝ }
+    ensures answer { λ r. ⌜ paperSent r ≡ sendOf d f (request (l .0) content (now (samples .entry))) (length (now (symbols .entry))) ⌝ }
+    ensures symbols { λ _. ⌜ now (symbols .exit) ≡ sentBuffer d f (request (l .0) content (now (samples .entry))) (now (symbols .entry)) ⌝ }
 {
     if !span::format::is_known(f) {
         return Sent::UnknownFormat;

@@ -2,7 +2,7 @@
 ghost use mathlib.Core.Path.{_≡_};
 ghost use Prim.Native.Nat.{_+_, _*_, _≤_, _<_};
 ghost use lib.ListN.{length};
-ghost use Rattle.encoder.specs.Inside.Tables.{offsetOf, ofOffset, symbolTable, turnTable};
+ghost use Rattle.encoder.specs.Inside.Tables.{offsetOf, ofOffset, symbolTable, flipTable};
 ghost use Rattle.send.specs.Put.{behind, put, syncChars, secondWord, timingChars};
 
 // The special characters of SAV and EAV, by their numbers among the characters.
@@ -23,7 +23,7 @@ fn put_sync(
     at: usize,
 ) -> usize
     requires { ⌜ now symbols ≡ symbolTable ⌝ }
-    requires { ⌜ now turns ≡ turnTable ⌝ }
+    requires { ⌜ now turns ≡ flipTable ⌝ }
     requires { ⌜ d ≡ offsetOf (ofOffset d) ⌝ }
     requires { ⌜ k < 268 ⌝ }
     requires { ⌜ at + 6 ≤ length (now out) ⌝ }
@@ -68,7 +68,7 @@ pub(crate) fn put_timing(
     at: usize,
 ) -> usize
     requires { ⌜ now symbols ≡ symbolTable ⌝ }
-    requires { ⌜ now turns ≡ turnTable ⌝ }
+    requires { ⌜ now turns ≡ flipTable ⌝ }
     requires { ⌜ 1 ≤ half ⌝ }
     requires { ⌜ half ≤ 2 ⌝ }
     requires { ⌜ d ≡ offsetOf (ofOffset d) ⌝ }

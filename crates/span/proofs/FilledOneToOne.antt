@@ -4,7 +4,7 @@ use mathlib.Core.Path.{_≡_, refl}
 use mathlib.Core.Bool.{cond}
 use lib.Dec.{eqb}
 use Rattle.ground.specs.Answer.{Answer, refused, given}
-use Rattle.ground.specs.Inside.Answer.{OneToOne}
+use Rattle.ground.specs.Inside.Answer.{Injective}
 use Rattle.ground.proofs.Answers.{told-again}
 use Rattle.span.specs.declared.blanking.Filled.{Filled}
 use Rattle.span.specs.declared.blanking.Filled.the-variants.{Done, UnknownFormat, WrongOutput}
@@ -14,7 +14,7 @@ abbrev filledAgain : Answer (Unit {0}) → Filled
 filledAgain (refused n place) = cond (eqb n 1) UnknownFormat WrongOutput
 filledAgain (given a) = Done
 
-pub filled-one-to-one : OneToOne paperFilled
+pub filled-one-to-one : Injective paperFilled
 filled-one-to-one = told-again filledAgain again
   where
     again : (r : Filled) → filledAgain (paperFilled r) ≡ r

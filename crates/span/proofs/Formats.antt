@@ -14,7 +14,7 @@ use Rattle.ground.proofs.Ranges.{is-within, from-low, to-high}
 use Rattle.ground.proofs.Tests.{both-left, both-right}
 use Rattle.span.specs.declared.format.Format.{Format}
 use Rattle.span.specs.declared.format.Shape.{Shape}
-use Rattle.span.specs.Format.{isKnown, row, numbered, shapeOf}
+use Rattle.span.specs.Format.{isKnown, tableRow, numbered, shapeOf}
 use Rattle.span.specs.Inside.Format.{Small}
 
 -- formats 1 to 3 at 10 or 12 bits
@@ -69,7 +69,7 @@ unfolding shapeOf
 small f e = rw e (small-row (f .number))
 
 -- what is no format has no streams
-pub no-row : (n : ℕ) → (n ≡ 1 → ⊥) → (n ≡ 2 → ⊥) → (n ≡ 3 → ⊥) → numbered n ≡ row 0 0 0
+pub no-row : (n : ℕ) → (n ≡ 1 → ⊥) → (n ≡ 2 → ⊥) → (n ≡ 3 → ⊥) → numbered n ≡ tableRow 0 0 0
 no-row zero a b c = refl
 no-row (suc zero) a b c = absurd (a refl)
 no-row (suc (suc zero)) a b c = absurd (b refl)

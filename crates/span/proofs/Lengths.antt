@@ -17,7 +17,7 @@ use Rattle.span.specs.Content.{contentOf}
 use Rattle.span.specs.Format.{formatFrom, isKnown, shapeOf, streams, pairsIn, symbolsIn, eavAt}
 use Rattle.span.specs.Laws.{columns}
 use Rattle.span.specs.Span.{interleaved, bytes, wordsFromSav, wordsFromEav, spanWords, charsFromSav, charsFromEav, spanChars, spanSymbols, fillWord}
-use Rattle.span.specs.Stream.{Asked, fromSav, fromEav}
+use Rattle.span.specs.Stream.{Request, fromSav, fromEav}
 use Rattle.span.proofs.Encoding.{length-symbols}
 use Rattle.span.proofs.Interleaving.{length-interleaved}
 use Rattle.span.proofs.Packing.{length-bytes}
@@ -58,7 +58,7 @@ module _ (f : Format) (known : isKnown f ≡ true) where
   known-has-fill = some .fill
 
 -- words: any format
-module _ (f : Format) (a : Asked) where
+module _ (f : Format) (a : Request) where
   pub length-words-sav : length (wordsFromSav f a) ≡ streams (shapeOf f) * 1924
   unfolding wordsFromSav
   length-words-sav = length-interleaved (streams (shapeOf f)) 1924 (fromSav f a)
@@ -87,7 +87,7 @@ module _ (f : Format) (a : Asked) where
       (length-words-eav ∙ omega arith)
 
 -- characters and symbols, where there are streams
-module _ (f : Format) (a : Asked) (some : 1 ≤ shapeOf f .half) where
+module _ (f : Format) (a : Request) (some : 1 ≤ shapeOf f .half) where
   pub length-chars : length (spanChars f a) ≡ symbolsIn (shapeOf f)
   unfolding spanChars charsFromSav charsFromEav
   length-chars =

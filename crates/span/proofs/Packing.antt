@@ -8,14 +8,14 @@ use lib.ListN.{length, getD, replicate}
 use Rattle.ground.specs.Written.{upto, table}
 use Rattle.ground.proofs.Writing.{length-upto, getD-upto, length-table, is-table, upto-same, table-pairs, replicate-table}
 use Rattle.packing.specs.Bytes.{bytesOf}
-use Rattle.span.specs.Span.{across, interleaved, listed, bytes}
+use Rattle.span.specs.Span.{across, interleaved, bytesListed, bytes}
 
 -- an even number of words, and the words behind them
 pub bytes-append : (k : ℕ) (xs ys : List ℕ) → length xs ≡ 2 * k → bytes (xs ++ ys) ≡ bytes xs ++ bytes ys
 unfolding bytes
 bytes-append k [] ys e = refl
 bytes-append k (a ∷ []) ys e = absurd (omega arith)
-bytes-append k (a ∷ b ∷ xs) ys e = ap (λ (l : List ℕ). listed (bytesOf a b) ++ l) (bytes-append (k - 1) xs ys (omega arith))
+bytes-append k (a ∷ b ∷ xs) ys e = ap (λ (l : List ℕ). bytesListed (bytesOf a b) ++ l) (bytes-append (k - 1) xs ys (omega arith))
 
 -- pieces of an even number of words
 pub bytes-upto :
@@ -27,7 +27,7 @@ bytes-upto k f sized (suc n) =
     ∙ ap (λ (l : List ℕ). l ++ bytes (f n)) (bytes-upto k f sized n)
 
 pub bytes-table :
-    (half : ℕ) (w : ℕ → ℕ) → bytes (table (2 * half) w) ≡ upto half (λ u. listed (bytesOf (w (2 * u)) (w (2 * u + 1))))
+    (half : ℕ) (w : ℕ → ℕ) → bytes (table (2 * half) w) ≡ upto half (λ u. bytesListed (bytesOf (w (2 * u)) (w (2 * u + 1))))
 unfolding bytes
 bytes-table half w =
     ap bytes (table-pairs half w) ∙ bytes-upto 1 (λ u. w (2 * u) ∷ w (2 * u + 1) ∷ []) (λ m. refl) half
@@ -36,7 +36,7 @@ bytes-table half w =
 module _ (k : ℕ) (xs : List ℕ) (e : length xs ≡ 2 * k) where
   -- the bytes of pair u
   three : ℕ → List ℕ
-  three u = listed (bytesOf (getD xs (2 * u) 0) (getD xs (2 * u + 1) 0))
+  three u = bytesListed (bytesOf (getD xs (2 * u) 0) (getD xs (2 * u + 1) 0))
 
   -- the bytes of all pairs
   bytes-even : bytes xs ≡ upto k three
@@ -54,7 +54,7 @@ module _ (k : ℕ) (xs : List ℕ) (e : length xs ≡ 2 * k) where
       → p < k
       → (i : ℕ)
       → i < 3
-      → getD (bytes xs) (3 * p + i) 0 ≡ getD (listed (bytesOf (getD xs (2 * p) 0) (getD xs (2 * p + 1) 0))) i 0
+      → getD (bytes xs) (3 * p + i) 0 ≡ getD (bytesListed (bytesOf (getD xs (2 * p) 0) (getD xs (2 * p + 1) 0))) i 0
   unfolding three
   byte-at p h i l =
       ap (λ (b : List ℕ). getD b (3 * p + i) 0) bytes-even ∙ getD-upto 3 three (λ m. refl) k p i 0 h l
@@ -63,14 +63,14 @@ module _ (k : ℕ) (xs : List ℕ) (e : length xs ≡ 2 * k) where
 pub bytes-interleaved :
     (half n : ℕ) (words : ℕ → List ℕ)
     → bytes (interleaved (2 * half) n words)
-    ≡ upto n (λ j. upto half (λ u. listed (bytesOf (getD (words (2 * u)) j 0) (getD (words (2 * u + 1)) j 0))))
+    ≡ upto n (λ j. upto half (λ u. bytesListed (bytesOf (getD (words (2 * u)) j 0) (getD (words (2 * u + 1)) j 0))))
 unfolding interleaved
 bytes-interleaved half n words =
     bytes-upto half (across (2 * half) words) (λ j. length-table (2 * half) (λ t. getD (words t) j 0)) n
     ∙ upto-same n (λ j. bytes (across (2 * half) words j))
-    (λ j. upto half (λ u. listed (bytesOf (getD (words (2 * u)) j 0) (getD (words (2 * u + 1)) j 0))))
+    (λ j. upto half (λ u. bytesListed (bytesOf (getD (words (2 * u)) j 0) (getD (words (2 * u + 1)) j 0))))
     (λ j h. bytes-table half (λ t. getD (words t) j 0))
 
 -- one word again and again
-pub bytes-replicate : (k w : ℕ) → bytes (replicate (2 * k) w) ≡ upto k (λ _. listed (bytesOf w w))
+pub bytes-replicate : (k w : ℕ) → bytes (replicate (2 * k) w) ≡ upto k (λ _. bytesListed (bytesOf w w))
 bytes-replicate k w = ap bytes (replicate-table (2 * k) w) ∙ bytes-table k (λ _. w)

@@ -18,8 +18,8 @@ use Rattle.span.specs.declared.format.Format.{Format}
 use Rattle.span.specs.Content.{contentOf}
 use Rattle.span.specs.Format.{shapeOf, streams}
 use Rattle.span.specs.Sample.{blankWord}
-use Rattle.span.specs.Span.{interleaved, fillWord, wordsFromSav, wordsFromEav, listed, bytes, synchronised, charsFromSav, charsFromEav}
-use Rattle.span.specs.Stream.{Asked, sav, picture, eav, lineNumber, crcc, ancillary, fromEav}
+use Rattle.span.specs.Span.{interleaved, fillWord, wordsFromSav, wordsFromEav, bytesListed, bytes, synchronised, charsFromSav, charsFromEav}
+use Rattle.span.specs.Stream.{Request, sav, picture, eav, lineNumber, crcc, ancillary, fromEav}
 use Rattle.span.proofs.Interleaving.{length-interleaved, interleaved-append}
 use Rattle.span.proofs.Packing.{bytes-append, length-bytes, bytes-interleaved}
 
@@ -40,7 +40,7 @@ module _ (half : ℕ) where
       let long : length (bytes words) ≡ 3 * (half * 4) = length-bytes (half * 4) words (length-interleaved (2 * half) 4 (λ _. code) ∙ omega arith) in
       ap (λ (l : List ℕ). numberOf k ∷ numberOf k ∷ c1 ∷ c2 ∷ l) (drop-append-le 4 (bytes words) rest (omega (arith, long)))
 
-module _ (f : Format) (a : Asked) (some : 1 ≤ shapeOf f .half) where
+module _ (f : Format) (a : Request) (some : 1 ≤ shapeOf f .half) where
   abbrev s : ℕ
   s = streams (shapeOf f)
 
@@ -96,15 +96,15 @@ module _ (f : Format) (a : Asked) (some : 1 ≤ shapeOf f .half) where
 -- the ancillary area is blanking throughout
 pub blank-area : (f : Format) (n : ℕ)
     → bytes (interleaved (streams (shapeOf f)) (shapeOf f .ancillary) (ancillary f n))
-    ≡ upto (shapeOf f .half * shapeOf f .ancillary) (λ _. listed (bytesOf (blankWord f) (blankWord f)))
+    ≡ upto (shapeOf f .half * shapeOf f .ancillary) (λ _. bytesListed (bytesOf (blankWord f) (blankWord f)))
 unfolding ancillary
 blank-area f n =
     let half : ℕ = shapeOf f .half in
     let many : ℕ = shapeOf f .ancillary in
     bytes-interleaved half many (ancillary f n)
     ∙ upto-same many
-    (λ j. upto half (λ u. listed (bytesOf (getD (ancillary f n (2 * u)) j 0) (getD (ancillary f n (2 * u + 1)) j 0))))
-    (λ _. upto half (λ _. listed (bytesOf (blankWord f) (blankWord f))))
+    (λ j. upto half (λ u. bytesListed (bytesOf (getD (ancillary f n (2 * u)) j 0) (getD (ancillary f n (2 * u + 1)) j 0))))
+    (λ _. upto half (λ _. bytesListed (bytesOf (blankWord f) (blankWord f))))
     (λ j h.
-    ap (λ (w : ℕ). upto half (λ _. listed (bytesOf w w))) (getD-replicate many j (blankWord f) 0 h))
-    ∙ upto-again half many (listed (bytesOf (blankWord f) (blankWord f)))
+    ap (λ (w : ℕ). upto half (λ _. bytesListed (bytesOf w w))) (getD-replicate many j (blankWord f) 0 h))
+    ∙ upto-again half many (bytesListed (bytesOf (blankWord f) (blankWord f)))

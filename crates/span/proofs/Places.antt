@@ -25,8 +25,8 @@ use Rattle.span.specs.Content.{contentOf}
 use Rattle.span.specs.Encoding.{symbolsFrom, afterRun}
 use Rattle.span.specs.Format.{shapeOf, streams, pairsIn, symbolsIn, eavAt}
 use Rattle.span.specs.Sample.{blankWord, sampleWord}
-use Rattle.span.specs.Span.{interleaved, bytes, listed, wordsFromSav, wordsFromEav, spanWords, charsFromSav, charsFromEav, spanChars, spanSymbols, fillWord}
-use Rattle.span.specs.Stream.{Asked, sav, picture, eav, lineNumber, crcc, register, ancillary, fromSav, fromEav}
+use Rattle.span.specs.Span.{interleaved, bytes, bytesListed, wordsFromSav, wordsFromEav, spanWords, charsFromSav, charsFromEav, spanChars, spanSymbols, fillWord}
+use Rattle.span.specs.Stream.{Request, sav, picture, eav, lineNumber, crcc, register, ancillary, fromSav, fromEav}
 use Rattle.span.proofs.Encoding.{symbol-at}
 use Rattle.span.proofs.Interleaving.{length-interleaved, interleaved-at}
 use Rattle.span.proofs.Lengths.{length-words-sav, length-words, length-bytes-sav, length-chars}
@@ -36,14 +36,14 @@ use Rattle.span.proofs.Synchronised.{in-second, kept-byte}
 -- ---- words
 
 -- word j of stream t, at its interleaved place
-abbrev pub wordAt : Format → Asked → ℕ → ℕ → ℕ
+abbrev pub wordAt : Format → Request → ℕ → ℕ → ℕ
 wordAt f a j t = getD (spanWords f a) (streams (shapeOf f) * j + t) 0
 
 -- word j of n, of stream t of s, stands among the first s * n
 pub inside : (s n j t : ℕ) → j < n → t < s → s * j + t < s * n
 inside s n j t h l = omega (arith, mul-le-mul-left s h)
 
-module _ (f : Format) (a : Asked) where
+module _ (f : Format) (a : Request) where
   -- behind what stands from the SAV on stands what stands from the EAV on
   behind-sav : (i : ℕ) → getD (spanWords f a) (streams (shapeOf f) * 1924 + i) 0 ≡ getD (wordsFromEav f a) i 0
   unfolding spanWords
@@ -142,7 +142,7 @@ module _ (f : Format) (a : Asked) where
 
 -- the SAV's special characters and content bytes stand first
 pub char-at-sync-sav :
-    (f : Format) (a : Asked)
+    (f : Format) (a : Request)
     → (getD (spanChars f a) 0 0 ≡ numberOf «K28_5»)
     × (getD (spanChars f a) 1 0 ≡ numberOf «K28_5»)
     × (getD (spanChars f a) 2 0 ≡ contentOf f (a .content) .sav1)
@@ -151,11 +151,11 @@ unfolding spanChars charsFromSav
 char-at-sync-sav f a = (refl, refl, refl, refl)
 
 -- so the first symbol is that of K28.5
-pub first-symbol : (d : Disparity) (f : Format) (a : Asked) → getD (spanSymbols d f a) 0 0 ≡ symbolOf d (numberOf «K28_5»)
+pub first-symbol : (d : Disparity) (f : Format) (a : Request) → getD (spanSymbols d f a) 0 0 ≡ symbolOf d (numberOf «K28_5»)
 unfolding spanSymbols spanChars charsFromSav symbolsFrom
 first-symbol d f a = refl
 
-module _ (f : Format) (a : Asked) (some : 1 ≤ shapeOf f .half) where
+module _ (f : Format) (a : Request) (some : 1 ≤ shapeOf f .half) where
   abbrev content : ContentBytes
   content = contentOf f (a .content)
 
@@ -207,7 +207,7 @@ module _ (f : Format) (a : Asked) (some : 1 ≤ shapeOf f .half) where
       → 4 ≤ 3 * q + i
       → (eavAt (shapeOf f) ≤ 3 * q + i → eavAt (shapeOf f) + 4 ≤ 3 * q + i)
       → getD (spanChars f a) (3 * q + i) 0
-      ≡ getD (listed (bytesOf (getD (spanWords f a) (2 * q) 0) (getD (spanWords f a) (2 * q + 1) 0))) i 0
+      ≡ getD (bytesListed (bytesOf (getD (spanWords f a) (2 * q) 0) (getD (spanWords f a) (2 * q + 1) 0))) i 0
   char-at q i h l p e = char-is-byte (3 * q + i) p e ∙ byte-at (pairsIn (shapeOf f)) (spanWords f a) (length-words f a) q h i l
 
   -- each symbol is that of its character, at the disparity that those before it leave

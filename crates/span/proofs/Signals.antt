@@ -11,11 +11,11 @@ use Rattle.span.specs.declared.format.Format.{Format}
 use Rattle.span.specs.Encoding.{symbolsFrom}
 use Rattle.span.specs.Laws.{allChars}
 use Rattle.span.specs.Span.{spanChars, spanSymbols, spanAfter, signalFrom, signal}
-use Rattle.span.specs.Stream.{Asked, picture, eav, lineNumber, register}
+use Rattle.span.specs.Stream.{Request, picture, eav, lineNumber, register}
 use Rattle.span.proofs.Encoding.{symbols-append}
 
 -- the disparity that a span leaves is handed on
-handed-on : (d : Disparity) (f : Format) (spans : List Asked) → signalFrom d f spans ≡ symbolsFrom d (allChars f spans)
+handed-on : (d : Disparity) (f : Format) (spans : List Request) → signalFrom d f spans ≡ symbolsFrom d (allChars f spans)
 unfolding signalFrom spanSymbols spanAfter symbolsFrom
 handed-on d f [] = refl
 handed-on d f (a ∷ more) =
@@ -23,11 +23,11 @@ handed-on d f (a ∷ more) =
     ∙ sym (symbols-append d (spanChars f a) (allChars f more))
 
 -- the first span from negative disparity, each other from what the one before it leaves
-pub signal-is : (f : Format) (spans : List Asked) → signal f spans ≡ symbolsFrom Negative (allChars f spans)
+pub signal-is : (f : Format) (spans : List Request) → signal f spans ≡ symbolsFrom Negative (allChars f spans)
 unfolding signal
 signal-is f spans = handed-on Negative f spans
 
 -- 004, 6.4: from the first word after a SAV, through the picture, to the last line-number word
-pub register-runs-on : (f : Format) (a : Asked) (t : ℕ) → register f a t ≡ crc (crc 0 (picture f a t)) (eav a ++ lineNumber a)
+pub register-runs-on : (f : Format) (a : Request) (t : ℕ) → register f a t ≡ crc (crc 0 (picture f a t)) (eav a ++ lineNumber a)
 unfolding register
 register-runs-on f a t = sym (crc-append 0 (picture f a t) (eav a ++ lineNumber a))

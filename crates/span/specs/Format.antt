@@ -18,17 +18,17 @@ formatFrom number depth = record { number = number; depth = depth }
 abbrev pub isKnown : Format → Bool
 isKnown f = within 1 3 (f .number) && (eqb (f .depth) 10 || eqb (f .depth) 12)
 
--- a row of the table: s, the ancillary words per stream, the fill words. s and the fill are even, and half of each is kept, since the
+-- a tableRow of the table: s, the ancillary words per stream, the fill words. s and the fill are even, and half of each is kept, since the
 -- link takes words two at a time.
-abbrev pub row : ℕ → ℕ → ℕ → Shape
-row s a g = record { half = s / 2; ancillary = a; fill = g / 2 }
+abbrev pub tableRow : ℕ → ℕ → ℕ → Shape
+tableRow s a g = record { half = s / 2; ancillary = a; fill = g / 2 }
 
 -- the table, from format 1 on; what is no format has no streams
 abbrev pub formats : List Shape
-formats = row 0 0 0 ∷ row 2 268 880 ∷ row 2 708 1056 ∷ row 4 708 2112 ∷ []
+formats = tableRow 0 0 0 ∷ tableRow 2 268 880 ∷ tableRow 2 708 1056 ∷ tableRow 4 708 2112 ∷ []
 
 abbrev pub numbered : ℕ → Shape
-numbered n = getD formats n (row 0 0 0)
+numbered n = getD formats n (tableRow 0 0 0)
 
 unfoldable pub shapeOf : Format → Shape
 shapeOf f = numbered (f .number)

@@ -8,7 +8,7 @@ use mathlib.Core.Logic.{_⊎_}
 use lib.ListN.{length, getD, take}
 use Rattle.ground.specs.Answer.{refused, given}
 use Rattle.ground.specs.Range.{within}
-use Rattle.ground.specs.Inside.Answer.{OneToOne}
+use Rattle.ground.specs.Inside.Answer.{Injective}
 use Rattle.line.specs.Stream.{vOf, lineAfter}
 use Rattle.symbol.specs.declared.disparity.Disparity.{Disparity}
 use Rattle.symbol.specs.declared.disparity.Disparity.the-variants.{Negative}
@@ -29,8 +29,8 @@ use Rattle.span.specs.Image.{imageOf}
 use Rattle.span.specs.Length.{paperLengths, lengthsOf}
 use Rattle.span.specs.Numbers.{IsFormat}
 use Rattle.span.specs.Sample.{blankWord, allowed, sampleWord}
-use Rattle.span.specs.Span.{listed, spanWords, spanChars, spanSymbols, signal}
-use Rattle.span.specs.Stream.{Asked, picture, eav, lineNumber, register}
+use Rattle.span.specs.Span.{bytesListed, spanWords, spanChars, spanSymbols, signal}
+use Rattle.span.specs.Stream.{Request, picture, eav, lineNumber, register}
 use Rattle.span.specs.Inside.Sample.{boundsOf}
 
 -- a format by its number and depth
@@ -50,11 +50,11 @@ abbrev four : Format → ℕ → List ℕ
 four f pair = imageOf f pair 0 ∷ imageOf f pair 1 ∷ imageOf f pair 2 ∷ imageOf f pair 3 ∷ []
 
 -- word j of stream t, at its interleaved place
-abbrev wordOf : Format → Asked → ℕ → ℕ → ℕ
+abbrev wordOf : Format → Request → ℕ → ℕ → ℕ
 wordOf f a j t = getD (spanWords f a) (streams (shapeOf f) * j + t) 0
 
 -- the characters of spans one after the other
-abbrev pub allChars : Format → List Asked → List ℕ
+abbrev pub allChars : Format → List Request → List ℕ
 allChars f [] = []
 allChars f (a ∷ more) = spanChars f a ++ allChars f more
 
@@ -75,7 +75,7 @@ pub record SpanLaws : Type 0 where
   pub lengthsMeets1 : (f : Format) → (IsFormat f → ⊥) → lengthsOf f ≡ refused 1 0
   -- and a span has that many symbols
   pub symbolsOfSpan :
-      (d : Disparity) (f : Format) (a : Asked) → IsFormat f → length (spanSymbols d f a) ≡ symbolsIn (shapeOf f)
+      (d : Disparity) (f : Format) (a : Request) → IsFormat f → length (spanSymbols d f a) ≡ symbolsIn (shapeOf f)
   -- the images that the streams carry: 1 and 2, or 3 and 4, at 120 and 100 Hz; 1 to 4 at 50 Hz (document 01, "Dividing a picture")
   pub images120 : (depth : ℕ) → (two (format 1 depth) 1 ≡ 1 ∷ 2 ∷ []) × (two (format 1 depth) 2 ≡ 3 ∷ 4 ∷ [])
   pub images100 : (depth : ℕ) → (two (format 2 depth) 1 ≡ 1 ∷ 2 ∷ []) × (two (format 2 depth) 2 ≡ 3 ∷ 4 ∷ [])
@@ -85,7 +85,7 @@ pub record SpanLaws : Type 0 where
   pub noneNamedZeros : (f : Format) → contentOf f NoneNamed ≡ record { sav1 = 0; sav2 = 0; eav1 = 0; eav2 = 0 }
   -- the words of each stream (document 01, "A span"; 004, 6.1 to 6.8): the SAV with V of the line,
   pub savWords :
-      (f : Format) (a : Asked) (t : ℕ)
+      (f : Format) (a : Request) (t : ℕ)
       → t < streams (shapeOf f)
       → (wordOf f a 0 t ≡ 0xFFF)
       × (wordOf f a 1 t ≡ 0x000)
@@ -93,50 +93,50 @@ pub record SpanLaws : Type 0 where
       × (wordOf f a 3 t ≡ timing (vOf (a .line)) false)
   -- the picture,
   pub pictureWord :
-      (f : Format) (a : Asked) (t : ℕ)
+      (f : Format) (a : Request) (t : ℕ)
       → t < streams (shapeOf f)
       → (i : ℕ)
       → i < 1920
       → wordOf f a (4 + i) t ≡ sampleWord f (a .line) t (getD (a .samples) (1920 * t + i) 0)
   -- the EAV with V of the line after, that line's number,
   pub eavWords :
-      (f : Format) (a : Asked) (t : ℕ)
+      (f : Format) (a : Request) (t : ℕ)
       → t < streams (shapeOf f)
       → (wordOf f a 1924 t ≡ 0xFFF)
       × (wordOf f a 1925 t ≡ 0x000)
       × (wordOf f a 1926 t ≡ 0x000)
       × (wordOf f a 1927 t ≡ timing (vOf (lineAfter (a .line))) true)
   pub lineNumberWords :
-      (f : Format) (a : Asked) (t : ℕ)
+      (f : Format) (a : Request) (t : ℕ)
       → t < streams (shapeOf f)
       → (wordOf f a 1928 t ≡ ln0 (lineAfter (a .line))) × (wordOf f a 1929 t ≡ ln1 (lineAfter (a .line)))
   -- the CRCC, whose register runs on from the picture words to the last line-number word (6.4),
   pub crccPair :
-      (f : Format) (a : Asked) (t : ℕ)
+      (f : Format) (a : Request) (t : ℕ)
       → t < streams (shapeOf f)
       → (wordOf f a 1930 t ≡ crccWords (register f a t) .crcc0) × (wordOf f a 1931 t ≡ crccWords (register f a t) .crcc1)
   pub registerRunsOn :
-      (f : Format) (a : Asked) (t : ℕ) → register f a t ≡ crc (crc 0 (picture f a t)) (eav a ++ lineNumber a)
+      (f : Format) (a : Request) (t : ℕ) → register f a t ≡ crc (crc 0 (picture f a t)) (eav a ++ lineNumber a)
   -- the ancillary area, blanking throughout (6.8), and behind all streams the fill (7.1)
   pub ancillaryBlank :
-      (f : Format) (a : Asked) (t : ℕ)
+      (f : Format) (a : Request) (t : ℕ)
       → t < streams (shapeOf f)
       → (i : ℕ)
       → i < shapeOf f .ancillary
       → wordOf f a (1932 + i) t ≡ blankWord f
   pub fillWords :
-      (f : Format) (a : Asked) (i : ℕ)
+      (f : Format) (a : Request) (i : ℕ)
       → i < 2 * shapeOf f .fill
       → getD (spanWords f a) (streams (shapeOf f) * (1932 + shapeOf f .ancillary) + i) 0 ≡ 0x100
   -- the characters: K28.5 twice and two content bytes first, K29.7 twice and two content bytes at the EAV,
   pub savChars :
-      (f : Format) (a : Asked)
+      (f : Format) (a : Request)
       → (getD (spanChars f a) 0 0 ≡ numberOf «K28_5»)
       × (getD (spanChars f a) 1 0 ≡ numberOf «K28_5»)
       × (getD (spanChars f a) 2 0 ≡ contentOf f (a .content) .sav1)
       × (getD (spanChars f a) 3 0 ≡ contentOf f (a .content) .sav2)
   pub eavChars :
-      (f : Format) (a : Asked)
+      (f : Format) (a : Request)
       → IsFormat f
       → let k = eavAt (shapeOf f) in
       (getD (spanChars f a) k 0 ≡ numberOf «K29_7»)
@@ -145,7 +145,7 @@ pub record SpanLaws : Type 0 where
       × (getD (spanChars f a) (k + 3) 0 ≡ contentOf f (a .content) .eav2)
   -- and everywhere else byte i of the three that words 2q and 2q + 1 make
   pub byteChars :
-      (f : Format) (a : Asked)
+      (f : Format) (a : Request)
       → IsFormat f
       → (q i : ℕ)
       → q < pairsIn (shapeOf f)
@@ -153,16 +153,16 @@ pub record SpanLaws : Type 0 where
       → 4 ≤ 3 * q + i
       → (eavAt (shapeOf f) ≤ 3 * q + i → eavAt (shapeOf f) + 4 ≤ 3 * q + i)
       → getD (spanChars f a) (3 * q + i) 0
-      ≡ getD (listed (bytesOf (getD (spanWords f a) (2 * q) 0) (getD (spanWords f a) (2 * q + 1) 0))) i 0
+      ≡ getD (bytesListed (bytesOf (getD (spanWords f a) (2 * q) 0) (getD (spanWords f a) (2 * q + 1) 0))) i 0
   -- each symbol is that of its character, at the disparity that those before it leave
   pub symbolAt :
-      (f : Format) (a : Asked)
+      (f : Format) (a : Request)
       → IsFormat f
       → (d : Disparity) (i : ℕ)
       → i < symbolsIn (shapeOf f)
       → getD (spanSymbols d f a) i 0 ≡ symbolOf (afterRun d (take i (spanChars f a))) (getD (spanChars f a) i 0)
   -- a fresh signal is its spans' characters as one run from negative disparity (004, 7.1.1 and 7.1.2)
-  pub signalIs : (f : Format) (spans : List Asked) → signal f spans ≡ symbolsFrom Negative (allChars f spans)
+  pub signalIs : (f : Format) (spans : List Request) → signal f spans ≡ symbolsFrom Negative (allChars f spans)
   -- the bounds and the factor that the code goes by say the same as the rule of each sample
   pub boundsAgree :
       (f : Format)
@@ -176,4 +176,4 @@ pub record SpanLaws : Type 0 where
       → allowed f n t x ≡ true
       → sampleWord f n t x ≡ x * boundsOf f n .factor
   -- the paper's number and values tell any two answers apart, so that a promise about them fixes the answer
-  pub lengthsTold : OneToOne paperLengths
+  pub lengthsTold : Injective paperLengths

@@ -4,7 +4,7 @@ use Prim.Native.Nat.{ℕ}
 use mathlib.Core.Bool.{Bool, cond}
 use lib.Dec.{eqb}
 use Rattle.line.specs.Stream.{isActive}
-use Rattle.packing.specs.Sample.{allowed as allowedAt, sampleWord as wordAt}
+use Rattle.packing.specs.Sample.{allowedAtDepth as allowedAt, wordAtDepth as wordAt}
 use Rattle.span.specs.declared.format.Format.{Format}
 
 -- 6.8: the blanking word of a link's streams, which all carry one component

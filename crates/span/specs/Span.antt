@@ -16,7 +16,7 @@ use Rattle.span.specs.declared.format.Format.{Format}
 use Rattle.span.specs.Content.{contentOf}
 use Rattle.span.specs.Encoding.{symbolsFrom, afterRun}
 use Rattle.span.specs.Format.{shapeOf, streams}
-use Rattle.span.specs.Stream.{Asked, fromSav, fromEav}
+use Rattle.span.specs.Stream.{Request, fromSav, fromEav}
 
 -- word j of each of s streams, stream 1 first
 abbrev pub across : ℕ → (ℕ → List ℕ) → ℕ → List ℕ
@@ -31,55 +31,55 @@ abbrev pub fillWord : ℕ
 fillWord = 0x100
 
 -- the interleaved words from the SAV on: SAV and picture of all streams
-unfoldable pub wordsFromSav : Format → Asked → List ℕ
+unfoldable pub wordsFromSav : Format → Request → List ℕ
 wordsFromSav f a = interleaved (streams (shapeOf f)) (4 + 1920) (fromSav f a)
 
 -- those from the EAV on: EAV, line number, CRCC and ancillary area of all streams, and the fill behind them
-unfoldable pub wordsFromEav : Format → Asked → List ℕ
+unfoldable pub wordsFromEav : Format → Request → List ℕ
 wordsFromEav f a =
     interleaved (streams (shapeOf f)) (4 + 2 + 2 + shapeOf f .ancillary) (fromEav f a)
     ++ replicate (2 * shapeOf f .fill) fillWord
 
-unfoldable pub spanWords : Format → Asked → List ℕ
+unfoldable pub spanWords : Format → Request → List ℕ
 spanWords f a = wordsFromSav f a ++ wordsFromEav f a
 
 -- 7.1, figure 13: two words give three bytes
-abbrev pub listed : ThreeBytes → List ℕ
-listed t = t .first ∷ t .second ∷ t .third ∷ []
+abbrev pub bytesListed : ThreeBytes → List ℕ
+bytesListed t = t .first ∷ t .second ∷ t .third ∷ []
 
 unfoldable pub bytes : List ℕ → List ℕ
 bytes [] = []
 bytes (a ∷ []) = []
-bytes (a ∷ b ∷ words) = listed (bytesOf a b) ++ bytes words
+bytes (a ∷ b ∷ words) = bytesListed (bytesOf a b) ++ bytes words
 
 -- 7.1, figures 14 and 16: of the first four bytes of an interleaved timing code two become a special character and two content bytes
 abbrev pub synchronised : Special → ℕ → ℕ → List ℕ → List ℕ
 synchronised k content1 content2 code = numberOf k ∷ numberOf k ∷ content1 ∷ content2 ∷ drop 4 code
 
-unfoldable pub charsFromSav : Format → Asked → List ℕ
+unfoldable pub charsFromSav : Format → Request → List ℕ
 charsFromSav f a =
     let c = contentOf f (a .content) in synchronised «K28_5» (c .sav1) (c .sav2) (bytes (wordsFromSav f a))
 
-unfoldable pub charsFromEav : Format → Asked → List ℕ
+unfoldable pub charsFromEav : Format → Request → List ℕ
 charsFromEav f a =
     let c = contentOf f (a .content) in synchronised «K29_7» (c .eav1) (c .eav2) (bytes (wordsFromEav f a))
 
 -- the characters of a span
-unfoldable pub spanChars : Format → Asked → List ℕ
+unfoldable pub spanChars : Format → Request → List ℕ
 spanChars f a = charsFromSav f a ++ charsFromEav f a
 
 -- its symbols, where the disparity before it is d, and the disparity after it
-unfoldable pub spanSymbols : Disparity → Format → Asked → List ℕ
+unfoldable pub spanSymbols : Disparity → Format → Request → List ℕ
 spanSymbols d f a = symbolsFrom d (spanChars f a)
 
-unfoldable pub spanAfter : Disparity → Format → Asked → Disparity
+unfoldable pub spanAfter : Disparity → Format → Request → Disparity
 spanAfter d f a = afterRun d (spanChars f a)
 
 -- spans one after the other, the disparity handed on
-unfoldable pub signalFrom : Disparity → Format → List Asked → List ℕ
+unfoldable pub signalFrom : Disparity → Format → List Request → List ℕ
 signalFrom d f [] = []
 signalFrom d f (a ∷ more) = spanSymbols d f a ++ signalFrom (spanAfter d f a) f more
 
 -- a fresh signal
-unfoldable pub signal : Format → List Asked → List ℕ
+unfoldable pub signal : Format → List Request → List ℕ
 signal f spans = signalFrom fresh f spans

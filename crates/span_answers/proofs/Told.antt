@@ -2,7 +2,7 @@
 -- Assumes nothing.
 use mathlib.Core.Path.{_≡_, refl, ap}
 use Rattle.ground.specs.Answer.{Answer, given}
-use Rattle.ground.specs.Inside.Answer.{OneToOne}
+use Rattle.ground.specs.Inside.Answer.{Injective}
 use Rattle.symbol.specs.declared.disparity.Disparity.{Disparity}
 use Rattle.span.specs.declared.length.SpanLengths.{SpanLengths}
 use Rattle.span.specs.declared.length.Lengths.{Lengths}
@@ -29,7 +29,7 @@ use Rattle.boundary.proofs.Told.{through, answerBy, disparity-told}
 lengthsBack : LengthsAnswer → Answer SpanLengths
 lengthsBack l = answerBy (l .number) 0 (record { samples = l .samples; symbols = l .symbols })
 
-pub lengths-told : OneToOne (λ (r : Lengths). lengthsAnswerOf (paperLengths r))
+pub lengths-told : Injective (λ (r : Lengths). lengthsAnswerOf (paperLengths r))
 unfolding lengthsBack
 lengths-told = through lengthsAnswerOf lengthsBack back lengths-one-to-one
   where
@@ -40,7 +40,7 @@ lengths-told = through lengthsAnswerOf lengthsBack back lengths-one-to-one
 sendBack : SendAnswer → Answer Disparity
 sendBack s = answerBy (s .number) (s .place) (disparityFrom (s .«positive_after»))
 
-pub send-told : OneToOne (λ (r : Sent). sendAnswerOf (paperSent r))
+pub send-told : Injective (λ (r : Sent). sendAnswerOf (paperSent r))
 unfolding sendBack
 send-told = through sendAnswerOf sendBack back sent-one-to-one
   where
@@ -69,7 +69,7 @@ values-back d = rw (disparity-told (d .before), disparity-told (d .after))
 readBack : ReadAnswer → Answer Delivery
 readBack r = answerBy (r .number) (r .place) (valuesBack (r .delivery))
 
-pub read-told : OneToOne (λ (r : Read). readAnswerOf (paperRead r))
+pub read-told : Injective (λ (r : Read). readAnswerOf (paperRead r))
 unfolding readBack
 read-told = through readAnswerOf readBack back read-one-to-one
   where

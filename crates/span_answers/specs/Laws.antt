@@ -1,7 +1,7 @@
 -- What holds of the answers of the calls on spans to C: no two answers of the library cross as the same, so the number and the fields fix what
 -- was answered. `proofs/Laws` proves each.
 -- Assumes nothing.
-use Rattle.ground.specs.Inside.Answer.{OneToOne}
+use Rattle.ground.specs.Inside.Answer.{Injective}
 use Rattle.span.specs.declared.length.Lengths.{Lengths}
 use Rattle.span.specs.Length.{paperLengths}
 use Rattle.send.specs.declared.send.Sent.{Sent}
@@ -12,8 +12,8 @@ use Rattle.span_answers.specs.Spans.{lengthsAnswerOf, sendAnswerOf, read
 
 pub record SpanAnswersLaws : Type 0 where
   -- the lengths of a format
-  pub lengthsTold : OneToOne (λ (r : Lengths). lengthsAnswerOf (paperLengths r))
+  pub lengthsTold : Injective (λ (r : Lengths). lengthsAnswerOf (paperLengths r))
   -- sending a span
-  pub sendTold : OneToOne (λ (r : Sent). sendAnswerOf (paperSent r))
+  pub sendTold : Injective (λ (r : Sent). sendAnswerOf (paperSent r))
   -- reading a span, and judging one
-  pub readTold : OneToOne (λ (r : Read). readAnswerOf (paperRead r))
+  pub readTold : Injective (λ (r : Read). readAnswerOf (paperRead r))

@@ -10,7 +10,7 @@ use Rattle.span_answers.specs.declared.spans.Values.{Values}
 use Rattle.span_answers.specs.declared.spans.LengthsAnswer.{LengthsAnswer}
 use Rattle.span_answers.specs.declared.spans.SendAnswer.{SendAnswer}
 use Rattle.span_answers.specs.declared.spans.ReadAnswer.{ReadAnswer}
-use Rattle.boundary.specs.Numbers.{isPositive}
+use Rattle.symbol.specs.Disparity.{isPositive}
 
 -- what a span says of itself
 abbrev pub valuesOf : Delivery → Values

@@ -19,7 +19,7 @@ use Rattle.recording.specs.Recording.{limit, Reading, reading, nextFrom, delive
 use Rattle.recording.proofs.Calling.{next-given}
 use Rattle.recording.proofs.Readings.{span-whole}
 use Rattle.stepping.specs.declared.reader.Reader.{Reader}
-use Rattle.stepping.specs.Steps.{answerOf, movedOf, rowsOf, Step, runFrom, spanStep, endStep, lastRows}
+use Rattle.stepping.specs.Steps.{answerOf, movedOf, rowsAfterStep, Step, runFrom, spanStep, endStep, lastRows}
 use Rattle.recording.proofs.Nexts.{next-is}
 use Rattle.stepping.specs.Inside.Steps.{runOf}
 
@@ -30,7 +30,7 @@ module _ (f : Format) where
   module _ (r : Reader) (rows : List ℕ) where
     -- a run of a reader's steps: one, and then those of the reader that it left
     pub step-by-step : (k : ℕ)
-        → runOf (suc k) f r rows ≡ record { answer = answerOf f r rows; rows = rowsOf f r rows } ∷ runOf k f (movedOf f r rows) (rowsOf f r rows)
+        → runOf (suc k) f r rows ≡ record { answer = answerOf f r rows; rows = rowsAfterStep f r rows } ∷ runOf k f (movedOf f r rows) (rowsAfterStep f r rows)
     unfolding runFrom
     step-by-step k = refl
 

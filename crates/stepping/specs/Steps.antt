@@ -20,8 +20,8 @@ answerOf f r rows = nextOf f (now (r .symbols)) (r .place) (length rows)
 abbrev pub movedOf : Format → Reader → List ℕ → Reader
 movedOf f r rows = record { symbols = r .symbols; place = afterNext f (now (r .symbols)) (r .place) (length rows) }
 
-abbrev pub rowsOf : Format → Reader → List ℕ → List ℕ
-rowsOf f r rows = rowsNext f (now (r .symbols)) (r .place) rows
+abbrev pub rowsAfterStep : Format → Reader → List ℕ → List ℕ
+rowsAfterStep f r rows = rowsNext f (now (r .symbols)) (r .place) rows
 
 -- ---- a run of steps, with the same rows lent again and again
 pub record Step : Type 0 where

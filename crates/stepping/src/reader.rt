@@ -4,7 +4,7 @@ use recording::next::NextSpan;
 use span::format::Format;
 ghost use mathlib.Core.Path.{_≡_};
 ghost use Rattle.recording.specs.Call.{paperNext};
-ghost use Rattle.stepping.specs.Steps.{answerOf, movedOf, rowsOf};
+ghost use Rattle.stepping.specs.Steps.{answerOf, movedOf, rowsAfterStep};
 
 // The recording, and the place from which the next step searches.
 pub struct Reader<'a> {
@@ -31,7 +31,7 @@ pub fn place<'a>(r: Reader<'a>) -> usize
 pub fn step<'s, 'a, 'r>(r: &'s mut Reader<'a>, f: Format, rows: &'r mut [u16]) -> NextSpan
     ensures answer { λ a. ⌜ paperNext a ≡ answerOf f (now (r .entry)) (now (rows .entry)) ⌝ }
     ensures moved { λ _. ⌜ now (r .exit) ≡ movedOf f (now (r .entry)) (now (rows .entry)) ⌝ }
-    ensures rows { λ _. ⌜ now (rows .exit) ≡ rowsOf f (now (r .entry)) (now (rows .entry)) ⌝ }
+    ensures rows { λ _. ⌜ now (rows .exit) ≡ rowsAfterStep f (now (r .entry)) (now (rows .entry)) ⌝ }
 {
     let next = recording::next::next_span(f, r.symbols, r.place, rows);
     r.place = next.after;

@@ -10,7 +10,7 @@ use Rattle.ground.proofs.Tests.{at-number}
 use Rattle.symbol.specs.declared.disparity.Disparity.{Disparity}
 use Rattle.symbol.specs.declared.disparity.Disparity.the-variants.{Negative, Positive}
 use Rattle.symbol.specs.Character.{characters}
-use Rattle.symbol.specs.Inside.Code.{bit}
+use Rattle.ground.specs.Bit.{bit}
 
 pub at-character : (f : Disparity → ℕ → Bool) → everyBelow characters (f Negative) ≡ true → everyBelow characters (f Positive) ≡ true
     → (d : Disparity) (c : ℕ) → c < characters → f d c ≡ true

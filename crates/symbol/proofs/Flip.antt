@@ -7,32 +7,32 @@ use mathlib.Core.Option.{Option, none, some}
 use Prim.Native.Nat.{ℕ, _+_, _%_, _<_}
 use native.Mathlib.Omega.{arith}
 use lib.Count.{onesIn}
-use Rattle.ground.specs.Bit.{inverted}
+use Rattle.ground.specs.Bit.{inverted, bit}
 use Rattle.ground.proofs.Bits.{inverted-ones}
 use Rattle.symbol.specs.declared.disparity.Disparity.{Disparity}
 use Rattle.symbol.specs.declared.disparity.Disparity.the-variants.{Negative, Positive}
 use Rattle.symbol.specs.Character.{characters}
 use Rattle.symbol.specs.Code.{symbolOf, charOf, afterOf}
-use Rattle.symbol.specs.Inside.Code.{turns, bit}
-use Rattle.symbol.specs.Inside.Disparity.{opposed, turnedIf}
+use Rattle.symbol.specs.Inside.Code.{flips}
+use Rattle.symbol.specs.Inside.Disparity.{opposite, flippedIf}
 use Rattle.symbol.proofs.Inverse.{encode-decode, decoded-below}
 use Rattle.symbol.proofs.Ones.{onesBetween, ones-by, turns-both}
 
--- a symbol has an odd count of ones where its character keeps the disparity, and an even one where it turns it, at both disparities
-parity : (d : Disparity) (c : ℕ) → c < characters → onesIn 10 (symbolOf d c) % 2 ≡ bit (not (turns c))
-parity d c h = ap (λ (n : ℕ). n % 2) (ones-by d c h) ∙ odd d (turns c)
+-- a symbol has an odd count of ones where its character keeps the disparity, and an even one where it flips it, at both disparities
+parity : (d : Disparity) (c : ℕ) → c < characters → onesIn 10 (symbolOf d c) % 2 ≡ bit (not (flips c))
+parity d c h = ap (λ (n : ℕ). n % 2) (ones-by d c h) ∙ odd d (flips c)
   where
-    odd : (d : Disparity) (t : Bool) → onesBetween d (turnedIf t d) % 2 ≡ bit (not t)
+    odd : (d : Disparity) (t : Bool) → onesBetween d (flippedIf t d) % 2 ≡ bit (not t)
     odd Negative true = refl
     odd Negative false = refl
     odd Positive true = refl
     odd Positive false = refl
 
--- so of two symbols that differ in one bit exactly one turns it, at whatever disparities they stand
+-- so of two symbols that differ in one bit exactly one flips it, at whatever disparities they stand
 one-of-two-turns : (d e : Disparity) (b c k : ℕ) → b < characters → c < characters → k < 10
-    → symbolOf e b ≡ inverted k (symbolOf d c) → turns b ≡ not (turns c)
+    → symbolOf e b ≡ inverted k (symbolOf d c) → flips b ≡ not (flips c)
 one-of-two-turns d e b c k p q h same =
-    other (turns b) (turns c) (onesIn 10 (symbolOf d c)) (parity d c q)
+    other (flips b) (flips c) (onesIn 10 (symbolOf d c)) (parity d c q)
     (sym (parity e b p) ∙ ap (λ (s : ℕ). onesIn 10 s % 2) same ∙ inverted-ones 10 k (symbolOf d c) h)
   where
     other : (s t : Bool) (n : ℕ) → n % 2 ≡ bit (not t) → bit (not s) ≡ (1 + n) % 2 → s ≡ not t
@@ -43,16 +43,16 @@ one-of-two-turns d e b c k p q h same =
 
 -- what the flip law says of a symbol s at disparity d, where a true symbol leaves disparity e
 abbrev pub Caught : Disparity → Disparity → ℕ → Type 0
-Caught d e s = (charOf d s ≡ none) ⊎ ((b : ℕ) × (charOf d s ≡ some b) × (afterOf d b ≡ opposed e))
+Caught d e s = (charOf d s ≡ none) ⊎ ((b : ℕ) × (charOf d s ≡ some b) × (afterOf d b ≡ opposite e))
 
 -- The flip law: a character's symbol with one bit inverted is illegal, or legal and leaves the opposite disparity.
 pub flip : (d : Disparity) (c k : ℕ) → c < characters → k < 10 → Caught d (afterOf d c) (inverted k (symbolOf d c))
 flip d c k h l = go (charOf d (inverted k (symbolOf d c))) refl
   where
-    opposite : (t : Bool) (d : Disparity) → turnedIf (not t) d ≡ opposed (turnedIf t d)
-    opposite true Negative = refl
-    opposite true Positive = refl
-    opposite false d = refl
+    not-flipped : (t : Bool) (d : Disparity) → flippedIf (not t) d ≡ opposite (flippedIf t d)
+    not-flipped true Negative = refl
+    not-flipped true Positive = refl
+    not-flipped false d = refl
 
     go : (o : Option ℕ) → charOf d (inverted k (symbolOf d c)) ≡ o → Caught d (afterOf d c) (inverted k (symbolOf d c))
     go none e = inl e
@@ -62,12 +62,12 @@ flip d c k h l = go (charOf d (inverted k (symbolOf d c))) refl
         inr (
           b,
           e,
-          turns-both d b p ∙ ap (λ (x : Bool). turnedIf x d) t ∙ opposite (turns c) d ∙ ap opposed (sym (turns-both d c h)),
+          turns-both d b p ∙ ap (λ (x : Bool). flippedIf x d) t ∙ not-flipped (flips c) d ∙ ap opposite (sym (turns-both d c h)),
         )
 
 -- Neither form of a character becomes a form of that character by one inverted bit: K28.5 and K29.7 above all.
 pub flip-no-form : (d e : Disparity) (c k : ℕ) → c < characters → k < 10 → inverted k (symbolOf d c) ≡ symbolOf e c → ⊥
-flip-no-form d e c k h l q = never (turns c) (one-of-two-turns d e c c k h h l (sym q))
+flip-no-form d e c k h l q = never (flips c) (one-of-two-turns d e c c k h h l (sym q))
   where
     never : (t : Bool) → t ≡ not t → ⊥
     never true x = true≢false x

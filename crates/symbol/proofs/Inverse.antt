@@ -12,7 +12,7 @@ use Rattle.symbol.specs.declared.disparity.Disparity.the-variants.{Negat
 use Rattle.symbol.specs.Character.{characters}
 use Rattle.symbol.specs.Code.{symbolOf, charOf}
 use Rattle.symbol.specs.Inside.Code.{TwoForms}
-use Rattle.symbol.specs.Inside.Disparity.{opposed}
+use Rattle.symbol.specs.Inside.Disparity.{opposite}
 use Rattle.symbol.proofs.Distinct.{one-character}
 
 -- Decode after encode is the character.
@@ -52,9 +52,9 @@ data-or-special d e b k h l m same = let q : b ≡ k = one-character d e b k (om
 
 -- Read at the opposite disparity, a symbol of a character with two forms is illegal.
 pub opposed-illegal : (d : Disparity) (c : ℕ) → c < characters → TwoForms c
-    → charOf (opposed d) (symbolOf d c) ≡ none
-opposed-illegal d c h two = illegal-is (opposed d) (symbolOf d c) (λ k l same. two (forms d (rw (one-character (opposed d) d k c l h same) at same)))
+    → charOf (opposite d) (symbolOf d c) ≡ none
+opposed-illegal d c h two = illegal-is (opposite d) (symbolOf d c) (λ k l same. two (forms d (rw (one-character (opposite d) d k c l h same) at same)))
   where
-    forms : (d : Disparity) → symbolOf (opposed d) c ≡ symbolOf d c → symbolOf Negative c ≡ symbolOf Positive c
+    forms : (d : Disparity) → symbolOf (opposite d) c ≡ symbolOf d c → symbolOf Negative c ≡ symbolOf Positive c
     forms Negative e = sym e
     forms Positive e = e

@@ -11,8 +11,8 @@ use Rattle.symbol.specs.declared.disparity.Disparity.{Disparity}
 use Rattle.symbol.specs.declared.disparity.Disparity.the-variants.{Negative, Positive}
 use Rattle.symbol.specs.Character.{characters}
 use Rattle.symbol.specs.Code.{symbolOf, afterOf}
-use Rattle.symbol.specs.Inside.Code.{turns}
-use Rattle.symbol.specs.Inside.Disparity.{turnedIf}
+use Rattle.symbol.specs.Inside.Code.{flips}
+use Rattle.symbol.specs.Inside.Disparity.{flippedIf}
 use Rattle.symbol.proofs.Characters.{at-character, same, same-is}
 
 -- A symbol has ten bits.
@@ -44,21 +44,21 @@ four-to-six d c h = rw (ones-of d c h) (bounds d (afterOf d c))
     bounds Positive Negative = omega arith
     bounds Positive Positive = omega arith
 
--- A character turns the disparity at both disparities or at neither.
-pub turns-both : (d : Disparity) (c : ℕ) → c < characters → afterOf d c ≡ turnedIf (turns c) d
-unfolding afterOf turns
+-- A character flips the disparity at both disparities or at neither.
+pub turns-both : (d : Disparity) (c : ℕ) → c < characters → afterOf d c ≡ flippedIf (flips c) d
+unfolding afterOf flips
 turns-both d c h =
-    same-is (afterOf d c) (turnedIf (turns c) d) (at-character (λ e k. same (afterOf e k) (turnedIf (turns k) e)) refl refl d c h)
+    same-is (afterOf d c) (flippedIf (flips c) d) (at-character (λ e k. same (afterOf e k) (flippedIf (flips k) e)) refl refl d c h)
 
--- So the ones of a symbol are told by the disparity before it and by whether its character turns it.
-pub ones-by : (d : Disparity) (c : ℕ) → c < characters → onesIn 10 (symbolOf d c) ≡ onesBetween d (turnedIf (turns c) d)
+-- So the ones of a symbol are told by the disparity before it and by whether its character flips it.
+pub ones-by : (d : Disparity) (c : ℕ) → c < characters → onesIn 10 (symbolOf d c) ≡ onesBetween d (flippedIf (flips c) d)
 ones-by d c h = ones-of d c h ∙ ap (onesBetween d) (turns-both d c h)
 
 -- A character whose two forms are the same leaves the disparity as it was.
 pub one-form-stays : (d : Disparity) (c : ℕ) → c < characters → symbolOf Negative c ≡ symbolOf Positive c → afterOf d c ≡ d
 one-form-stays d c h e =
-    turns-both d c h ∙ stays (turns c) (sym (ones-by Negative c h) ∙ ap (onesIn 10) e ∙ ones-by Positive c h) d
+    turns-both d c h ∙ stays (flips c) (sym (ones-by Negative c h) ∙ ap (onesIn 10) e ∙ ones-by Positive c h) d
   where
-    stays : (t : Bool) → onesBetween Negative (turnedIf t Negative) ≡ onesBetween Positive (turnedIf t Positive) → (d : Disparity) → turnedIf t d ≡ d
+    stays : (t : Bool) → onesBetween Negative (flippedIf t Negative) ≡ onesBetween Positive (flippedIf t Positive) → (d : Disparity) → flippedIf t d ≡ d
     stays true q d = absurd (omega arith)
     stays false q d = refl

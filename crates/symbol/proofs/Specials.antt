@@ -3,7 +3,7 @@
 use mathlib.Core.Path.{_≡_, refl}
 use Prim.Native.Nat.{_-_, _≤_, _<_}
 use lib.Dec.{lit≤, lit<}
-use Rattle.ground.specs.Inside.Answer.{OneToOne}
+use Rattle.ground.specs.Inside.Answer.{Injective}
 use Rattle.ground.proofs.Answers.{told-again}
 use Rattle.symbol.specs.declared.special.Special.{Special}
 use Rattle.symbol.specs.declared.special.Special.the-variants.{«K28_0», «K28_1», «K28_2», «K28_3», «K28_4», «K28_5», «K28_6», «K28_7», «K23_7», «K27_7», «K29_7», «K30_7»}
@@ -30,5 +30,5 @@ known «K29_7» = record { low = lit≤ tt; high = lit< tt; again = refl }
 known «K30_7» = record { low = lit≤ tt; high = lit< tt; again = refl }
 
 -- The numbers tell the special characters apart.
-pub number-one-to-one : OneToOne numberOf
+pub number-one-to-one : Injective numberOf
 number-one-to-one = told-again (λ n. nth (n - 256)) (λ k. known k .again)

@@ -39,13 +39,13 @@ unfoldable pub yOf : ℕ → ℕ
 yOf c = cond (isSpecial c) (getD (0 ∷ 1 ∷ 2 ∷ 3 ∷ 4 ∷ 5 ∷ 6 ∷ 7 ∷ 7 ∷ 7 ∷ 7 ∷ 7 ∷ []) (c - 256) 0) (c / 32)
 
 -- the special characters in the order of their numbers
-abbrev pub names : List Special
-names =
+abbrev pub specialNames : List Special
+specialNames =
     «K28_0» ∷ «K28_1» ∷ «K28_2» ∷ «K28_3» ∷ «K28_4» ∷ «K28_5» ∷ «K28_6» ∷ «K28_7» ∷ «K23_7» ∷ «K27_7» ∷ «K29_7» ∷ «K30_7» ∷ []
 
 -- the special character with number 256 + n; the first where there is none
 unfoldable pub nth : ℕ → Special
-nth n = getD names n «K28_0»
+nth n = getD specialNames n «K28_0»
 
 -- a character by what the paper calls it: a byte, or a special character by name
 pub data Character : Type 0 where

@@ -41,14 +41,14 @@ unfolding betweenOf fourOf onesIn
 afterOf d c = afterBlock 4 (betweenOf d c) (fourOf (betweenOf d c) c)
 
 -- n bits the other way round
-unfoldable pub turned : ℕ → ℕ → ℕ
-turned zero b = 0
-turned (suc n) b = b % 2 * 2 ^ n + turned n (b / 2)
+unfoldable pub reversed : ℕ → ℕ → ℕ
+reversed zero b = 0
+reversed (suc n) b = b % 2 * 2 ^ n + reversed n (b / 2)
 
 -- the symbol of character c, where the disparity before it is d: abcdeifghj, with a lowest
 unfoldable pub symbolOf : Disparity → ℕ → ℕ
-unfolding turned sixOf fourOf betweenOf
-symbolOf d c = turned 10 (sixOf d c * 2 ^ 4 + fourOf (betweenOf d c) c)
+unfolding reversed sixOf fourOf betweenOf
+symbolOf d c = reversed 10 (sixOf d c * 2 ^ 4 + fourOf (betweenOf d c) c)
 
 -- the character whose symbol is s, where the disparity before it is d, if there is one
 unfoldable pub charOf : Disparity → ℕ → Option ℕ

@@ -1,7 +1,7 @@
 -- The running disparity (ANSI INCITS 230, the 8B/10B code; the same in IEEE 802.3, 36.2.4.4).
 -- Assumes nothing.
 use Prim.Native.Nat.{ℕ, _*_}
-use mathlib.Core.Bool.{cond}
+use mathlib.Core.Bool.{Bool, true, false, cond}
 use lib.Dec.{ltb}
 use lib.Count.{onesIn}
 use Rattle.symbol.specs.declared.disparity.Disparity.{Disparity}
@@ -16,3 +16,8 @@ abbrev pub afterBlock : ℕ → Disparity → ℕ → Disparity
 afterBlock bits d block =
     cond (ltb bits (2 * onesIn bits block)) Positive
     (cond (ltb (2 * onesIn bits block) bits) Negative d)
+
+-- whether it is the positive one
+abbrev pub isPositive : Disparity → Bool
+isPositive Negative = false
+isPositive Positive = true

@@ -6,13 +6,13 @@ use mathlib.Core.Logic.{_⊎_}
 use mathlib.Core.Option.{none, some}
 use lib.Count.{onesIn}
 use Rattle.ground.specs.Bit.{inverted}
-use Rattle.ground.specs.Inside.Answer.{OneToOne}
+use Rattle.ground.specs.Inside.Answer.{Injective}
 use Rattle.symbol.specs.declared.disparity.Disparity.{Disparity}
 use Rattle.symbol.specs.declared.special.Special.{Special}
 use Rattle.symbol.specs.Character.{numberOf, nth}
 use Rattle.symbol.specs.Code.{symbolOf, afterOf, charOf}
-use Rattle.symbol.specs.Inside.Code.{turns, TwoForms}
-use Rattle.symbol.specs.Inside.Disparity.{opposed, turnedIf}
+use Rattle.symbol.specs.Inside.Code.{flips, TwoForms}
+use Rattle.symbol.specs.Inside.Disparity.{opposite, flippedIf}
 
 pub record SymbolLaws : Type 0 where
   -- decoding a character's symbol gives the character, and encoding what was decoded gives the symbol (004, 7.1.1 and 7.1.2)
@@ -27,19 +27,19 @@ pub record SymbolLaws : Type 0 where
   -- a symbol has ten bits, and four to six of them are ones
   pub tenBits : (d : Disparity) (c : ℕ) → c < 268 → symbolOf d c < 1024
   pub fourToSix : (d : Disparity) (c : ℕ) → c < 268 → (4 ≤ onesIn 10 (symbolOf d c)) × (onesIn 10 (symbolOf d c) ≤ 6)
-  -- a character turns the disparity at both disparities or at neither
-  pub turnsBoth : (d : Disparity) (c : ℕ) → c < 268 → afterOf d c ≡ turnedIf (turns c) d
+  -- a character flips the disparity at both disparities or at neither
+  pub turnsBoth : (d : Disparity) (c : ℕ) → c < 268 → afterOf d c ≡ flippedIf (flips c) d
   -- read at the opposite disparity, a symbol of a character with two forms is illegal
-  pub opposedIllegal : (d : Disparity) (c : ℕ) → c < 268 → TwoForms c → charOf (opposed d) (symbolOf d c) ≡ none
+  pub opposedIllegal : (d : Disparity) (c : ℕ) → c < 268 → TwoForms c → charOf (opposite d) (symbolOf d c) ≡ none
   -- a character's symbol with one bit inverted is illegal, or is another's and leaves the opposite disparity
   pub flip :
       (d : Disparity) (c k : ℕ)
       → c < 268
       → k < 10
       → let s = inverted k (symbolOf d c) in
-      (charOf d s ≡ none) ⊎ ((b : ℕ) × (charOf d s ≡ some b) × (afterOf d b ≡ opposed (afterOf d c)))
+      (charOf d s ≡ none) ⊎ ((b : ℕ) × (charOf d s ≡ some b) × (afterOf d b ≡ opposite (afterOf d c)))
   -- and it is no form of that character itself
   pub flipNoForm : (d e : Disparity) (c k : ℕ) → c < 268 → k < 10 → inverted k (symbolOf d c) ≡ symbolOf e c → ⊥
   -- the twelve special characters have the numbers 256 to 267, each its own
   pub specialNumbers : (k : Special) → (256 ≤ numberOf k) × (numberOf k < 268) × (nth (numberOf k - 256) ≡ k)
-  pub specialTold : OneToOne numberOf
+  pub specialTold : Injective numberOf

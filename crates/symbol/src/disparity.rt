@@ -1,6 +1,6 @@
 ghost use mathlib.Core.Path.{_≡_};
 ghost use Rattle.symbol.specs.Disparity.{fresh};
-ghost use Rattle.symbol.specs.Inside.Disparity.{turnedIf};
+ghost use Rattle.symbol.specs.Inside.Disparity.{flippedIf};
 
 // The running disparity has two values, and no call can be given a third.
 pub enum Disparity {
@@ -17,7 +17,7 @@ pub fn before_fresh_signal() -> Disparity
 
 // The opposite of d where it turns, else d.
 pub fn turned_if(turns: bool, d: Disparity) -> Disparity
-    ensures { λ r. ⌜ r ≡ turnedIf turns d ⌝ }
+    ensures { λ r. ⌜ r ≡ flippedIf turns d ⌝ }
 {
     if turns {
         return match d {

@@ -24,7 +24,7 @@ use Rattle.dividing.proofs.Rows.{length-divided, sample-divided}
 use Rattle.span.specs.declared.format.Format.{Format}
 use Rattle.span.specs.Format.{shapeOf, streams, samplesIn}
 use Rattle.span.specs.Image.{imageOf}
-use Rattle.test_picture.specs.TestPicture.{stepOf, sampleBy, rowBy, rowAt, imageRow, testSamples}
+use Rattle.test_picture.specs.TestPicture.{codeStep, sampleBy, rowInSteps, rowAt, imageRow, testSamples}
 
 -- a row divided by the library's call, and its two parts put one behind the other
 module _ (whole first second : List ℕ) {row even odd : List ℕ} (is : row ≡ whole) (long : length whole ≡ 3840) (p : length first ≡ 1920)
@@ -48,11 +48,11 @@ module _ (whole first second : List ℕ) {row even odd : List ℕ} (is : row ≡
 
 -- what stream t carries of line l of the basic images: the even samples of a row, or the odd ones
 abbrev pub carried : ℕ → ℕ → ℕ → List ℕ
-carried step l t = divided (t % 2) 1920 (rowBy step (2 * l - 1 + t / 2))
+carried step l t = divided (t % 2) 1920 (rowInSteps step (2 * l - 1 + t / 2))
 
 module _ (step l : ℕ) where
   sized : (t : ℕ) → length (carried step l t) ≡ 1920
-  sized t = length-divided (rowBy step (2 * l - 1 + t / 2)) (t % 2) 1920
+  sized t = length-divided (rowInSteps step (2 * l - 1 + t / 2)) (t % 2) 1920
 
   pub none-carried : (o : List ℕ) → o ≡ sets o 0 (upto (2 * 0) (carried step l))
   unfolding upto
@@ -60,7 +60,7 @@ module _ (step l : ℕ) where
 
   -- the images of row i, on streams 2i and 2i + 1
   abbrev pub images : ℕ → List ℕ
-  images i = divided 0 1920 (rowBy step (2 * l - 1 + i)) ++ divided 1 1920 (rowBy step (2 * l - 1 + i))
+  images i = divided 0 1920 (rowInSteps step (2 * l - 1 + i)) ++ divided 1 1920 (rowInSteps step (2 * l - 1 + i))
 
   two-more : (i : ℕ) → upto (2 * i) (carried step l) ++ images i ≡ upto (2 * (i + 1)) (carried step l)
   unfolding upto
@@ -84,7 +84,7 @@ module _ (step l : ℕ) where
   all-carried o s e = sets-whole o (upto s (carried step l)) (length-upto 1920 (carried step l) sized s ∙ sym e)
 
 -- a step is one code or more, and an active line has a line of the basic images
-pub some-step : (f : Format) → 1 ≤ stepOf f
+pub some-step : (f : Format) → 1 ≤ codeStep f
 some-step f = on-test (eqb (f .depth) 10) (λ b. simp b (omega arith)) (λ b. simp b (omega arith))
 
 module _ (n : ℕ) (active : isActive n ≡ true) where
@@ -108,7 +108,7 @@ module _ (f : Format) (n : ℕ) where
   unfolding w
   side-is t = rw (image-is f t) (omega arith)
 
-  row-is : (t : ℕ) → imageRow f n t ≡ carried (stepOf f) (basicLineOf n) t
+  row-is : (t : ℕ) → imageRow f n t ≡ carried (codeStep f) (basicLineOf n) t
   row-is t = ap₂ (λ (c line : ℕ). divided c 1920 (rowAt f line)) (side-is t) (line-is t)
 
   module _ (active : isActive n ≡ true) where
@@ -116,7 +116,7 @@ module _ (f : Format) (n : ℕ) where
     unfolding testSamples
     samples-are = simp active
 
-    pub are-carried : upto (streams (shapeOf f)) (carried (stepOf f) (basicLineOf n)) ≡ testSamples f n
+    pub are-carried : upto (streams (shapeOf f)) (carried (codeStep f) (basicLineOf n)) ≡ testSamples f n
     are-carried = ap (upto (streams (shapeOf f))) (sym (fun-ext row-is)) ∙ sym samples-are
 
     long : (t : ℕ) → length (imageRow f n t) ≡ 1920
@@ -128,8 +128,8 @@ module _ (f : Format) (n : ℕ) where
     -- sample j of stream t is that of its image: document 01's line 2l - 1 + h, sample 2j + w
     pub sample-is :
         (t j : ℕ) → t < streams (shapeOf f) → j < 1920
-        → getD (testSamples f n) (1920 * t + j) 0 ≡ sampleBy (stepOf f) (lineFrom (imageOf f 1 t) (basicLineOf n)) (sampleFrom (imageOf f 1 t) j)
-    unfolding rowBy sampleFrom
+        → getD (testSamples f n) (1920 * t + j) 0 ≡ sampleBy (codeStep f) (lineFrom (imageOf f 1 t) (basicLineOf n)) (sampleFrom (imageOf f 1 t) j)
+    unfolding rowInSteps sampleFrom
     sample-is t j p q =
         let u = imageOf f 1 t in
         let line = lineFrom u (basicLineOf n) in
@@ -137,22 +137,22 @@ module _ (f : Format) (n : ℕ) where
         ap (λ (l : List ℕ). getD l (1920 * t + j) 0) samples-are
         ∙ getD-upto 1920 (imageRow f n) long (streams (shapeOf f)) t j 0 p q
         ∙ sample-divided (rowAt f line) (w u) 1920 j q
-        ∙ getD-table 3840 (sampleBy (stepOf f) line) (2 * j + w u) 0 inside
+        ∙ getD-table 3840 (sampleBy (codeStep f) line) (2 * j + w u) 0 inside
 
 -- line l of the basic images, on two streams: the images of picture line 2l - 1; on four: those of lines 2l - 1 and 2l
 module _ (f : Format) (l : ℕ) (p : 1 ≤ l) (q : l ≤ 1080) where
   abbrev of : ℕ → List ℕ
   of line = divided 0 1920 (rowAt f line) ++ divided 1 1920 (rowAt f line)
 
-  on-line : (half : ℕ) → shapeOf f .half ≡ half → testSamples f (l + 41) ≡ upto (2 * half) (carried (stepOf f) l)
+  on-line : (half : ℕ) → shapeOf f .half ≡ half → testSamples f (l + 41) ≡ upto (2 * half) (carried (codeStep f) l)
   on-line half e =
       let active : isActive (l + 41) ≡ true = is-within 42 1121 (l + 41) (omega arith) (omega arith) in
       let basic : basicLineOf (l + 41) ≡ l = simp active (omega arith) in
-      sym (are-carried f (l + 41) active) ∙ ap₂ (λ (h k : ℕ). upto (2 * h) (carried (stepOf f) k)) e basic
+      sym (are-carried f (l + 41) active) ∙ ap₂ (λ (h k : ℕ). upto (2 * h) (carried (codeStep f) k)) e basic
 
-  one-row : upto (2 * 1) (carried (stepOf f) l) ≡ of (2 * l - 1)
+  one-row : upto (2 * 1) (carried (codeStep f) l) ≡ of (2 * l - 1)
   unfolding upto
-  one-row = sym (two-more (stepOf f) l 0) ∙ ap of (add-zero (2 * l - 1))
+  one-row = sym (two-more (codeStep f) l 0) ∙ ap of (add-zero (2 * l - 1))
 
   pub on-two : shapeOf f .half ≡ 1 → testSamples f (l + 41) ≡ of (2 * l - 1)
   on-two e = on-line 1 e ∙ one-row
@@ -160,4 +160,4 @@ module _ (f : Format) (l : ℕ) (p : 1 ≤ l) (q : l ≤ 1080) where
   pub on-four : shapeOf f .half ≡ 2 → testSamples f (l + 41) ≡ of (2 * l - 1) ++ of (2 * l)
   on-four e =
       let even : 2 * l - 1 + 1 ≡ 2 * l = omega arith in
-      on-line 2 e ∙ sym (two-more (stepOf f) l 1) ∙ ap₂ (λ (a : List ℕ) (n : ℕ). a ++ of n) one-row even
+      on-line 2 e ∙ sym (two-more (codeStep f) l 1) ∙ ap₂ (λ (a : List ℕ) (n : ℕ). a ++ of n) one-row even

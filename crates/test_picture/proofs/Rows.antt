@@ -10,7 +10,7 @@ use borrow.Author.Tests.{eq-eqb, ne-eqb}
 use Rattle.ground.specs.Written.{upto, table}
 use Rattle.ground.proofs.Writing.{sets-whole, sets-upto, length-table, getD-table, table-same}
 use Rattle.span.specs.declared.format.Format.{Format}
-use Rattle.test_picture.specs.TestPicture.{testSample, testRow, stepOf, sampleBy, rowBy, rowAt}
+use Rattle.test_picture.specs.TestPicture.{testSample, testRow, codeStep, sampleBy, rowInSteps, rowAt}
 use Rattle.test_picture.proofs.Codes.{code-low, code-high}
 
 module _ (f : ℕ → ℕ) (l : List ℕ) where
@@ -25,25 +25,25 @@ module _ (f : ℕ → ℕ) (l : List ℕ) where
   pub all-put : (n : ℕ) → length l ≡ n → sets l 0 (table n f) ≡ table n f
   all-put n e = sets-whole l (table n f) (length-table n f ∙ sym e)
 
-pub length-row : (step line : ℕ) → length (rowBy step line) ≡ 3840
-unfolding rowBy
+pub length-row : (step line : ℕ) → length (rowInSteps step line) ≡ 3840
+unfolding rowInSteps
 length-row step line = length-table 3840 (sampleBy step line)
 
 -- a row in steps of one code is the row
-pub row-of-codes : (line : ℕ) → rowBy 1 line ≡ testRow line
-unfolding rowBy
+pub row-of-codes : (line : ℕ) → rowInSteps 1 line ≡ testRow line
+unfolding rowInSteps
 row-of-codes line = table-same 3840 (sampleBy 1 line) (testSample line) (λ i h. omega arith)
 
 -- the row of a format has samples that may be sent at its depth
 module _ (f : Format) (line i : ℕ) (h : i < 3840) where
-  at : getD (rowAt f line) i 0 ≡ sampleBy (stepOf f) line i
-  unfolding rowBy
-  at = getD-table 3840 (sampleBy (stepOf f) line) i 0 h
+  at : getD (rowAt f line) i 0 ≡ sampleBy (codeStep f) line i
+  unfolding rowInSteps
+  at = getD-table 3840 (sampleBy (codeStep f) line) i 0 h
 
-  step-ten : f .depth ≡ 10 → stepOf f ≡ 4
+  step-ten : f .depth ≡ 10 → codeStep f ≡ 4
   step-ten e = simp (eq-eqb (f .depth) 10 e) (omega arith)
 
-  step-twelve : f .depth ≡ 12 → stepOf f ≡ 1
+  step-twelve : f .depth ≡ 12 → codeStep f ≡ 1
   step-twelve e = let other : f .depth ≡ 10 → ⊥ = λ ten. omega arith in simp (ne-eqb (f .depth) 10 other) (omega arith)
 
   pub row-ten : f .depth ≡ 10 → (4 ≤ getD (rowAt f line) i 0) × (getD (rowAt f line) i 0 ≤ 1019)

@@ -21,12 +21,12 @@ use Rattle.span.specs.Format.{isKnown, shapeOf, samplesIn, symbolsIn}
 use Rattle.span.specs.Image.{imageOf}
 use Rattle.span.specs.Sample.{blankWord}
 use Rattle.span.specs.Span.{spanAfter}
-use Rattle.send.specs.Send.{asked, sendOf}
+use Rattle.send.specs.Send.{request, sendOf}
 use Rattle.send.proofs.Checking.{outside-never}
 use Rattle.send.proofs.Refusals.{sends}
 use Rattle.span.specs.Blanking.{blankRow}
 use Rattle.span.specs.Inside.Sample.{boundsOf}
-use Rattle.test_picture.specs.TestPicture.{stepOf, sampleBy, testSamples}
+use Rattle.test_picture.specs.TestPicture.{codeStep, sampleBy, testSamples}
 use Rattle.test_picture.proofs.Codes.{code-low, code-high}
 use Rattle.test_picture.proofs.Images.{picture-long, sample-is}
 
@@ -40,7 +40,7 @@ module _ (f : Format) (n : ℕ) where
   are-blanking t = simp t
 
   -- a code at the depth of the format
-  code-inside : isActive n ≡ true → (line sample : ℕ) → Inside (sampleBy (stepOf f) line sample)
+  code-inside : isActive n ≡ true → (line sample : ℕ) → Inside (sampleBy (codeStep f) line sample)
   code-inside active line sample =
       let low = code-low line sample in
       let high = code-high line sample in
@@ -75,7 +75,7 @@ module _ (f : Format) (n : ℕ) where
   pub is-sent :
       (d : Disparity) (content : Content)
       → isKnown f ≡ true → isLine n ≡ true
-      → sendOf d f (asked n content (testSamples f n)) (symbolsIn (shapeOf f)) ≡ given (spanAfter d f (asked n content (testSamples f n)))
+      → sendOf d f (request n content (testSamples f n)) (symbolsIn (shapeOf f)) ≡ given (spanAfter d f (request n content (testSamples f n)))
   is-sent d content known line =
-      sends d f (asked n content (testSamples f n)) (symbolsIn (shapeOf f)) known line samples-long refl (length (testSamples f n))
+      sends d f (request n content (testSamples f n)) (symbolsIn (shapeOf f)) known line samples-long refl (length (testSamples f n))
       (sym (outside-never _ _ _ each-inside)) (omega arith)

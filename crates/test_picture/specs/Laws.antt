@@ -6,7 +6,7 @@ use mathlib.Core.Bool.{true, false}
 use mathlib.Core.List.{List, _++_}
 use lib.ListN.{length, getD}
 use Rattle.ground.specs.Answer.{refused, given}
-use Rattle.ground.specs.Inside.Answer.{OneToOne}
+use Rattle.ground.specs.Inside.Answer.{Injective}
 use Rattle.line.specs.Picture.{basicLineOf}
 use Rattle.line.specs.Stream.{isLine, isActive}
 use Rattle.symbol.specs.declared.disparity.Disparity.{Disparity}
@@ -18,9 +18,9 @@ use Rattle.span.specs.Format.{isKnown, shapeOf, streams, samplesIn, symbolsIn}
 use Rattle.span.specs.Image.{imageOf}
 use Rattle.span.specs.Span.{spanAfter}
 use Rattle.span.specs.Blanking.{blankRow}
-use Rattle.send.specs.Send.{asked, sendOf}
-use Rattle.test_picture.specs.Putting.{paperPut, rowOf}
-use Rattle.test_picture.specs.TestPicture.{testSample, stepOf, sampleBy, rowAt, testSamples}
+use Rattle.send.specs.Send.{request, sendOf}
+use Rattle.test_picture.specs.Putting.{paperPut, rowAnswer}
+use Rattle.test_picture.specs.TestPicture.{testSample, codeStep, sampleBy, rowAt, testSamples}
 
 -- the two images of a picture line
 abbrev images : Format → ℕ → List ℕ
@@ -41,9 +41,9 @@ pub record TestPictureLaws : Type 0 where
   pub rowTwelve :
       (f : Format) (line i : ℕ) → i < 3840 → f .depth ≡ 12 → (16 ≤ getD (rowAt f line) i 0) × (getD (rowAt f line) i 0 ≤ 4079)
   -- a row of 3840 samples is put for lines 1 to 2160; another line meets 2, and another length 4
-  pub putsRow : (line : ℕ) (row : List ℕ) → 1 ≤ line → line ≤ 2160 → length row ≡ 3840 → rowOf line row ≡ given tt
-  pub rowMeets2 : (line : ℕ) (row : List ℕ) → (1 ≤ line → line ≤ 2160 → ⊥) → rowOf line row ≡ refused 2 0
-  pub rowMeets4 : (line : ℕ) (row : List ℕ) → 1 ≤ line → line ≤ 2160 → (length row ≡ 3840 → ⊥) → rowOf line row ≡ refused 4 0
+  pub putsRow : (line : ℕ) (row : List ℕ) → 1 ≤ line → line ≤ 2160 → length row ≡ 3840 → rowAnswer line row ≡ given tt
+  pub rowMeets2 : (line : ℕ) (row : List ℕ) → (1 ≤ line → line ≤ 2160 → ⊥) → rowAnswer line row ≡ refused 2 0
+  pub rowMeets4 : (line : ℕ) (row : List ℕ) → 1 ≤ line → line ≤ 2160 → (length row ≡ 3840 → ⊥) → rowAnswer line row ≡ refused 4 0
   -- on stream line l + 41 two streams carry the images of picture line 2l - 1, and four those of lines 2l - 1 and 2l
   pub onTwo :
       (f : Format) (l : ℕ) → 1 ≤ l → l ≤ 1080 → shapeOf f .half ≡ 1 → testSamples f (l + 41) ≡ images f (2 * l - 1)
@@ -61,7 +61,7 @@ pub record TestPictureLaws : Type 0 where
       → t < streams (shapeOf f)
       → j < 1920
       → getD (testSamples f n) (1920 * t + j) 0
-      ≡ sampleBy (stepOf f) (lineFrom (imageOf f 1 t) (basicLineOf n)) (sampleFrom (imageOf f 1 t) j)
+      ≡ sampleBy (codeStep f) (lineFrom (imageOf f 1 t) (basicLineOf n)) (sampleFrom (imageOf f 1 t) j)
   pub areBlanking : (f : Format) (n : ℕ) → isActive n ≡ false → testSamples f n ≡ blankRow f
   -- there are as many as a span has, and a call with them is refused nothing
   pub samplesLong : (f : Format) (n : ℕ) → length (testSamples f n) ≡ samplesIn (shapeOf f)
@@ -69,6 +69,6 @@ pub record TestPictureLaws : Type 0 where
       (f : Format) (n : ℕ) (d : Disparity) (content : Content)
       → isKnown f ≡ true
       → isLine n ≡ true
-      → sendOf d f (asked n content (testSamples f n)) (symbolsIn (shapeOf f)) ≡ given (spanAfter d f (asked n content (testSamples f n)))
+      → sendOf d f (request n content (testSamples f n)) (symbolsIn (shapeOf f)) ≡ given (spanAfter d f (request n content (testSamples f n)))
   -- the paper's number tells any two answers apart, so that a promise about it fixes the answer
-  pub putTold : OneToOne paperPut
+  pub putTold : Injective paperPut

@@ -22,16 +22,16 @@ paperPut NoLine = refused 2 0
 paperPut WrongOutput = refused 4 0
 
 -- a row of the picture: 2 where it has no such line, then 4 where the row has not 3840 samples
-abbrev pub rowOf : ℕ → List ℕ → Answer (Unit {0})
-rowOf line row = checked (unless 2 (isPictureLine line) ∷ unless 4 (isRow row) ∷ []) tt
+abbrev pub rowAnswer : ℕ → List ℕ → Answer (Unit {0})
+rowAnswer line row = checked (unless 2 (isPictureLine line) ∷ unless 4 (isRow row) ∷ []) tt
 
 abbrev pub rowPut : ℕ → List ℕ → List ℕ
-rowPut line row = unlessRefused (rowOf line row) row (testRow line)
+rowPut line row = unlessRefused (rowAnswer line row) row (testRow line)
 
 -- the samples of a stream line: 1 for an unknown format, 2 where there is no such line, then 4 where there are not the samples of a span
-abbrev pub samplesOf : Format → ℕ → List ℕ → Answer (Unit {0})
-samplesOf f n samples =
+abbrev pub samplesAnswer : Format → ℕ → List ℕ → Answer (Unit {0})
+samplesAnswer f n samples =
     checked (unless 1 (isKnown f) ∷ unless 2 (isLine n) ∷ unless 4 (eqb (length samples) (samplesIn (shapeOf f))) ∷ []) tt
 
 abbrev pub samplesPut : Format → ℕ → List ℕ → List ℕ
-samplesPut f n samples = unlessRefused (samplesOf f n samples) samples (testSamples f n)
+samplesPut f n samples = unlessRefused (samplesAnswer f n samples) samples (testSamples f n)

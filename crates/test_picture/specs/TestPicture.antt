@@ -32,18 +32,18 @@ testRow line = table 3840 (testSample line)
 
 -- at twelve bits a code is the sample; at ten its fourth part is, so that the word sent for it (004, 6.1: shifted left by two) is the code
 -- without its low two bits
-abbrev pub stepOf : Format → ℕ
-stepOf f = cond (eqb (f .depth) 10) 4 1
+abbrev pub codeStep : Format → ℕ
+codeStep f = cond (eqb (f .depth) 10) 4 1
 
 -- a sample in steps of so many codes, and the row of a line in those of a format
 abbrev pub sampleBy : ℕ → ℕ → ℕ → ℕ
 sampleBy step line sample = testSample line sample / step
 
-unfoldable pub rowBy : ℕ → ℕ → List ℕ
-rowBy step line = table 3840 (sampleBy step line)
+unfoldable pub rowInSteps : ℕ → ℕ → List ℕ
+rowInSteps step line = table 3840 (sampleBy step line)
 
 abbrev pub rowAt : Format → ℕ → List ℕ
-rowAt f line = rowBy (stepOf f) line
+rowAt f line = rowInSteps (codeStep f) line
 
 -- what stream t, counted from 0, carries of it on an active line n: its image's samples of the line that the image has there. The link is the
 -- one of the first images: 1 and 2, and with four streams 3 and 4.

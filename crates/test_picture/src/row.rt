@@ -4,8 +4,8 @@ use line::picture::PictureLine;
 ghost use mathlib.Core.Path.{_≡_};
 ghost use Prim.Native.Nat.{_≤_};
 ghost use lib.ListN.{length};
-ghost use Rattle.test_picture.specs.Putting.{paperPut, rowOf, rowPut};
-ghost use Rattle.test_picture.specs.TestPicture.{apart as distance, testSample, rowBy};
+ghost use Rattle.test_picture.specs.Putting.{paperPut, rowAnswer, rowPut};
+ghost use Rattle.test_picture.specs.TestPicture.{apart as distance, testSample, rowInSteps};
 
 fn apart(a: u64, b: u64) -> u64
     ensures { λ r. ⌜ r ≡ distance a b ⌝ }
@@ -26,7 +26,7 @@ fn sample_at(line: PictureLine, sample: u16) -> u16
 pub(crate) fn put_codes(line: PictureLine, step: u16, row: &mut [u16])
     requires { ⌜ 1 ≤ step ⌝ }
     requires { ⌜ length (now row) ≡ 3840 ⌝ }
-    ensures { λ _. ⌜ now (row .exit) ≡ rowBy step (line .0) ⌝ }
+    ensures { λ _. ⌜ now (row .exit) ≡ rowInSteps step (line .0) ⌝ }
 {
     let mut x = 0;
     while x < 3840 {
@@ -37,7 +37,7 @@ pub(crate) fn put_codes(line: PictureLine, step: u16, row: &mut [u16])
 
 // The row of a picture line, in twelve-bit codes.
 pub fn put_row(line: PictureLine, row: &mut [u16]) -> Put
-    ensures answer { λ r. ⌜ paperPut r ≡ rowOf (line .0) (now (row .entry)) ⌝ }
+    ensures answer { λ r. ⌜ paperPut r ≡ rowAnswer (line .0) (now (row .entry)) ⌝ }
     ensures row { λ _. ⌜ now (row .exit) ≡ rowPut (line .0) (now (row .entry)) ⌝ }
 {
     if ground::range::within(1, 2160, line::picture::number_of(line)) {

@@ -12,12 +12,12 @@ ghost use lib.Seq.{sets};
 ghost use Rattle.line.specs.Stream.{isActive};
 ghost use Rattle.dividing.specs.Row.{divided};
 ghost use Rattle.span.specs.Format.{isKnown, shapeOf, samplesIn};
-ghost use Rattle.test_picture.specs.Putting.{paperPut, samplesOf, samplesPut};
-ghost use Rattle.test_picture.specs.TestPicture.{stepOf, rowBy, testSamples};
+ghost use Rattle.test_picture.specs.Putting.{paperPut, samplesAnswer, samplesPut};
+ghost use Rattle.test_picture.specs.TestPicture.{codeStep, rowInSteps, testSamples};
 
 // How many twelve-bit codes are one at the depth of a format.
 fn step_of(f: Format) -> u16
-    ensures { λ r. ⌜ r ≡ stepOf f ⌝ }
+    ensures { λ r. ⌜ r ≡ codeStep f ⌝ }
 {
     if span::format::depth_of(f) == 10 {
         return 4;
@@ -50,7 +50,7 @@ fn put_images(
     requires { ⌜ length (now first) ≡ 1920 ⌝ }
     requires { ⌜ length (now second) ≡ 1920 ⌝ }
     requires { ⌜ at + 3840 ≤ length (now samples) ⌝ }
-    ensures { λ _. ⌜ now (samples .exit) ≡ sets (now (samples .entry)) at (divided 0 1920 (rowBy step (line .0)) ++ divided 1 1920 (rowBy step (line .0))) ⌝ }
+    ensures { λ _. ⌜ now (samples .exit) ≡ sets (now (samples .entry)) at (divided 0 1920 (rowInSteps step (line .0)) ++ divided 1 1920 (rowInSteps step (line .0))) ⌝ }
 {
     crate::row::put_codes(line, step, row);
     dividing::split::split(row, first, second);
@@ -103,7 +103,7 @@ fn put_line(f: Format, l: StreamLine, samples: &mut [u16])
 
 // The samples of a stream line, stream by stream.
 pub fn put_samples(f: Format, l: StreamLine, samples: &mut [u16]) -> Put
-    ensures answer { λ r. ⌜ paperPut r ≡ samplesOf f (l .0) (now (samples .entry)) ⌝ }
+    ensures answer { λ r. ⌜ paperPut r ≡ samplesAnswer f (l .0) (now (samples .entry)) ⌝ }
     ensures samples { λ _. ⌜ now (samples .exit) ≡ samplesPut f (l .0) (now (samples .entry)) ⌝ }
 {
     if !span::format::is_known(f) {

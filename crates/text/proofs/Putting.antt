@@ -9,7 +9,7 @@ use lib.ListN.{length, length-append}
 use lib.Seq.{sets, length-sets}
 use borrow.Author.Tests.{le-leb, lt-leb}
 use Rattle.ground.proofs.Writing.{sets-append}
-use Rattle.text.specs.Put.{fits, endOf, putOf}
+use Rattle.text.specs.Put.{hasRoom, endOf, putOf}
 
 -- a text put at a place, and where it ends
 pub record Put (before after : List ℕ) (at end : ℕ) (text : List ℕ) : Type 0 where
@@ -31,11 +31,11 @@ put-length {o} {p} {at} {end} {x} f = ap length (f .written) ∙ length-sets o a
 pub put-as : {o p : List ℕ} {at end : ℕ} {x y : List ℕ} → x ≡ y → Put o p at end x → Put o p at end y
 put-as {o} {p} {at} {end} e f = record { written = f .written ∙ ap (sets o at) e; ends = f .ends ∙ ap (λ (l : List ℕ). at + length l) e }
 
--- what a call that puts a text promises, where the text fits
+-- what a call that puts a text promises, where the text hasRoom
 pub put-told : {o p : List ℕ} {at end : ℕ} (x : List ℕ) → at + length x ≤ length o → end ≡ endOf (length o) at x → p ≡ putOf o at x
     → Put o p at end x
 put-told {o} {p} {at} {end} x h e w =
-    let t : fits (length o) at x ≡ true = le-leb (at + length x) (length o) h in
+    let t : hasRoom (length o) at x ≡ true = le-leb (at + length x) (length o) h in
     record { written = simp t at w; ends = simp t at e }
 
 -- the same behind what was put before it
@@ -48,7 +48,7 @@ then-told {o} {p} {q} {at} {mid} {end} {x} y f h e w =
 -- what a call has to promise where it put the text, and where it did not
 module _ (o x : List ℕ) (at : ℕ) where
   pub is-put : at + length x ≤ length o → (at + length x ≡ endOf (length o) at x) × (sets o at x ≡ putOf o at x)
-  is-put h = let t : fits (length o) at x ≡ true = le-leb (at + length x) (length o) h in (simp t, simp t)
+  is-put h = let t : hasRoom (length o) at x ≡ true = le-leb (at + length x) (length o) h in (simp t, simp t)
 
   pub not-put : length o < at + length x → (at ≡ endOf (length o) at x) × (o ≡ putOf o at x)
-  not-put h = let t : fits (length o) at x ≡ false = lt-leb (at + length x) (length o) h in (simp t, simp t)
+  not-put h = let t : hasRoom (length o) at x ≡ false = lt-leb (at + length x) (length o) h in (simp t, simp t)

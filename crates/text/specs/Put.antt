@@ -14,12 +14,12 @@ abbrev pub newline : ℕ
 newline = 10
 
 -- whether so much room has place for it from a place on
-abbrev pub fits : ℕ → ℕ → List ℕ → Bool
-fits room at text = leb (at + length text) room
+abbrev pub hasRoom : ℕ → ℕ → List ℕ → Bool
+hasRoom room at text = leb (at + length text) room
 
 -- where it ends, and the buffer afterwards; where it does not fit, nothing is put
 abbrev pub endOf : ℕ → ℕ → List ℕ → ℕ
-endOf room at text = cond (fits room at text) (at + length text) at
+endOf room at text = cond (hasRoom room at text) (at + length text) at
 
 abbrev pub putOf : List ℕ → ℕ → List ℕ → List ℕ
-putOf out at text = cond (fits (length out) at text) (sets out at text) out
+putOf out at text = cond (hasRoom (length out) at text) (sets out at text) out

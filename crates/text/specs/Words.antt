@@ -5,13 +5,13 @@ use mathlib.Core.List.{List}
 use lib.ListN.{getD}
 use Rattle.ground.specs.Written.{table}
 
-abbrev pub wordAt : List ℕ → ℕ → ℕ
-wordAt bytes k = getD bytes (2 * k) 0 + getD bytes (2 * k + 1) 0 * 256
+abbrev pub wordInBytes : List ℕ → ℕ → ℕ
+wordInBytes bytes k = getD bytes (2 * k) 0 + getD bytes (2 * k + 1) 0 * 256
 
 -- how many there are in so many bytes, up to so many: an odd last byte and what follows is ignored
 abbrev pub countOf : ℕ → ℕ → ℕ
 countOf most bytes = min most (bytes / 2)
 
 -- the first n of them
-abbrev pub wordsOf : ℕ → List ℕ → List ℕ
-wordsOf n bytes = table n (wordAt bytes)
+abbrev pub wordsInBytes : ℕ → List ℕ → List ℕ
+wordsInBytes n bytes = table n (wordInBytes bytes)

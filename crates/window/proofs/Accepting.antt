@@ -1,4 +1,4 @@
--- When all tests of a window hold, and what its reading then answers.
+-- When all spanTests of a window hold, and what its reading then answers.
 -- Assumes nothing.
 use mathlib.Core.Path.{_≡_, refl, sym, ap, _∙_}
 use mathlib.Core.Bool.{Bool, true, false, not}
@@ -15,7 +15,7 @@ use Rattle.span.specs.declared.format.Format.{Format}
 use Rattle.span.specs.Format.{shapeOf, streams, pairsIn, symbolsIn}
 use Rattle.window.specs.declared.delivery.Delivery.{Delivery}
 use Rattle.window.specs.Encoded.{Meets}
-use Rattle.window.specs.Read.{placed, wordTests, tests, deliveryOf, readSpan}
+use Rattle.window.specs.Read.{placed, wordTests, spanTests, deliveryOf, readSpan}
 use Rattle.window.specs.Scan.{holds20}
 use Rattle.window.specs.Tests.{holds21, holds22, holds23, holds24, holds25, holds26}
 use Rattle.window.specs.Words.{wordAt}
@@ -34,7 +34,7 @@ module _ (n : ℕ) (holds : ℕ → Bool) where
       is-hit (λ k. not (holds k)) n k
       (record { from = omega arith; below = h; holds = ap not e; least = λ j _ l. ap not (f j l) })
 
--- all tests hold
+-- all spanTests hold
 pub record Accepted (f : Format) (w : List ℕ) : Type 0 where
   pub scan : (i : ℕ) → i < symbolsIn (shapeOf f) → holds20 (shapeOf f) w i ≡ true
   pub words : Meets f (wordAt (shapeOf f) w)
@@ -81,7 +81,7 @@ module _ (f : Format) (w : List ℕ) where
   pub accepted-told : (r : Delivery) → readSpan f w ≡ given r → Accepted f w
   unfolding readSpan
   accepted-told r e =
-      let passed = row-passed (tests f w) (deliveryOf f w) r e in
+      let passed = row-passed (spanTests f w) (deliveryOf f w) r e in
       record {
         scan = all-hold (symbolsIn (shapeOf f)) (holds20 (shapeOf f) w) (passed 0);
         words =
@@ -95,7 +95,7 @@ module _ (f : Format) (w : List ℕ) where
             };
       }
 
--- words that meet tests 21 to 26 pass them
+-- words that meet spanTests 21 to 26 pass them
 pub meets-given : {A : Type 0} (f : Format) (word : ℕ → ℕ) → Meets f word → (a : A) → checked (wordTests f word) a ≡ given a
 meets-given f word m a =
     let s = streams (shapeOf f) in
@@ -112,7 +112,7 @@ module _ (f : Format) (w : List ℕ) where
   pub is-accepted : Accepted f w → readSpan f w ≡ given (deliveryOf f w)
   unfolding readSpan
   is-accepted a =
-      passes (tests f w) (deliveryOf f w) (given (deliveryOf f w)) 0 (none-fails (symbolsIn (shapeOf f)) (holds20 (shapeOf f) w) (a .scan))
+      passes (spanTests f w) (deliveryOf f w) (given (deliveryOf f w)) 0 (none-fails (symbolsIn (shapeOf f)) (holds20 (shapeOf f) w) (a .scan))
       (meets-given f (wordAt (shapeOf f) w) (a .words) (deliveryOf f w))
 
   pub delivers : (r : Delivery) → readSpan f w ≡ given r → r ≡ deliveryOf f w

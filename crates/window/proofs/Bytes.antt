@@ -14,10 +14,10 @@ use Rattle.ground.proofs.Ranges.{is-within, not-within}
 use Rattle.ground.proofs.Writing.{length-table, getD-table}
 use Rattle.span.specs.declared.format.Shape.{Shape}
 use Rattle.span.specs.Format.{streams, pairsIn, symbolsIn, eavAt}
-use Rattle.span.specs.Span.{listed, bytes}
+use Rattle.span.specs.Span.{bytesListed, bytes}
 use Rattle.span.proofs.Packing.{byte-at}
 use Rattle.packing.specs.declared.bytes.ThreeBytes.{ThreeBytes}
-use Rattle.packing.specs.Bytes.{bytesOf, wordsOf}
+use Rattle.packing.specs.Bytes.{bytesOf, unpacked}
 use Rattle.packing.proofs.Packing.{AreBytes, words-are, pack-unpack, are-bytes}
 use Rattle.window.specs.Scan.{byteOf, symbolAt}
 use Rattle.window.specs.Words.{fixedByte, byteAt, pairAt, wordAt}
@@ -41,7 +41,7 @@ either-below true n x y p q = p
 either-below false n x y p q = q
 
 -- what three bytes give is words of twelve bits
-words-below : (t : ThreeBytes) → AreBytes t → (wordsOf t .a < 4096) × (wordsOf t .b < 4096)
+words-below : (t : ThreeBytes) → AreBytes t → (unpacked t .a < 4096) × (unpacked t .b < 4096)
 words-below t h = rw (words-are t h) (omega (arith, h .first-below), omega (arith, h .second-below, h .third-below))
 
 module _ (p : Shape) (w : List ℕ) where
@@ -112,7 +112,7 @@ module _ (p : Shape) (w : List ℕ) where
   unfolding bytesOf
   high-byte q = ap (λ (b : ThreeBytes). b .third) (pair-bytes q)
 
-  listed-at : (q i : ℕ) → i < 3 → getD (listed (three q)) i 0 ≡ byteAt p w (3 * q + i)
+  listed-at : (q i : ℕ) → i < 3 → getD (bytesListed (three q)) i 0 ≡ byteAt p w (3 * q + i)
   listed-at q zero h = let e : 3 * q ≡ 3 * q + 0 = omega arith in ap (byteAt p w) e
   listed-at q (suc zero) h = refl
   listed-at q (suc (suc zero)) h = refl
@@ -129,7 +129,7 @@ module _ (p : Shape) (w : List ℕ) where
       let b : getD words (2 * q + 1) 0 ≡ wordAt p w (2 * q + 1) = getD-table (2 * pairsIn p) (wordAt p w) (2 * q + 1) 0 (omega arith) in
       ap (λ (k : ℕ). getD (bytes words) k 0) e
       ∙ byte-at (pairsIn p) words (length-table (2 * pairsIn p) (wordAt p w)) q (omega arith) r (omega arith)
-      ∙ ap₂ (λ (x y : ℕ). getD (listed (bytesOf x y)) r 0) a b
-      ∙ ap (λ (t : ThreeBytes). getD (listed t) r 0) (pair-bytes q)
+      ∙ ap₂ (λ (x y : ℕ). getD (bytesListed (bytesOf x y)) r 0) a b
+      ∙ ap (λ (t : ThreeBytes). getD (bytesListed t) r 0) (pair-bytes q)
       ∙ listed-at q r (omega arith)
       ∙ ap (byteAt p w) (sym e)

@@ -23,14 +23,14 @@ use Rattle.span.specs.declared.format.Format.{Format}
 use Rattle.span.specs.declared.format.Shape.{Shape}
 use Rattle.span.specs.Encoding.{symbolsFrom, afterRun}
 use Rattle.span.specs.Format.{isKnown, shapeOf, streams, pairsIn, symbolsIn, eavAt}
-use Rattle.span.specs.Span.{interleaved, bytes, listed}
+use Rattle.span.specs.Span.{interleaved, bytes, bytesListed}
 use Rattle.span.proofs.Encoding.{length-symbols}
 use Rattle.span.proofs.Interleaving.{length-interleaved, interleaved-at}
 use Rattle.span.proofs.Lengths.{known-has-streams}
 use Rattle.span.proofs.Packing.{length-bytes, byte-at}
 use Rattle.window.specs.declared.delivery.Delivery.{Delivery}
 use Rattle.window.specs.Encoded.{charsOf, Encodes, wordIn, Meets}
-use Rattle.window.specs.Read.{placed, wordTests, tests, contentIn, deliveryOf, pictureOf, readSpan, repairsOf}
+use Rattle.window.specs.Read.{placed, wordTests, spanTests, contentIn, deliveryOf, pictureOf, readSpan, repairsOf}
 use Rattle.window.specs.Scan.{meant, byteOf, symbolAt, startOf, runningAt, holds20}
 use Rattle.window.specs.Tests.{holds21, lineRead, repairCount, rows}
 use Rattle.window.specs.Words.{fixedByte, byteAt, pairAt, wordAt}
@@ -55,7 +55,7 @@ unfolding fixedByte interleaved upto table timing bytes bytesOf
 fixed-four = (refl, refl, refl, refl)
 
 -- two words 0 are three bytes 0
-zeros : (i : ℕ) → i < 3 → 0 ≡ getD (listed (bytesOf 0 0)) i 0
+zeros : (i : ℕ) → i < 3 → 0 ≡ getD (bytesListed (bytesOf 0 0)) i 0
 unfolding bytesOf
 zeros zero h = refl
 zeros (suc zero) h = refl
@@ -143,7 +143,7 @@ module _ (f : Format) (known : isKnown f ≡ true) (w : List ℕ) (d : Disparity
       (λ t. rw (List·getD-eq-default words 0 (ltb-false k (length words) t)) (omega arith))
 
   -- the bytes of pair q
-  three-bytes : (q i : ℕ) → i < 3 → getD (bytes words) (3 * q + i) 0 ≡ getD (listed (bytesOf (wordIn words (2 * q)) (wordIn words (2 * q + 1)))) i 0
+  three-bytes : (q i : ℕ) → i < 3 → getD (bytes words) (3 * q + i) 0 ≡ getD (bytesListed (bytesOf (wordIn words (2 * q)) (wordIn words (2 * q + 1)))) i 0
   three-bytes q i l =
       on-test (ltb q (pairsIn p)) (λ t. byte-at (pairsIn p) words (e .long) q (ltb-true q (pairsIn p) t) i l)
       (λ t.
@@ -152,7 +152,7 @@ module _ (f : Format) (known : isKnown f ≡ true) (w : List ℕ) (d : Disparity
       List·getD-eq-default (bytes words) 0 (omega (arith, length-bytes (pairsIn p) words (e .long))) in
       let a : wordIn words (2 * q) ≡ 0 = List·getD-eq-default words 0 (omega (arith, e .long)) in
       let b : wordIn words (2 * q + 1) ≡ 0 = List·getD-eq-default words 0 (omega (arith, e .long)) in
-      z ∙ zeros i l ∙ sym (ap₂ (λ (x y : ℕ). getD (listed (bytesOf x y)) i 0) a b))
+      z ∙ zeros i l ∙ sym (ap₂ (λ (x y : ℕ). getD (bytesListed (bytesOf x y)) i 0) a b))
 
   -- ---- where the replaced bytes are those that a receiver takes them to be
   module _ (r : Restored p words) where
@@ -220,7 +220,7 @@ module _ (xs ys : List ℕ) (k l : ℕ) (p : length xs ≡ 2 * k) (q : length ys
       let second : 2 * (u + v) + 1 ≡ 2 * u + (2 * v + 1) = omega arith in
       ap (λ (n : ℕ). getD (bytes xs) n 0) place
       ∙ byte-at k xs p (u + v) (omega arith) i b
-      ∙ ap₂ (λ (x y : ℕ). getD (listed (bytesOf x y)) i 0)
+      ∙ ap₂ (λ (x y : ℕ). getD (bytesListed (bytesOf x y)) i 0)
       (ap (λ (n : ℕ). getD xs n 0) first ∙ same (2 * v) (omega arith))
       (ap (λ (n : ℕ). getD xs n 0) second ∙ same (2 * v + 1) (omega arith))
       ∙ sym (byte-at l ys q v (omega arith) i b)
@@ -309,10 +309,10 @@ module _ (f : Format) (known : isKnown f ≡ true) (words : List ℕ) (long : le
 
   -- words that meet test 21 do
   pub restored-told : ((k : ℕ) → k < 2 * pairsIn (shapeOf f) → placed s (holds21 s (wordIn words)) k ≡ true) → Restored (shapeOf f) words
-  restored-told tests =
+  restored-told spanTests =
       restored-words
-      (λ t l. let code = sav-told f (wordIn words) t l tests in (code .0, code .1))
-      (λ t l. let code = eav-told f (wordIn words) t l tests in (code .0, code .1))
+      (λ t l. let code = sav-told f (wordIn words) t l spanTests in (code .0, code .1))
+      (λ t l. let code = eav-told f (wordIn words) t l spanTests in (code .0, code .1))
 
 -- ---- what it is read as
 
@@ -335,7 +335,7 @@ module _ (f : Format) (known : isKnown f ≡ true) (w : List ℕ) (d : Disparity
     pub encoded-read : readSpan f w ≡ checked (wordTests f (wordIn words)) (answered f d c words)
     unfolding readSpan
     encoded-read =
-        passes (tests f w) (deliveryOf f w) (checked (wordTests f (wordIn words)) (answered f d c words)) 0
+        passes (spanTests f w) (deliveryOf f w) (checked (wordTests f (wordIn words)) (answered f d c words)) 0
         (none-fails (symbolsIn (shapeOf f)) (holds20 (shapeOf f) w) (encoded-scan f known w d c words e))
         (ap₂ (λ (word : ℕ → ℕ) (r : Delivery). checked (wordTests f word) r) (encoded-word f known w d c words e r) encoded-delivery)
 
@@ -343,7 +343,7 @@ module _ (f : Format) (known : isKnown f ≡ true) (w : List ℕ) (d : Disparity
     unfolding pictureOf
     encoded-picture = ap (rows (streams (shapeOf f))) (encoded-word f known w d c words e r)
 
-  -- where the words meet the tests, all tests of the window hold
+  -- where the words meet the spanTests, all spanTests of the window hold
   pub meets-accepted : Meets f (wordIn words) → Accepted f w
   meets-accepted m =
       record {

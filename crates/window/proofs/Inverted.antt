@@ -21,7 +21,7 @@ use Rattle.symbol.specs.declared.special.Special.the-variants.{«K28_5»}
 use Rattle.symbol.specs.Character.{characters, numberOf}
 use Rattle.symbol.specs.Code.{symbolOf, charOf, afterOf}
 use Rattle.symbol.specs.Inside.Code.{TwoForms}
-use Rattle.symbol.specs.Inside.Disparity.{opposed}
+use Rattle.symbol.specs.Inside.Disparity.{opposite}
 use Rattle.symbol.proofs.Flip.{Caught, flip, flip-no-form}
 use Rattle.symbol.proofs.Inverse.{opposed-illegal}
 use Rattle.symbol.proofs.Ones.{one-form-stays}
@@ -30,7 +30,7 @@ use Rattle.span.specs.declared.format.Shape.{Shape}
 use Rattle.span.specs.Content.{contentOf}
 use Rattle.span.specs.Format.{isKnown, shapeOf, pairsIn, symbolsIn}
 use Rattle.span.specs.Span.{spanWords, spanChars, spanSymbols, fillWord}
-use Rattle.span.specs.Stream.{Asked}
+use Rattle.span.specs.Stream.{Request}
 use Rattle.span.proofs.Lengths.{known-has-streams, known-has-fill, length-words, length-chars, length-of-symbols}
 use Rattle.span.proofs.Places.{first-symbol, last-char, last-two-forms}
 use Rattle.window.specs.declared.delivery.Delivery.{Delivery}
@@ -79,7 +79,7 @@ module _ (w v : List ℕ) (c : ℕ → ℕ) (n i k : ℕ) (x : OneBit w v c n i 
       ∙ sym (running-on w j)
 
   -- there the disparity turns
-  turned : runningAt v (suc i) ≡ opposed (runningAt w (suc i))
+  turned : runningAt v (suc i) ≡ opposite (runningAt w (suc i))
   turned = go (flip (runningAt w i) (c i) k (x .small i) (x .bit))
     where
       here : runningAt v i ≡ runningAt w i
@@ -90,23 +90,23 @@ module _ (w v : List ℕ) (c : ℕ → ℕ) (n i k : ℕ) (x : OneBit w v c n i 
           sym (ap₂ charOf here (x .harmed ∙ ap (inverted k) (x .sent i (x .place)))) ∙ x .legal i (x .place)
 
       go : Caught (runningAt w i) (afterOf (runningAt w i) (c i)) (inverted k (symbolOf (runningAt w i) (c i)))
-          → runningAt v (suc i) ≡ opposed (runningAt w (suc i))
+          → runningAt v (suc i) ≡ opposite (runningAt w (suc i))
       go (inl e) = absurd (not-both heard e)
       go (inr t) =
           let b : meant (symbolAt v i) ≡ t .0 = cc (heard, t .1) in
-          running-on v i ∙ ap₂ afterOf here b ∙ t .2 ∙ ap opposed (sym (sent-on i (x .place)))
+          running-on v i ∙ ap₂ afterOf here b ∙ t .2 ∙ ap opposite (sym (sent-on i (x .place)))
 
   -- behind it the symbols are as sent
   as-sent : (j : ℕ) → i < j → j < n → symbolAt v j ≡ symbolOf (runningAt w j) (c j)
   as-sent j l h = x .kept j (λ q. omega arith) ∙ x .sent j h
 
   -- at the opposite disparity a character with two forms is illegal
-  one-form : (j : ℕ) → i < j → j < n → runningAt v j ≡ opposed (runningAt w j) → TwoForms (c j) → ⊥
+  one-form : (j : ℕ) → i < j → j < n → runningAt v j ≡ opposite (runningAt w j) → TwoForms (c j) → ⊥
   one-form j l h e two =
       not-both (x .legal j h) (ap₂ charOf e (as-sent j l h) ∙ opposed-illegal (runningAt w j) (c j) (x .small j) two)
 
   -- and one with one form leaves it as it was
-  passes : (j : ℕ) → i < j → j < n → runningAt v j ≡ opposed (runningAt w j) → runningAt v (suc j) ≡ opposed (runningAt w (suc j))
+  passes : (j : ℕ) → i < j → j < n → runningAt v j ≡ opposite (runningAt w j) → runningAt v (suc j) ≡ opposite (runningAt w (suc j))
   passes j l h e =
       on-test (eqb (symbolOf Negative (c j)) (symbolOf Positive (c j)))
       (λ t.
@@ -114,20 +114,20 @@ module _ (w v : List ℕ) (c : ℕ → ℕ) (n i k : ℕ) (x : OneBit w v c n i 
       let m : meant (symbolAt v j) ≡ c j = ap meant (as-sent j l h) ∙ meant-of (runningAt w j) (c j) (x .small j) in
       running-on v j
       ∙ ap₂ afterOf e m
-      ∙ one-form-stays (opposed (runningAt w j)) (c j) (x .small j) same
-      ∙ ap opposed (sym (sent-on j h ∙ one-form-stays (runningAt w j) (c j) (x .small j) same)))
+      ∙ one-form-stays (opposite (runningAt w j)) (c j) (x .small j) same
+      ∙ ap opposite (sym (sent-on j h ∙ one-form-stays (runningAt w j) (c j) (x .small j) same)))
       (λ t. absurd (one-form j l h e (eqb-false _ _ t)))
 
   -- so it stays the opposite, symbol after symbol
-  opposite : (m : ℕ) → suc i + m < n → runningAt v (suc i + m) ≡ opposed (runningAt w (suc i + m))
-  opposite zero h = rw add-zero turned
-  opposite (suc m) h = rw add-suc (passes (suc i + m) (omega arith) (omega arith) (opposite m (omega arith)))
+  stays-opposite : (m : ℕ) → suc i + m < n → runningAt v (suc i + m) ≡ opposite (runningAt w (suc i + m))
+  stays-opposite zero h = rw add-zero turned
+  stays-opposite (suc m) h = rw add-suc (passes (suc i + m) (omega arith) (omega arith) (stays-opposite m (omega arith)))
 
   -- and there is no character with two forms behind it
   caught : (j : ℕ) → i < j → j < n → TwoForms (c j) → ⊥
   caught j l h =
       let e : j ≡ suc i + (j - suc i) = omega arith in
-      one-form j l h (rw e (opposite (j - suc i) (omega arith)))
+      one-form j l h (rw e (stays-opposite (j - suc i) (omega arith)))
 
 -- ---- the last symbol of a window whose tests hold
 
@@ -155,7 +155,7 @@ module _ (f : Format) (w : List ℕ) (known : isKnown f ≡ true) (acc : Accepte
 
 -- ---- one inverted bit
 
-module _ (f : Format) (a : Asked) (good : Sendable f a) (d : Disparity) (i k : ℕ) (h : i < symbolsIn (shapeOf f)) (l : k < 10) where
+module _ (f : Format) (a : Request) (good : Sendable f a) (d : Disparity) (i k : ℕ) (h : i < symbolsIn (shapeOf f)) (l : k < 10) where
   abbrev sent : List ℕ
   sent = spanSymbols d f a
 

@@ -19,7 +19,7 @@ use Rattle.span.specs.declared.format.Format.{Format}
 use Rattle.span.specs.Format.{shapeOf, streams, pairsIn}
 use Rattle.span.specs.Span.{fillWord}
 use Rattle.crcc.specs.Crcc.{crccWords}
-use Rattle.word.specs.LineNumber.{ln0, ln1, names, lineOf}
+use Rattle.word.specs.LineNumber.{ln0, ln1, areWordsOf, lineOf}
 use Rattle.word.specs.Repair.{nearest}
 use Rattle.word.specs.Timing.{timing}
 use Rattle.word.proofs.LineNumbers.{named-is-line, named-ln0, named-ln1}
@@ -70,14 +70,14 @@ module _ (f : Format) (word : ℕ → ℕ) (t : ℕ) (l : t < streams (shapeOf f
 -- ---- 22 of stream 1, and the fill
 
 -- words that name a line are those of its number
-line-named : (a b : ℕ) → isSome (lineOf a b) ≡ true → names a b (Option·getD (lineOf a b) 0) ≡ true
+line-named : (a b : ℕ) → isSome (lineOf a b) ≡ true → areWordsOf a b (Option·getD (lineOf a b) 0) ≡ true
 unfolding lineOf
-line-named a b t = hit (names a b) 1126 (Option·getD (lineOf a b) 0) (some-told (lineOf a b) t) .holds
+line-named a b t = hit (areWordsOf a b) 1126 (Option·getD (lineOf a b) 0) (some-told (lineOf a b) t) .holds
 
 module _ (f : Format) (word : ℕ → ℕ) (m : Meets f word) (l : 0 < streams (shapeOf f)) where
-  -- it names a line, so its words are those of that line's number
+  -- it areWordsOf a line, so its words are those of that line's number
   next-named :
-      names (wordOf (streams (shapeOf f)) word 1928 0) (wordOf (streams (shapeOf f)) word 1929 0) (nextLine (streams (shapeOf f)) word)
+      areWordsOf (wordOf (streams (shapeOf f)) word 1928 0) (wordOf (streams (shapeOf f)) word 1929 0) (nextLine (streams (shapeOf f)) word)
       ≡ true
   unfolding holds22 within nextLine
   next-named = line-named _ _ (held f 0 l (holds22 (streams (shapeOf f)) word) (m .lineNumber) 1928 (omega arith))

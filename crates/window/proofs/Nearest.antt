@@ -8,7 +8,8 @@ use native.Mathlib.Omega.{arith}
 use lib.Dec.{eqb}
 use borrow.Author.Tests.{eqb-true, not-true}
 use Rattle.word.specs.Repair.{distance, legalWord, nearest}
-use Rattle.word.specs.Timing.{bit, timing}
+use Rattle.word.specs.Timing.{timing}
+use Rattle.ground.specs.Bit.{bit}
 use Rattle.word.proofs.Repairs.{same-word, nearest-is, nearest-none}
 use Rattle.word.proofs.Timings.{timing-below}
 use Rattle.window.specs.Tests.{same}

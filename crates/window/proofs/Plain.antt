@@ -13,7 +13,7 @@ use Rattle.ground.proofs.Cases.{on-test}
 use Rattle.span.specs.declared.format.Shape.{Shape}
 use Rattle.span.specs.Format.{streams, eavAt}
 use Rattle.packing.specs.declared.bytes.TwoWords.{TwoWords}
-use Rattle.packing.specs.Bytes.{wordsOf}
+use Rattle.packing.specs.Bytes.{unpacked}
 use Rattle.window.specs.Scan.{byteOf, symbolAt}
 use Rattle.window.specs.Words.{pairAt, wordAt}
 use Rattle.window.specs.Inside.Given.{Given, plainPair}
@@ -22,7 +22,7 @@ use Rattle.window.proofs.Bytes.{byte-else}
 -- ---- three symbols
 
 pub pair-is : {x y z : ℕ} (w : List ℕ) (o : ℕ) → x ≡ byteOf (symbolAt w o) → y ≡ byteOf (symbolAt w (o + 1)) → z ≡ byteOf (symbolAt w (o + 2))
-    → wordsOf (record { first = x; second = y; third = z }) ≡ plainPair w o
+    → unpacked (record { first = x; second = y; third = z }) ≡ plainPair w o
 unfolding plainPair
 pair-is w o e f g = rw (e, f, g)
 

@@ -14,7 +14,7 @@ use Rattle.span.specs.declared.format.Shape.{Shape}
 use Rattle.span.specs.Format.{shapeOf, streams, pairsIn, symbolsIn}
 use Rattle.window.specs.declared.delivery.Delivery.{Delivery}
 use Rattle.window.specs.Laws.{Holds, Fails}
-use Rattle.window.specs.Read.{placed, wordTests, tests, deliveryOf, readSpan}
+use Rattle.window.specs.Read.{placed, wordTests, spanTests, deliveryOf, readSpan}
 use Rattle.window.specs.Scan.{holds20}
 use Rattle.window.specs.Tests.{holds21, holds22, holds23, holds24, holds25, holds26}
 use Rattle.window.specs.Words.{wordAt}
@@ -45,7 +45,7 @@ module _ (f : Format) (w : List ℕ) where
   abbrev word : ℕ → ℕ
   word = wordAt p w
 
-  -- tests 21 to 26, and what is answered where all hold
+  -- spanTests 21 to 26, and what is answered where all hold
   abbrev rows : List Row
   rows = wordTests f word
 
@@ -68,12 +68,12 @@ module _ (f : Format) (w : List ℕ) where
   -- each test, where those before it hold; `past` it the others are left to tell
   pub meets-20 : (k : ℕ) → Fails (symbolsIn p) (holds20 p w) k → readSpan f w ≡ refused 20 k
   unfolding readSpan
-  meets-20 k x = meets (tests f w) answer 0 k (found (symbolsIn p) (holds20 p w) k x)
+  meets-20 k x = meets (spanTests f w) answer 0 k (found (symbolsIn p) (holds20 p w) k x)
 
   module _ (scan : Holds (symbolsIn p) (holds20 p w)) where
     past-20 : (r : Answer Delivery) → checked rows answer ≡ r → readSpan f w ≡ r
     unfolding readSpan
-    past-20 r = passes (tests f w) answer r 0 (none-fails (symbolsIn p) (holds20 p w) scan)
+    past-20 r = passes (spanTests f w) answer r 0 (none-fails (symbolsIn p) (holds20 p w) scan)
 
     pub meets-21 : (k : ℕ) → Met (holds21 s word) k → readSpan f w ≡ refused 21 k
     meets-21 k x = past-20 (refused 21 k) (meets rows answer 0 k (met (holds21 s word) k x))
@@ -114,7 +114,7 @@ module _ (f : Format) (w : List ℕ) where
               meets-26 k x = past-25 (refused 26 k) (meets rows answer 5 k (met (holds26 s word f) k x))
 
   -- there are no other numbers
-  numbered : (i : ℕ) → i < 7 → getD (tests f w) i nothing .number ≡ 20 + i
+  numbered : (i : ℕ) → i < 7 → getD (spanTests f w) i nothing .number ≡ 20 + i
   numbered zero h = refl
   numbered (suc zero) h = refl
   numbered (suc (suc zero)) h = refl
@@ -127,5 +127,5 @@ module _ (f : Format) (w : List ℕ) where
   pub numbers : (number place : ℕ) → readSpan f w ≡ refused number place → (20 ≤ number) × (number ≤ 26)
   unfolding readSpan
   numbers number place e =
-      let (i, l, q) = row-met (tests f w) answer number place e in
+      let (i, l, q) = row-met (spanTests f w) answer number place e in
       (omega (arith, q, numbered i l), omega (arith, q, numbered i l))

@@ -28,7 +28,7 @@ use Rattle.span.specs.declared.format.Format.{Format}
 use Rattle.span.specs.Format.{shapeOf, streams, pairsIn}
 use Rattle.span.specs.Sample.{sampleWord}
 use Rattle.span.specs.Span.{spanWords, fillWord}
-use Rattle.span.specs.Stream.{Asked, picture, register}
+use Rattle.span.specs.Stream.{Request, picture, register}
 use Rattle.span.proofs.Lengths.{known-has-streams}
 use Rattle.span.proofs.Places.{wordAt as sentAt, fill-word, sav-words, picture-word, eav-words, line-number-words, crcc-words}
 use Rattle.window.specs.Encoded.{wordIn, Meets, IsXyz, Disturbed, wrongAt}
@@ -42,7 +42,7 @@ use Rattle.window.proofs.Sent.{may-bring, picture-column, register-is}
 
 -- ---- test 21, word by word
 
-module _ (f : Format) (a : Asked) (word : ℕ → ℕ) (t : ℕ) (l : t < streams (shapeOf f)) where
+module _ (f : Format) (a : Request) (word : ℕ → ℕ) (t : ℕ) (l : t < streams (shapeOf f)) where
   abbrev st : ℕ
   st = streams (shapeOf f)
 
@@ -88,7 +88,7 @@ unfolding sumOf
 sum-same zero f g e = refl
 sum-same (suc n) f g e = rw (sum-same n f g (λ i h. e i (omega arith)), e n (omega arith))
 
-module _ (f : Format) (a : Asked) (good : Sendable f a) (words : List ℕ) (disturbed : Disturbed f a words) where
+module _ (f : Format) (a : Request) (good : Sendable f a) (words : List ℕ) (disturbed : Disturbed f a words) where
   abbrev s : ℕ
   s = streams (shapeOf f)
 

@@ -15,7 +15,7 @@ use Rattle.span.specs.declared.format.Format.{Format}
 use Rattle.span.specs.Content.{contentOf}
 use Rattle.span.specs.Format.{shapeOf, streams}
 use Rattle.span.specs.Span.{wordsFromSav, wordsFromEav, spanWords, charsFromSav, charsFromEav, spanChars, spanSymbols, spanAfter}
-use Rattle.span.specs.Stream.{Asked, picture}
+use Rattle.span.specs.Stream.{Request, picture}
 use Rattle.span.proofs.Lengths.{length-words-sav, length-words}
 use Rattle.window.specs.Encoded.{charsOf, Encodes, wordIn, Meets, Disturbed, wrongAt}
 use Rattle.window.specs.Read.{pictureOf, readSpan, repairsOf}
@@ -31,7 +31,7 @@ unfolding sumOf
 zero-sum zero f e = refl
 zero-sum (suc n) f e = omega (arith, zero-sum n f e, e n)
 
-module _ (f : Format) (a : Asked) where
+module _ (f : Format) (a : Request) where
   abbrev s : ℕ
   s = streams (shapeOf f)
 

@@ -14,7 +14,7 @@ use Rattle.ground.proofs.Writing.{replicate-table, table-same}
 use Rattle.line.specs.Stream.{isActive, vOf, lineAfter}
 use Rattle.crcc.specs.Crcc.{crc, crccWords}
 use Rattle.word.specs.LineNumber.{ln0, ln1}
-use Rattle.packing.specs.Sample.{allowed as allowedAt, sampleWord as wordAt, allowedWord}
+use Rattle.packing.specs.Sample.{allowedAtDepth as allowedAt, wordAtDepth as wordAt, allowedWord}
 use Rattle.word.specs.Timing.{timing, timingCode}
 use Rattle.word.proofs.Guards.{guard-below}
 use Rattle.word.proofs.LineNumbers.{ln0-below, ln1-below}
@@ -24,7 +24,7 @@ use Rattle.span.specs.declared.format.Format.{Format}
 use Rattle.span.specs.Format.{shapeOf, streams}
 use Rattle.span.specs.Sample.{blankWord, allowed, sampleWord}
 use Rattle.span.specs.Span.{across, interleaved, fillWord, wordsFromSav, wordsFromEav, spanWords}
-use Rattle.span.specs.Stream.{Asked, sav, picture, eav, lineNumber, crcc, register, ancillary, fromSav, fromEav}
+use Rattle.span.specs.Stream.{Request, sav, picture, eav, lineNumber, crcc, register, ancillary, fromSav, fromEav}
 use Rattle.span.proofs.Formats.{Known, known-told}
 use Rattle.span.proofs.Samples.{word-is, word-below}
 use Rattle.window.specs.Encoded.{wordIn}
@@ -86,7 +86,7 @@ received : (depth x : ℕ) → (depth ≡ 10) ⊎ (depth ≡ 12) → allowedAt d
 received depth x (inl e) ok = rw e (sent-ten x (rw e at ok) .1)
 received depth x (inr e) ok = rw e (sent-twelve x (rw e at ok) .1)
 
-module _ (f : Format) (a : Asked) (good : Sendable f a) where
+module _ (f : Format) (a : Request) (good : Sendable f a) where
   abbrev s : ℕ
   s = streams (shapeOf f)
 
@@ -153,7 +153,7 @@ two-entries : (g : ℕ → ℕ) → table 2 g ≡ g 0 ∷ g 1 ∷ []
 unfolding table upto
 two-entries g = refl
 
-module _ (f : Format) (a : Asked) (word : ℕ → ℕ) (t : ℕ) where
+module _ (f : Format) (a : Request) (word : ℕ → ℕ) (t : ℕ) where
   -- word j of stream t
   abbrev at : ℕ → ℕ
   at j = wordOf (streams (shapeOf f)) word j t

@@ -20,7 +20,7 @@ use Rattle.span.specs.Encoding.{symbolsFrom}
 use Rattle.span.specs.Format.{isKnown, shapeOf, streams, samplesIn, pairsIn, symbolsIn}
 use Rattle.span.specs.Sample.{blankWord, allowed, sampleWord}
 use Rattle.span.specs.Span.{spanWords, spanSymbols}
-use Rattle.span.specs.Stream.{Asked, register}
+use Rattle.span.specs.Stream.{Request, register}
 use Rattle.span.proofs.Formats.{known-told}
 use Rattle.span.proofs.Lengths.{known-has-streams, length-words}
 use Rattle.span.proofs.Places.{sav-words, picture-word, eav-words, line-number-words, crcc-words, ancillary-blank, fill-word}
@@ -32,7 +32,7 @@ use Rattle.window.specs.Read.{contentIn}
 use Rattle.window.specs.Scan.{startOf}
 use Rattle.window.specs.Tests.{mayBring, wordOf, nextLine, lineRead, registerOf, repairCount}
 use Rattle.window.specs.Words.{wordAt}
-use Rattle.window.specs.Inside.Encoded.{Sendable, sampleIn, askedFor, askedAgain}
+use Rattle.window.specs.Inside.Encoded.{Sendable, sampleOf, requestFor, requestAgain}
 use Rattle.window.proofs.Accepting.{Accepted}
 use Rattle.window.proofs.Bytes.{word-below}
 use Rattle.window.proofs.Exact.{encoded-again, accepted-encodes}
@@ -46,7 +46,7 @@ use Rattle.window.proofs.Sent.{register-is}
 -- a word that stream t of line n may bring is the one sent for its sample, which is allowed; on a blanking line it is blanking
 module _ (f : Format) (known : isKnown f ≡ true) (n t x : ℕ) (may : mayBring f n t x ≡ true)
     (blanking : isActive n ≡ false → x ≡ 0x100) where
-  sample-again : (allowed f n t (sampleIn f n x) ≡ true) × (sampleWord f n t (sampleIn f n x) ≡ x)
+  sample-again : (allowed f n t (sampleOf f n x) ≡ true) × (sampleWord f n t (sampleOf f n x) ≡ x)
   sample-again =
       on-test (isActive n)
       (λ active.
@@ -69,12 +69,12 @@ module _ (f : Format) (known : isKnown f ≡ true) (word : ℕ → ℕ) (small :
   abbrev s : ℕ
   s = streams (shapeOf f)
 
-  abbrev a : Asked
-  a = askedFor f c word
+  abbrev a : Request
+  a = requestFor f c word
 
   -- sample i
   sample-at : (i : ℕ) → i < samplesIn (shapeOf f)
-      → getD (a .samples) i 0 ≡ sampleIn f (a .line) (wordOf s word (4 + i % 1920) (i / 1920))
+      → getD (a .samples) i 0 ≡ sampleOf f (a .line) (wordOf s word (4 + i % 1920) (i / 1920))
   sample-at i h = getD-table (samplesIn (shapeOf f)) _ i 0 h
 
   -- words of stream t: as they are, and as they are sent
@@ -97,7 +97,7 @@ module _ (f : Format) (known : isKnown f ≡ true) (word : ℕ → ℕ) (small :
         (is .3 ∙ sym (sav-xyz f word m t l small none-wrong))
 
     -- the picture, sample by sample
-    sample-of : (i : ℕ) → i < 1920 → getD (a .samples) (1920 * t + i) 0 ≡ sampleIn f (a .line) (at (4 + i))
+    sample-of : (i : ℕ) → i < 1920 → getD (a .samples) (1920 * t + i) 0 ≡ sampleOf f (a .line) (at (4 + i))
     sample-of i h =
         let q : (1920 * t + i) / 1920 ≡ t = omega arith in
         let r : (1920 * t + i) % 1920 ≡ i = omega arith in
@@ -105,8 +105,8 @@ module _ (f : Format) (known : isKnown f ≡ true) (word : ℕ → ℕ) (small :
 
     -- each is allowed, and its word is sent for it
     again : (i : ℕ) (h : i < 1920)
-        → (allowed f (a .line) t (sampleIn f (a .line) (at (4 + i))) ≡ true)
-        × (sampleWord f (a .line) t (sampleIn f (a .line) (at (4 + i))) ≡ at (4 + i))
+        → (allowed f (a .line) t (sampleOf f (a .line) (at (4 + i))) ≡ true)
+        × (sampleWord f (a .line) t (sampleOf f (a .line) (at (4 + i))) ≡ at (4 + i))
     again i h =
         sample-again f known (a .line) t (at (4 + i)) (picture-told f word m t l i h)
         (λ b. blankLine b (4 + i) t (omega arith) (omega arith) l)
@@ -208,18 +208,18 @@ module _ (f : Format) (w : List ℕ) (known : isKnown f ≡ true) (long : length
     (blankLine : isActive (lineRead (streams (shapeOf f)) (wordAt (shapeOf f) w)) ≡ false → (j t : ℕ) → 4 ≤ j → j < 1924
     → t < streams (shapeOf f) → wordOf (streams (shapeOf f)) (wordAt (shapeOf f) w) j t ≡ 0x100) where
   -- its answer may be sent
-  pub sendable-again : Sendable f (askedAgain f w)
+  pub sendable-again : Sendable f (requestAgain f w)
   sendable-again =
       let p = shapeOf f in
       sendable f known (wordAt p w) (word-below p w) (acc .words) none-wrong blankAncillary blankLine (contentIn p w)
       (accepted-encodes f w known long acc .content)
 
   -- and is sent as the window
-  pub sent-again : w ≡ spanSymbols (startOf w) f (askedAgain f w)
+  pub sent-again : w ≡ spanSymbols (startOf w) f (requestAgain f w)
   unfolding spanSymbols
   sent-again =
       let p = shapeOf f in
       encoded-again f w known long acc
       ∙ ap (λ (l : List ℕ). symbolsFrom (startOf w) (charsOf p (contentIn p w) l))
       (sym (words-same f known (wordAt p w) (word-below p w) (acc .words) none-wrong blankAncillary blankLine (contentIn p w)))
-      ∙ ap (symbolsFrom (startOf w)) (sym (sent-chars f (askedAgain f w)))
+      ∙ ap (symbolsFrom (startOf w)) (sym (sent-chars f (requestAgain f w)))

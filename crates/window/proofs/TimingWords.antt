@@ -17,7 +17,7 @@ use Rattle.span.specs.declared.content.ContentBytes.{ContentBytes}
 use Rattle.span.specs.declared.format.Format.{Format}
 use Rattle.span.specs.Encoding.{symbolsFrom, afterRun}
 use Rattle.span.specs.Format.{shapeOf, streams, pairsIn}
-use Rattle.span.specs.Stream.{Asked, picture}
+use Rattle.span.specs.Stream.{Request, picture}
 use Rattle.span.proofs.Lengths.{known-has-streams}
 use Rattle.span.proofs.Places.{wordAt as sentAt, sav-words, eav-words}
 use Rattle.window.specs.Encoded.{charsOf, AreContent, Encodes, wordIn, IsXyz, Disturbed, wrongAt}
@@ -32,7 +32,7 @@ use Rattle.window.proofs.Repaired.{timing-holds, as-sent, is-xyz, distu
 
 -- words that are those of a span that is sent, apart from its XYZ, have an encoding, with any content bytes
 pub disturbed-encodes :
-    (f : Format) (a : Asked) (words : List ℕ)
+    (f : Format) (a : Request) (words : List ℕ)
     → Disturbed f a words
     → (d : Disparity) (c : ContentBytes)
     → AreContent c
@@ -41,7 +41,7 @@ disturbed-encodes f a words x d c good = record { symbols = refl; content = good
 
 -- an XYZ with two wrong bits does not pass
 timing-fails :
-    (f : Format) (a : Asked) (word : ℕ → ℕ) (t : ℕ)
+    (f : Format) (a : Request) (word : ℕ → ℕ) (t : ℕ)
     → t < streams (shapeOf f)
     → (j : ℕ)
     → IsXyz j
@@ -57,7 +57,7 @@ timing-fails f a word t l j (inr e) d =
     let two : distance w (timing (vOf (lineAfter (a .line))) true) ≡ 2 = rw (e, eav-words f a t l .3) at d in
     rw (e, none-near w (vOf (lineAfter (a .line))) true two)
 
-module _ (f : Format) (a : Asked) (good : Sendable f a) (words : List ℕ) (disturbed : Disturbed f a words) where
+module _ (f : Format) (a : Request) (good : Sendable f a) (words : List ℕ) (disturbed : Disturbed f a words) where
   abbrev s : ℕ
   s = streams (shapeOf f)
 

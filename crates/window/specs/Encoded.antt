@@ -16,7 +16,7 @@ use Rattle.span.specs.Encoding.{symbolsFrom}
 use Rattle.span.specs.Format.{shapeOf, streams, pairsIn}
 use Rattle.span.specs.Layout.{eavStart, savXyz, eavXyz}
 use Rattle.span.specs.Span.{bytes, synchronised, spanWords}
-use Rattle.span.specs.Stream.{Asked}
+use Rattle.span.specs.Stream.{Request}
 use Rattle.word.specs.Repair.{distance}
 use Rattle.window.specs.Read.{placed}
 use Rattle.window.specs.Tests.{holds21, holds22, holds23, holds24, holds25, holds26}
@@ -60,7 +60,7 @@ abbrev pub IsXyz : ℕ → Type 0
 IsXyz j = (j ≡ savXyz) ⊎ (j ≡ eavXyz)
 
 -- twelve-bit words that are those of a span that is sent, apart from its XYZ
-pub record Disturbed (f : Format) (a : Asked) (words : List ℕ) : Type 0 where
+pub record Disturbed (f : Format) (a : Request) (words : List ℕ) : Type 0 where
   pub long : length words ≡ 2 * pairsIn (shapeOf f)
   pub small : (k : ℕ) → k < length words → getD words k 0 < 4096
   pub same :
@@ -71,5 +71,5 @@ pub record Disturbed (f : Format) (a : Asked) (words : List ℕ) : Type 0 where
       → wordIn words k ≡ wordIn (spanWords f a) k
 
 -- in how many bits the word at place k is not the one sent
-abbrev pub wrongAt : Format → Asked → List ℕ → ℕ → ℕ
+abbrev pub wrongAt : Format → Request → List ℕ → ℕ → ℕ
 wrongAt f a words k = distance (wordIn words k) (wordIn (spanWords f a) k)

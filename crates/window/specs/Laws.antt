@@ -25,7 +25,7 @@ use Rattle.span.specs.Format.{shapeOf, streams, pairsIn, symbolsIn, eavAt}
 use Rattle.span.specs.Numbers.{IsFormat, Symbols, Samples}
 use Rattle.span.specs.Sample.{blankWord}
 use Rattle.span.specs.Span.{interleaved, bytes, spanWords, spanSymbols}
-use Rattle.span.specs.Stream.{Asked}
+use Rattle.span.specs.Stream.{Request}
 use Rattle.window.specs.declared.delivery.Delivery.{Delivery}
 use Rattle.window.specs.Encoded.{charsOf, wordIn, Meets}
 use Rattle.window.specs.Read.{placed, contentIn, deliveryOf, pictureOf, readSpan, judgeOf, readOf, rowsRead}
@@ -33,7 +33,7 @@ use Rattle.window.specs.Scan.{symbolAt, startOf, runningAt, holds20}
 use Rattle.window.specs.Tests.{wordOf, holds21, holds22, holds23, holds24, holds25, holds26, lineRead, repairCount}
 use Rattle.word.specs.Received.{hasH}
 use Rattle.window.specs.Words.{fixedByte, wordAt}
-use Rattle.window.specs.Inside.Encoded.{Sendable, askedAgain}
+use Rattle.window.specs.Inside.Encoded.{Sendable, requestAgain}
 
 -- a test holds at all of n places
 abbrev pub Holds : ℕ → (ℕ → Bool) → Type 0
@@ -258,10 +258,10 @@ pub record WindowLaws : Type 0 where
       → i < 4
       → getD (bytes (interleaved (2 * half) 4 (λ _. timingCode v h))) i 0 ≡ fixedByte (2 * half) i
   -- a span that is sent meets tests 21 to 26
-  pub sentMeets : (f : Format) (a : Asked) → Sendable f a → Meets f (wordIn (spanWords f a))
+  pub sentMeets : (f : Format) (a : Request) → Sendable f a → Meets f (wordIn (spanWords f a))
   -- one with one of the ten bits of one symbol inverted is refused
   pub invertedRefused :
-      (f : Format) (a : Asked) (d : Disparity) (i k : ℕ)
+      (f : Format) (a : Request) (d : Disparity) (i k : ℕ)
       → Sendable f a
       → i < symbolsIn (shapeOf f)
       → k < 10
@@ -287,4 +287,4 @@ pub record WindowLaws : Type 0 where
       repairCount s (wordAt (shapeOf f) w) ≡ 0
       → ((j t : ℕ) → 1932 ≤ j → j < 1932 + shapeOf f .ancillary → t < s → word f w j t ≡ blankWord f)
       → (isActive n ≡ false → (j t : ℕ) → 4 ≤ j → j < 1924 → t < s → word f w j t ≡ 0x100)
-      → Sendable f (askedAgain f w) × (w ≡ spanSymbols (startOf w) f (askedAgain f w))
+      → Sendable f (requestAgain f w) × (w ≡ spanSymbols (startOf w) f (requestAgain f w))

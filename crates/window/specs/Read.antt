@@ -1,4 +1,4 @@
--- Reading a span: its tests in the order tried, the answer, and the rows afterwards (document 01, "Receiving and finding" and its table of
+-- Reading a span: its spanTests in the order tried, the answer, and the rows afterwards (document 01, "Receiving and finding" and its table of
 -- refusals).
 -- Assumes nothing.
 use Prim.Native.Nat.{ℕ, _+_, _*_, _/_, _%_}
@@ -26,7 +26,7 @@ lowest number n holds = record { number = number; fails = firstBelow n (λ k. no
 abbrev pub placed : ℕ → (ℕ → ℕ → Bool) → ℕ → Bool
 placed s holds k = holds (k / s) (k % s)
 
--- tests 21 to 26 over the words of a span
+-- spanTests 21 to 26 over the words of a span
 abbrev pub wordTests : Format → (ℕ → ℕ) → List Row
 wordTests f word =
     let s = streams (shapeOf f) in
@@ -39,9 +39,9 @@ wordTests f word =
     ∷ lowest 26 n (placed s (holds26 s word f))
     ∷ []
 
--- all tests of a window, each over the whole of it
-abbrev pub tests : Format → List ℕ → List Row
-tests f w = lowest 20 (symbolsIn (shapeOf f)) (holds20 (shapeOf f) w) ∷ wordTests f (wordAt (shapeOf f) w)
+-- all spanTests of a window, each over the whole of it
+abbrev pub spanTests : Format → List ℕ → List Row
+spanTests f w = lowest 20 (symbolsIn (shapeOf f)) (holds20 (shapeOf f) w) ∷ wordTests f (wordAt (shapeOf f) w)
 
 -- the content bytes: the two behind the special characters of SAV and EAV
 abbrev pub contentIn : Shape → List ℕ → ContentBytes
@@ -57,7 +57,7 @@ contentIn p w =
 abbrev pub repairsOf : ℕ → Repairs
 repairsOf count = record { count = count }
 
--- what is answered where all tests hold
+-- what is answered where all spanTests hold
 unfoldable pub deliveryOf : Format → List ℕ → Delivery
 deliveryOf f w =
     let p = shapeOf f in
@@ -75,14 +75,14 @@ pictureOf f w = rows (streams (shapeOf f)) (wordAt (shapeOf f) w)
 
 -- the reading of a window of a span's length
 unfoldable pub readSpan : Format → List ℕ → Answer Delivery
-readSpan f w = checked (tests f w) (deliveryOf f w)
+readSpan f w = checked (spanTests f w) (deliveryOf f w)
 
 -- ---- the two calls
 
 -- judging a span
 abbrev pub judgeOf : Format → List ℕ → Answer Delivery
 judgeOf f w =
-    checked (unless 1 (isKnown f) ∷ unless 3 (eqb (length w) (symbolsIn (shapeOf f))) ∷ tests f w) (deliveryOf f w)
+    checked (unless 1 (isKnown f) ∷ unless 3 (eqb (length w) (symbolsIn (shapeOf f))) ∷ spanTests f w) (deliveryOf f w)
 
 -- reading it into rows that have so much room
 abbrev pub readOf : Format → List ℕ → ℕ → Answer Delivery
@@ -91,7 +91,7 @@ readOf f w room =
     (unless 1 (isKnown f)
     ∷ unless 3 (eqb (length w) (symbolsIn (shapeOf f)))
     ∷ unless 4 (eqb room (samplesIn (shapeOf f)))
-    ∷ tests f w)
+    ∷ spanTests f w)
     (deliveryOf f w)
 
 -- the rows afterwards: as they were where the number is below 20, else zero; the picture of a span that is delivered

@@ -11,7 +11,7 @@ use Rattle.span.specs.declared.format.Shape.{Shape}
 use Rattle.span.specs.Format.{streams, eavAt}
 use Rattle.span.specs.Span.{interleaved, bytes}
 use Rattle.packing.specs.declared.bytes.TwoWords.{TwoWords}
-use Rattle.packing.specs.Bytes.{wordsOf}
+use Rattle.packing.specs.Bytes.{unpacked}
 use Rattle.word.specs.Timing.{timingCode}
 use Rattle.window.specs.Scan.{byteOf, symbolAt}
 
@@ -29,7 +29,7 @@ byteAt p w i =
 -- pair q of its words
 unfoldable pub pairAt : Shape → List ℕ → ℕ → TwoWords
 pairAt p w q =
-    wordsOf (record { first = byteAt p w (3 * q); second = byteAt p w (3 * q + 1); third = byteAt p w (3 * q + 2) })
+    unpacked (record { first = byteAt p w (3 * q); second = byteAt p w (3 * q + 1); third = byteAt p w (3 * q + 2) })
 
 -- interleaved word k
 unfoldable pub wordAt : Shape → List ℕ → ℕ → ℕ

@@ -15,7 +15,7 @@ use Rattle.ground.proofs.Ranges.{is-within, is-above, from-low, to-high}
 use Rattle.ground.proofs.Searches.{is-only, is-miss}
 use Rattle.ground.proofs.Tests.{both-left, both-right}
 use Rattle.line.specs.Stream.{isLine}
-use Rattle.word.specs.LineNumber.{ln0, ln1, lineWords, numberedOf, names, lineOf, namedOf}
+use Rattle.word.specs.LineNumber.{ln0, ln1, lineWords, numberedOf, areWordsOf, lineOf, namedOf}
 use Rattle.word.specs.Word.{guarded}
 use Rattle.word.proofs.Words.{both-words, not-both-words}
 use Rattle.word.proofs.Guards.{guard-kept, guard-below}
@@ -51,7 +51,7 @@ different m n h l p q = sym (number-again m h) ∙ ap₂ numberIn p q ∙ number
 
 -- ---- the line that two words name
 
-module _ (a b n : ℕ) (t : names a b n ≡ true) where
+module _ (a b n : ℕ) (t : areWordsOf a b n ≡ true) where
   at-words : (eqb (ln0 n) a && eqb (ln1 n) b) ≡ true
   at-words = both-right (isLine n) (eqb (ln0 n) a && eqb (ln1 n) b) t
 
@@ -68,21 +68,21 @@ module _ (a b n : ℕ) (t : names a b n ≡ true) where
   named-number =
       sym (number-again n (omega (arith, to-high 1 1125 n named-is-line))) ∙ ap₂ numberIn named-ln0 named-ln1
 
-pub names-line : (a b : ℕ) → names a b (numberIn a b) ≡ true → lineOf a b ≡ some (numberIn a b)
+pub names-line : (a b : ℕ) → areWordsOf a b (numberIn a b) ≡ true → lineOf a b ≡ some (numberIn a b)
 unfolding lineOf
 names-line a b t =
-    is-only (names a b) 1126 (numberIn a b) (omega (arith, to-high 1 1125 (numberIn a b) (named-is-line a b (numberIn a b) t))) t
+    is-only (areWordsOf a b) 1126 (numberIn a b) (omega (arith, to-high 1 1125 (numberIn a b) (named-is-line a b (numberIn a b) t))) t
     (λ n h e. named-number a b n e)
 
-pub names-none : (a b : ℕ) → names a b (numberIn a b) ≡ false → lineOf a b ≡ none
+pub names-none : (a b : ℕ) → areWordsOf a b (numberIn a b) ≡ false → lineOf a b ≡ none
 unfolding lineOf
 names-none a b f =
-    is-miss (names a b) 1126
+    is-miss (areWordsOf a b) 1126
     (record {
       never =
           λ n h l.
-          on-test (names a b n)
-          (λ t. absurd (true≢false (sym t ∙ ap (names a b) (named-number a b n t) ∙ f)))
+          on-test (areWordsOf a b n)
+          (λ t. absurd (true≢false (sym t ∙ ap (areWordsOf a b) (named-number a b n t) ∙ f)))
           (λ t. t);
     })
 
@@ -92,7 +92,7 @@ module _ (n : ℕ) (p : 1 ≤ n) (q : n ≤ 1125) where
   pub line-good : numberedOf n ≡ given (lineWords n)
   line-good = simp (is-within 1 1125 n p q)
 
-  sent-named : names (ln0 n) (ln1 n) n ≡ true
+  sent-named : areWordsOf (ln0 n) (ln1 n) n ≡ true
   sent-named = simp (is-within 1 1125 n p q, eq-eqb (ln0 n) (ln0 n) refl, eq-eqb (ln1 n) (ln1 n) refl)
 
   -- the words of a line name it
@@ -117,8 +117,8 @@ no-line n h = let p : 1 ≤ n = omega arith in simp (is-above 1 1125 n p h)
 pub meets-22 : (a b : ℕ) → a ≤ 4095 → b ≤ 4095 → ((n : ℕ) → 1 ≤ n → n ≤ 1125 → ln0 n ≡ a → ln1 n ≡ b → ⊥) → namedOf a b ≡ refused 22 0
 meets-22 a b h l f =
     let m = numberIn a b in
-    let none-named : names a b m ≡ false =
-    on-test (names a b m)
+    let none-named : areWordsOf a b m ≡ false =
+    on-test (areWordsOf a b m)
     (λ t.
     absurd
     (f m (from-low 1 1125 m (named-is-line a b m t)) (to-high 1 1125 m (named-is-line a b m t)) (named-ln0 a b m t) (named-ln1 a b m t)))

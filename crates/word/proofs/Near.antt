@@ -16,7 +16,8 @@ use Rattle.ground.proofs.Bits.{ones-low}
 use Rattle.ground.proofs.Searches.{hit}
 use Rattle.word.specs.declared.repair.Repaired.{Repaired}
 use Rattle.word.specs.Repair.{distance, legalWord, near, nearest, repairOf}
-use Rattle.word.specs.Timing.{bit, timing}
+use Rattle.word.specs.Timing.{timing}
+use Rattle.ground.specs.Bit.{bit}
 use Rattle.word.specs.Received.{hasH, isTiming, repaired, vIn, wrongBits}
 
 -- ---- out of the repair of a word

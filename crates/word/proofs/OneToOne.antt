@@ -4,7 +4,7 @@ use mathlib.Core.Path.{_≡_, refl}
 use mathlib.Core.Bool.{cond}
 use lib.Dec.{eqb}
 use Rattle.ground.specs.Answer.{Answer, refused, given}
-use Rattle.ground.specs.Inside.Answer.{OneToOne}
+use Rattle.ground.specs.Inside.Answer.{Injective}
 use Rattle.ground.proofs.Answers.{told-again}
 use Rattle.line.specs.declared.stream.StreamLine.{StreamLine}
 use Rattle.word.specs.declared.line_number.LineWords.{LineWords}
@@ -22,7 +22,7 @@ abbrev repairAgain : Answer Repaired → Repair
 repairAgain (refused n place) = cond (eqb n 7) Repair.Above4095 Repair.BeyondRepair
 repairAgain (given r) = Repair.Word r
 
-pub repair-one-to-one : OneToOne paperRepair
+pub repair-one-to-one : Injective paperRepair
 repair-one-to-one = told-again repairAgain again
   where
     again : (r : Repair) → repairAgain (paperRepair r) ≡ r
@@ -34,7 +34,7 @@ abbrev numberedAgain : Answer LineWords → Numbered
 numberedAgain (refused n place) = Numbered.NoLine
 numberedAgain (given w) = Numbered.Words w
 
-pub numbered-one-to-one : OneToOne paperNumbered
+pub numbered-one-to-one : Injective paperNumbered
 numbered-one-to-one = told-again numberedAgain again
   where
     again : (r : Numbered) → numberedAgain (paperNumbered r) ≡ r
@@ -45,7 +45,7 @@ abbrev namedAgain : Answer StreamLine → Named
 namedAgain (refused n place) = cond (eqb n 7) Named.Above4095 Named.Nameless
 namedAgain (given l) = Named.Line l
 
-pub named-one-to-one : OneToOne paperNamed
+pub named-one-to-one : Injective paperNamed
 named-one-to-one = told-again namedAgain again
   where
     again : (r : Named) → namedAgain (paperNamed r) ≡ r

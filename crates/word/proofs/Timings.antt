@@ -4,7 +4,8 @@ use mathlib.Core.Path.{_≡_, refl}
 use mathlib.Core.Bool.{Bool, true, false}
 use Prim.Native.Nat.{_/_, _%_, _^_, _<_}
 use native.Mathlib.Omega.{arith}
-use Rattle.word.specs.Timing.{bit, timing}
+use Rattle.word.specs.Timing.{timing}
+use Rattle.ground.specs.Bit.{bit}
 
 pub v-told : (v h : Bool) → timing v h / 2 ^ 9 % 2 ≡ bit v
 unfolding timing

@@ -7,10 +7,11 @@ use mathlib.Core.List.{map}
 use mathlib.Core.Logic.{_⊎_}
 use lib.Dec.{eqb}
 use Rattle.ground.specs.Answer.{refused, given}
-use Rattle.ground.specs.Inside.Answer.{OneToOne}
+use Rattle.ground.specs.Inside.Answer.{Injective}
 use Rattle.word.specs.LineNumber.{ln0, ln1, lineWords, paperNumbered, numberedOf, paperNamed, namedOf}
 use Rattle.word.specs.Repair.{distance, legalWord, paperRepair, repairOf}
-use Rattle.word.specs.Timing.{bit, timing}
+use Rattle.word.specs.Timing.{timing}
+use Rattle.ground.specs.Bit.{bit}
 use Rattle.word.specs.Values.{Value, values}
 use Rattle.word.specs.Word.{guarded}
 
@@ -49,6 +50,6 @@ pub record WordLaws : Type 0 where
   -- the lost recital: LN0 of line 128 and LN1 of line 127 name no line
   pub recital : namedOf (ln0 128) (ln1 127) ≡ refused 22 0
   -- the paper's number and values tell any two answers of a call apart, so that a promise about them fixes the answer
-  pub repairTold : OneToOne paperRepair
-  pub numberedTold : OneToOne paperNumbered
-  pub namedTold : OneToOne paperNamed
+  pub repairTold : Injective paperRepair
+  pub numberedTold : Injective paperNumbered
+  pub namedTold : Injective paperNamed

@@ -36,12 +36,12 @@ abbrev pub numberedOf : ℕ → Answer LineWords
 numberedOf n = checked (unless 2 (isLine n) ∷ []) (lineWords n)
 
 -- words a b are, bit for bit, what is sent for line n
-abbrev pub names : ℕ → ℕ → ℕ → Bool
-names a b n = isLine n && (eqb (ln0 n) a && eqb (ln1 n) b)
+abbrev pub areWordsOf : ℕ → ℕ → ℕ → Bool
+areWordsOf a b n = isLine n && (eqb (ln0 n) a && eqb (ln1 n) b)
 
 -- the line that two words name, if there is one
 unfoldable pub lineOf : ℕ → ℕ → Option ℕ
-lineOf a b = firstBelow 1126 (names a b)
+lineOf a b = firstBelow 1126 (areWordsOf a b)
 
 abbrev pub paperNamed : Named → Answer StreamLine
 paperNamed (Line l) = given l

@@ -6,7 +6,8 @@ use mathlib.Core.Option.{Option, none, some, Option·getD}
 use lib.Dec.{eqb, ltb}
 use lib.ListN.{getD}
 use Rattle.word.specs.Repair.{distance, legalWord, nearest}
-use Rattle.word.specs.Timing.{bit, timingCode}
+use Rattle.word.specs.Timing.{timingCode}
+use Rattle.ground.specs.Bit.{bit}
 
 -- H of the legal word that is near is h
 abbrev pub hasH : Bool → Option ℕ → Bool

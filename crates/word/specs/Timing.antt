@@ -1,8 +1,9 @@
 -- The timing reference code (004, 6.2, tables 6 and 7).
 -- Assumes nothing.
 use Prim.Native.Nat.{ℕ, _+_, _*_, _^_}
-use mathlib.Core.Bool.{Bool, true, false, cond}
+use mathlib.Core.Bool.{Bool, true, false}
 use mathlib.Core.List.{List, [], _∷_}
+use Rattle.ground.specs.Bit.{bit}
 
 -- table 7: P3 P2 P1 P0 for V and H
 abbrev pub protection : Bool → Bool → ℕ
@@ -10,9 +11,6 @@ protection false false = 0b0000
 protection false true = 0b1101
 protection true false = 0b1011
 protection true true = 0b0110
-
-abbrev pub bit : Bool → ℕ
-bit b = cond b 1 0
 
 -- table 6, word 4, b11 down to b0: 1, F, V, H, P3, P2, P1, P0, 0, 0, 0, 0; F is 0
 unfoldable pub timing : Bool → Bool → ℕ

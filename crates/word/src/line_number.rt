@@ -1,7 +1,7 @@
 // The two words of a line number (004, 6.3).
 use line::stream::StreamLine;
 ghost use mathlib.Core.Path.{_≡_};
-ghost use Rattle.word.specs.LineNumber.{lineWords, paperNumbered, numberedOf, names, paperNamed, namedOf};
+ghost use Rattle.word.specs.LineNumber.{lineWords, paperNumbered, numberedOf, areWordsOf, paperNamed, namedOf};
 
 pub struct LineWords {
     pub ln0: u16,
@@ -45,7 +45,7 @@ pub fn line_words(l: StreamLine) -> Numbered
 
 // Whether a stream has the line, and both words are what is sent for it.
 fn are_words_of(given: StreamLine, ln0: u16, ln1: u16) -> bool
-    ensures { λ r. ⌜ r ≡ names ln0 ln1 (given .0) ⌝ }
+    ensures { λ r. ⌜ r ≡ areWordsOf ln0 ln1 (given .0) ⌝ }
 {
     if line::stream::is_line(given) {
         let sent = words_of(given);

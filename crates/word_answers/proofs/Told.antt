@@ -3,7 +3,7 @@
 use mathlib.Core.Path.{_≡_, refl}
 use Prim.Native.Nat.{ℕ}
 use Rattle.ground.specs.Answer.{Answer}
-use Rattle.ground.specs.Inside.Answer.{OneToOne}
+use Rattle.ground.specs.Inside.Answer.{Injective}
 use Rattle.line.specs.declared.stream.StreamLine.{StreamLine}
 use Rattle.word.specs.declared.line_number.LineWords.{LineWords}
 use Rattle.word.specs.declared.line_number.Numbered.{Numbered}
@@ -30,7 +30,7 @@ use Rattle.boundary.proofs.Told.{through, answerBy}
 lineWordsBack : LineWordsAnswer → Answer LineWords
 lineWordsBack w = answerBy (w .number) 0 (record { ln0 = w .ln0; ln1 = w .ln1 })
 
-pub line-words-told : OneToOne (λ (r : Numbered). lineWordsAnswerOf (paperNumbered r))
+pub line-words-told : Injective (λ (r : Numbered). lineWordsAnswerOf (paperNumbered r))
 unfolding lineWordsBack
 line-words-told = through lineWordsAnswerOf lineWordsBack back numbered-one-to-one
   where
@@ -41,7 +41,7 @@ line-words-told = through lineWordsAnswerOf lineWordsBack back numbered-one-to-o
 lineBack : ReadLineWordsAnswer → Answer StreamLine
 lineBack l = answerBy (l .number) 0 (record { 0 = l .line })
 
-pub read-line-words-told : OneToOne (λ (r : Named). readLineWordsAnswerOf (paperNamed r))
+pub read-line-words-told : Injective (λ (r : Named). readLineWordsAnswerOf (paperNamed r))
 unfolding lineBack
 read-line-words-told = through readLineWordsAnswerOf lineBack back named-one-to-one
   where
@@ -53,7 +53,7 @@ read-line-words-told = through readLineWordsAnswerOf lineBack back named-one-to-
 repairBack : RepairAnswer → Answer Repaired
 repairBack w = answerBy (w .number) 0 (record { word = w .word; distance = w .distance })
 
-pub repair-told : OneToOne (λ (r : Repair). repairAnswerOf (paperRepair r))
+pub repair-told : Injective (λ (r : Repair). repairAnswerOf (paperRepair r))
 unfolding repairBack
 repair-told = through repairAnswerOf repairBack back repair-one-to-one
   where
@@ -65,7 +65,7 @@ repair-told = through repairAnswerOf repairBack back repair-one-to-one
 crccBack : CrccAnswer → Answer ℕ
 crccBack w = answerBy (w .number) 0 (w .crc)
 
-pub crcc-told : OneToOne (λ (r : Crcc). crccAnswerOf (paperCrcc r))
+pub crcc-told : Injective (λ (r : Crcc). crccAnswerOf (paperCrcc r))
 unfolding crccBack
 crcc-told = through crccAnswerOf crccBack back crcc-one-to-one
   where

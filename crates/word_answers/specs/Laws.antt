@@ -1,7 +1,7 @@
 -- What holds of the answers of the calls on words to C: no two answers of the library cross as the same, so the number and the fields fix what
 -- was answered. `proofs/Laws` proves each.
 -- Assumes nothing.
-use Rattle.ground.specs.Inside.Answer.{OneToOne}
+use Rattle.ground.specs.Inside.Answer.{Injective}
 use Rattle.word.specs.declared.line_number.Numbered.{Numbered}
 use Rattle.word.specs.declared.line_number.Named.{Named}
 use Rattle.word.specs.declared.repair.Repair.{Repair}
@@ -13,10 +13,10 @@ use Rattle.word_answers.specs.Words.{lineWordsAnswerOf, readLineWordsAns
 
 pub record WordAnswersLaws : Type 0 where
   -- the words of a line
-  pub lineWordsTold : OneToOne (λ (r : Numbered). lineWordsAnswerOf (paperNumbered r))
+  pub lineWordsTold : Injective (λ (r : Numbered). lineWordsAnswerOf (paperNumbered r))
   -- the line of two words
-  pub readLineWordsTold : OneToOne (λ (r : Named). readLineWordsAnswerOf (paperNamed r))
+  pub readLineWordsTold : Injective (λ (r : Named). readLineWordsAnswerOf (paperNamed r))
   -- the repair of a timing word
-  pub repairTold : OneToOne (λ (r : Repair). repairAnswerOf (paperRepair r))
+  pub repairTold : Injective (λ (r : Repair). repairAnswerOf (paperRepair r))
   -- the CRCC of a run of words
-  pub crccTold : OneToOne (λ (r : Crcc). crccAnswerOf (paperCrcc r))
+  pub crccTold : Injective (λ (r : Crcc). crccAnswerOf (paperCrcc r))

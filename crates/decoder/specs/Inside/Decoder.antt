@@ -13,16 +13,17 @@ use Rattle.symbol.specs.declared.disparity.Disparity.{Disparity}
 use Rattle.symbol.specs.declared.disparity.Disparity.the-variants.{Negative, Positive}
 use Rattle.symbol.specs.Character.{characterOf}
 use Rattle.symbol.specs.Code.{charOf}
-use Rattle.symbol.specs.Inside.Code.{turns, bit}
-use Rattle.symbol.specs.Inside.Disparity.{turnedIf}
+use Rattle.symbol.specs.Inside.Code.{flips}
+use Rattle.ground.specs.Bit.{bit}
+use Rattle.symbol.specs.Inside.Disparity.{flippedIf}
 use Rattle.decoder.specs.Decode.{After}
 use Rattle.decoder.specs.Meaning.{Means, meantBy}
 
 -- an entry: the character's number in bits 0 to 8, bit 9 where it is legal at negative disparity, bit 10 at positive, and bits 11 and 12
--- where it turns the disparity, and bit 13 where it is a byte; 0 for no symbol
+-- where it flips the disparity, and bit 13 where it is a byte; 0 for no symbol
 abbrev pub entryFrom : Option ℕ → Bool → Bool → ℕ
 entryFrom none n p = 0
-entryFrom (some c) n p = c + 512 * bit n + 1024 * bit p + 6144 * bit (turns c) + 8192 * bit (ltb c 256)
+entryFrom (some c) n p = c + 512 * bit n + 1024 * bit p + 6144 * bit (flips c) + 8192 * bit (ltb c 256)
 
 unfoldable pub entryOf : ℕ → ℕ
 entryOf s = entryFrom (meantBy s) (isSome (charOf Negative s)) (isSome (charOf Positive s))
@@ -40,7 +41,7 @@ legalBit Negative e = eqb (e / 512 % 2) 1
 legalBit Positive e = eqb (e / 1024 % 2) 1
 
 abbrev pub entryAfter : Disparity → ℕ → Disparity
-entryAfter d e = turnedIf (eqb (e / 2048 % 2) 1) d
+entryAfter d e = flippedIf (eqb (e / 2048 % 2) 1) d
 
 abbrev pub decodedBy : Disparity → ℕ → Answer After
 decodedBy d e =

@@ -5,6 +5,6 @@ use Prim.Native.Nat.{ℕ, zero, suc}
 use mathlib.Core.List.{List}
 
 -- which of the two rows has a w: the first has 0, the second 1
-abbrev pub rowBy : ℕ → List ℕ → List ℕ → List ℕ
-rowBy zero first second = first
-rowBy (suc w) first second = second
+abbrev pub rowWith : ℕ → List ℕ → List ℕ → List ℕ
+rowWith zero first second = first
+rowWith (suc w) first second = second

@@ -9,7 +9,7 @@ use Rattle.symbol.specs.declared.disparity.Disparity.{Disparity}
 use Rattle.symbol.specs.declared.disparity.Disparity.the-variants.{Negative, Positive}
 use Rattle.symbol.specs.Character.{characters}
 use Rattle.symbol.specs.Code.{symbolOf}
-use Rattle.symbol.specs.Inside.Code.{turns}
+use Rattle.symbol.specs.Inside.Code.{flips}
 
 -- where the symbols of a disparity begin
 abbrev pub offsetOf : Disparity → ℕ
@@ -23,7 +23,7 @@ ofOffset n = cond (eqb n 0) Negative Positive
 unfoldable pub symbolTable : List ℕ
 symbolTable = table 536 (λ i. symbolOf (ofOffset (i / 268)) (i % 268))
 
--- 268 for a character that turns the disparity, else 0: the offset after it is the exclusive or of the offset before it with this
+-- 268 for a character that flips the disparity, else 0: the offset after it is the exclusive or of the offset before it with this
 -- (law `after-at`)
-unfoldable pub turnTable : List ℕ
-turnTable = table 268 (λ c. cond (turns c) 268 0)
+unfoldable pub flipTable : List ℕ
+flipTable = table 268 (λ c. cond (flips c) 268 0)

@@ -18,8 +18,8 @@ restOf s = lowFirst (signalFrom (s .disparity) (s .format) (spansFrom (s .format
 unfoldable pub spanBytes : Left → List ℕ
 spanBytes s = lowFirst (spanSymbols (s .disparity) (s .format) (spanOn (s .format) (s .line .0)))
 
-abbrev pub nextOf : Left → Left
-nextOf s =
+abbrev pub nextLeft : Left → Left
+nextLeft s =
     record {
       format = s .format;
       line = record { 0 = lineAfter (s .line .0) };

@@ -4,5 +4,5 @@
 use mathlib.Core.Path.{_≡_}
 
 -- a reading of answers that tells any two of them apart, so that a promise about the reading fixes the answer
-abbrev pub OneToOne : {A B : Type 0} → (A → B) → Type 0
-OneToOne {A} f = (a b : A) → f a ≡ f b → a ≡ b
+abbrev pub Injective : {A B : Type 0} → (A → B) → Type 0
+Injective {A} f = (a b : A) → f a ≡ f b → a ≡ b

@@ -11,8 +11,8 @@ use Rattle.ground.specs.Written.{table}
 use Rattle.span.specs.declared.format.Shape.{Shape}
 use Rattle.window.specs.Inside.Columns.{columnOf}
 use Rattle.window.specs.Inside.Given.{plainPair}
-use Rattle.read_test20.specs.Inside.Run.{Going}
-use Rattle.read_test20.specs.Inside.See.{seenThree, seenSix, Clean, maskBy}
+use Rattle.read_test20.specs.Inside.Run.{RunInv}
+use Rattle.read_test20.specs.Inside.See.{seenThree, seenSix, GatherInv, maskBy}
 
 -- word i of the picture, of streams 2u and 2u + 1 of so many pairs
 abbrev pub pairIn : ℕ → List ℕ → ℕ → ℕ → TwoWords
@@ -41,7 +41,7 @@ abbrev pub rowsFour : List ℕ → ℕ → List ℕ → List ℕ
 rowsFour w j rows = putPair (plainPair w (24 + 6 * j + 3)) (3840 + j) (putPair (plainPair w (24 + 6 * j)) j rows)
 
 -- words 0 to j - 1 of two streams, in rows of so many words
-pub record Taken (A B : ℕ → ℕ) (count low high : ℕ) (old : List ℕ) (j : ℕ) (rows : List ℕ) : Type 0 where
+pub record TwoRowsInv (A B : ℕ → ℕ) (count low high : ℕ) (old : List ℕ) (j : ℕ) (rows : List ℕ) : Type 0 where
   pub some : j ≤ count
   pub apart : high ≡ low + count
   pub put : rows ≡ sets (sets old low (table j A)) high (table j B)
@@ -49,12 +49,12 @@ pub record Taken (A B : ℕ → ℕ) (count low high : ℕ) (old : List ℕ) (j 
 -- the first j words of streams 2u and 2u + 1 have been put into a buffer, from place `low` on
 abbrev pub PutPairs : ℕ → List ℕ → ℕ → ℕ → List ℕ → ℕ → List ℕ → Type 0
 PutPairs half w u low old j rows =
-    Taken (λ i. pairIn half w u i .a) (λ i. pairIn half w u i .b) 1920 low (low + 1920) old j rows
+    TwoRowsInv (λ i. pairIn half w u i .a) (λ i. pairIn half w u i .b) 1920 low (low + 1920) old j rows
 
 -- the first j words of all streams have been taken: those of two into a buffer, and those of the other two, where there are four, into the
 -- buffer with these
-pub record Got (half : ℕ) (w old : List ℕ) (j : ℕ) (v : Passed) (rows : List ℕ) : Type 0 where
-  pub clean : Clean w (12 * half) (12 * half + 3 * half * j) (v .good) (v .turns)
+pub record RowsInv (half : ℕ) (w old : List ℕ) (j : ℕ) (v : Passed) (rows : List ℕ) : Type 0 where
+  pub clean : GatherInv w (12 * half) (12 * half + 3 * half * j) (v .good) (v .turns)
   pub low-rows : List ℕ
   pub low : PutPairs half w 0 0 old j low-rows
   pub two : half ≡ 1 → rows ≡ low-rows
@@ -63,7 +63,7 @@ pub record Got (half : ℕ) (w old : List ℕ) (j : ℕ) (v : Passed) (rows : Li
 -- so many words of each stream are as they should be, and behind them this has been gathered
 pub record Come (half : ℕ) (w : List ℕ) (j turns : ℕ) : Type 0 where
   pub some : j ≤ 1920
-  pub going : Going w 0 255 (12 * half) (12 * half + 3 * half * j) (maskBy turns)
+  pub going : RunInv w 0 255 (12 * half) (12 * half + 3 * half * j) (maskBy turns)
 
 -- the rows of these two streams put into a buffer of rows of so many words
 abbrev pub putTwo : Shape → List ℕ → ℕ → ℕ → ℕ → List ℕ → List ℕ

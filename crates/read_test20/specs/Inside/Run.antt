@@ -23,7 +23,7 @@ unfoldable pub suits : List ℕ → ℕ → ℕ → ℕ → Bool
 suits w low high i = isSome (charOf (runningAt w i) (symbolAt w i)) && within low high (meant (symbolAt w i))
 
 -- a run from one place on has come to i, with this bit: every symbol suits
-pub record Going (w : List ℕ) (low high from i mask : ℕ) : Type 0 where
+pub record RunInv (w : List ℕ) (low high from i mask : ℕ) : Type 0 where
   pub come : from ≤ i
   pub bit : mask ≡ maskOf (runningAt w i)
   pub suited : (j : ℕ) → from ≤ j → j < i → suits w low high j ≡ true
@@ -33,7 +33,7 @@ abbrev pub holdsBy : Shape → ℕ → ℕ → ℕ → Bool
 holdsBy p i mask e = legalBy mask e && fits p i (e % 512)
 
 -- test 20 holds at every symbol before i, and this is the bit there
-pub record Reached (p : Shape) (w : List ℕ) (i mask : ℕ) : Type 0 where
+pub record ScanInv (p : Shape) (w : List ℕ) (i mask : ℕ) : Type 0 where
   pub within : i ≤ length w
   pub bit : mask ≡ maskOf (runningAt w i)
   pub held : (j : ℕ) → j < i → holds20 p w j ≡ true

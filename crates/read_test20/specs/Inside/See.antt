@@ -13,7 +13,7 @@ use Rattle.window.specs.Inside.Given.{plainPair}
 use Rattle.read_test20.specs.declared.see.Seen.{Seen}
 use Rattle.read_test20.specs.declared.see.Six.{Six}
 use Rattle.read_test20.specs.declared.see.Three.{Three}
-use Rattle.read_test20.specs.Inside.Run.{suits, Going}
+use Rattle.read_test20.specs.Inside.Run.{suits, RunInv}
 
 -- each symbol has ten bits
 pub record TenBits (w : List ℕ) : Type 0 where
@@ -53,8 +53,8 @@ pub record AreBytes (w : List ℕ) (from to : ℕ) : Type 0 where
   pub each : (j : ℕ) → from ≤ j → j < to → suits w 0 255 j ≡ true
 
 -- nothing is missing just where all symbols up to i are such bytes
-pub record Clean (w : List ℕ) (from i good turns : ℕ) : Type 0 where
+pub record GatherInv (w : List ℕ) (from i good turns : ℕ) : Type 0 where
   pub come : from ≤ i
   pub fits : turns < 16384
-  pub clean : passesBy good ≡ true → Going w 0 255 from i (maskBy turns)
+  pub clean : passesBy good ≡ true → RunInv w 0 255 from i (maskBy turns)
   pub kept : AreBytes w from i → passesBy good ≡ true

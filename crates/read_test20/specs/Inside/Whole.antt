@@ -16,7 +16,7 @@ use Rattle.window.specs.Tests.{rows as rowsOf}
 use Rattle.window.specs.Words.{wordAt}
 use Rattle.window.specs.Inside.Columns.{sumsOf}
 use Rattle.read_test20.specs.declared.whole.Taken.{Taken}
-use Rattle.read_test20.specs.Inside.Run.{suits, Going, place20, scannedOf}
+use Rattle.read_test20.specs.Inside.Run.{suits, RunInv, place20, scannedOf}
 use Rattle.read_test20.specs.Inside.See.{maskBy}
 
 -- a special character at a place and behind it, legal there
@@ -45,21 +45,21 @@ pub record Tied (w : List ℕ) (i turns : ℕ) : Type 0 where
 pub record Begun (w : List ℕ) (turns : ℕ) : Type 0 where
   pub fits : turns < 16384
   pub start : startOf w ≡ ofMask (maskBy turns)
-  pub going : Going w 261 261 0 2 (maskBy turns)
+  pub going : RunInv w 261 261 0 2 (maskBy turns)
 
 -- K29.7 twice
-pub record Stays (w : List ℕ) (at turns : ℕ) : Type 0 where
-  pub going : maskBy turns ≡ maskOf (runningAt w at) → Going w 266 266 at (at + 2) (maskBy turns)
+pub record EavHolds (w : List ℕ) (at turns : ℕ) : Type 0 where
+  pub going : maskBy turns ≡ maskOf (runningAt w at) → RunInv w 266 266 at (at + 2) (maskBy turns)
 
 -- bytes from one place to another, and what has been gathered then
 pub record RunTo (w : List ℕ) (from to turns : ℕ) : Type 0 where
   pub fits : turns < 16384
-  pub going : Going w 0 255 from to (maskBy turns)
+  pub going : RunInv w 0 255 from to (maskBy turns)
 
 -- all that stands behind the picture
 pub record Ending (p : Shape) (w : List ℕ) (turns after : ℕ) : Type 0 where
-  pub eav : Going w 266 266 (5772 * p .half) (5772 * p .half + 2) (maskBy turns)
-  pub bytes : Going w 0 255 (5772 * p .half + 2) (length w) (maskBy after)
+  pub eav : RunInv w 266 266 (5772 * p .half) (5772 * p .half + 2) (maskBy turns)
+  pub bytes : RunInv w 0 255 (5772 * p .half + 2) (length w) (maskBy after)
 
 -- a window for which test 20 holds: its disparities, the CRC of each stream over its picture words, and these words stream by stream
 pub record Wholly (p : Shape) (w : List ℕ) (r : Taken) (rows : List ℕ) : Type 0 where

@@ -24,7 +24,7 @@ use Rattle.window.specs.Words.{wordAt}
 use Rattle.window.specs.Inside.Given.{Given}
 
 -- what is known besides: the line that stream 1 names
-pub record Told (p : Shape) (t w : List ℕ) (next : StreamLine) : Type 0 where
+pub record LineKnown (p : Shape) (t w : List ℕ) (next : StreamLine) : Type 0 where
   pub given : Given p t w
   pub named : next .0 ≡ nextLine (streams p) (wordAt p w)
 
@@ -36,8 +36,8 @@ abbrev pub fill26 : ℕ → (ℕ → ℕ) → ℕ → ℕ → Bool
 fill26 s word j t = eqb (wordOf s word j t) fillWord
 
 -- the CRCC words of stream t, whose picture leaves c
-unfoldable pub crccBehind : Shape → List ℕ → ℕ → ℕ → CrccWords
-crccBehind p w t c =
+unfoldable pub crccReceived : Shape → List ℕ → ℕ → ℕ → CrccWords
+crccReceived p w t c =
     let s = streams p in
     crccWords
     (crc c (column s (wordAt p w) 1924 3 t ++ (repaired (wordOf s (wordAt p w) 1927 t) ∷ column s (wordAt p w) 1928 2 t)))
@@ -46,8 +46,8 @@ crccBehind p w t c =
 unfoldable pub holds24By : Shape → List ℕ → Sums → ℕ → ℕ → Bool
 holds24By p w c j t =
     let word = wordOf (streams p) (wordAt p w) j t in
-    cond (eqb j 1930) (eqb word (crccBehind p w t (sumIn c t) .crcc0))
-    (cond (eqb j 1931) (eqb word (crccBehind p w t (sumIn c t) .crcc1)) true)
+    cond (eqb j 1930) (eqb word (crccReceived p w t (sumIn c t) .crcc0))
+    (cond (eqb j 1931) (eqb word (crccReceived p w t (sumIn c t) .crcc1)) true)
 
 -- the test with a number
 unfoldable pub holdsOf : ℕ → Format → Shape → List ℕ → Sums → ℕ → ℕ → Bool

@@ -11,5 +11,5 @@ allAllowed depth [] = true
 allAllowed depth (x ∷ xs) = allowedWord depth x && allAllowed depth xs
 
 -- 1 where a word may not
-abbrev pub wrongOf : ℕ → ℕ → ℕ
-wrongOf depth w = cond (allowedWord depth w) 0 1
+abbrev pub wrongFlag : ℕ → ℕ → ℕ
+wrongFlag depth w = cond (allowedWord depth w) 0 1

@@ -32,20 +32,20 @@ abbrev pub commaAt : List ℕ → ℕ → ℕ → ℕ
 commaAt r from k = commaIn (getD r (from + k) 0)
 
 -- 1 where it is and the next one too
-abbrev pub pairAt : List ℕ → ℕ → ℕ → ℕ
-pairAt r from k = bitAnd (commaAt r from k) (commaIn (getD r (from + k + 1) 0))
+abbrev pub commaPair : List ℕ → ℕ → ℕ → ℕ
+commaPair r from k = bitAnd (commaAt r from k) (commaIn (getD r (from + k + 1) 0))
 
 -- ---- where a span may begin
 
 -- the symbols behind its first two that are looked at
-abbrev pub near : ℕ
-near = 128
+abbrev pub lookAhead : ℕ
+lookAhead = 128
 
--- it may begin at q: K28.5 stands there twice, and not again near behind
+-- it may begin at q: K28.5 stands there twice, and not again lookAhead behind
 abbrev pub mayBegin : List ℕ → ℕ → Bool
-mayBegin r q = isComma (getD r q 0) && (isComma (getD r (q + 1) 0) && eqb (gathered near (commaAt r (q + 2))) 0)
+mayBegin r q = isComma (getD r q 0) && (isComma (getD r (q + 1) 0) && eqb (gathered lookAhead (commaAt r (q + 2))) 0)
 
 -- q is at or after a place, and no span begins from that place on before q
-pub record Passed (r : List ℕ) (from q : ℕ) : Type 0 where
+pub record LookInv (r : List ℕ) (from q : ℕ) : Type 0 where
   pub at : from ≤ q
   pub none : (j : ℕ) → from ≤ j → j < q → mayBegin r j ≡ false

@@ -5,15 +5,15 @@ use Prim.Native.Nat.{ℕ, zero, suc}
 use mathlib.Core.List.{List, [], _∷_}
 use Rattle.symbol.specs.declared.disparity.Disparity.{Disparity}
 use Rattle.span.specs.Span.{signalFrom}
-use Rattle.span.specs.Stream.{Asked}
+use Rattle.span.specs.Stream.{Request}
 use Rattle.reception.specs.Link.{link}
-use Rattle.rig.specs.Sending.{askedOn}
+use Rattle.rig.specs.Sending.{requestOn}
 
 -- on m lines from line n on
-unfoldable pub askedFrom : ℕ → ℕ → List Asked
-askedFrom n zero = []
-askedFrom n (suc m) = askedOn n ∷ askedFrom (suc n) m
+unfoldable pub requestsFrom : ℕ → ℕ → List Request
+requestsFrom n zero = []
+requestsFrom n (suc m) = requestOn n ∷ requestsFrom (suc n) m
 
 -- their symbols, where the disparity before them is d
 abbrev pub sentFrom : Disparity → ℕ → ℕ → List ℕ
-sentFrom d n m = signalFrom d link (askedFrom n m)
+sentFrom d n m = signalFrom d link (requestsFrom n m)

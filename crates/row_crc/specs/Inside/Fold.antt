@@ -25,6 +25,6 @@ pub record Empty (moved : List ℕ) : Type 0 where
   pub none : (k : ℕ) → getD moved k 0 ≡ 0
 
 -- the first j have been, and the CRC is what it was
-pub record Folds (row moved : List ℕ) (j : ℕ) : Type 0 where
+pub record FoldInv (row moved : List ℕ) (j : ℕ) : Type 0 where
   pub same : crc 0 (table 1920 (left row moved j)) ≡ crc 0 (wordsIn row 0)
   pub none : (k : ℕ) → 139 + j ≤ k → getD moved k 0 ≡ 0

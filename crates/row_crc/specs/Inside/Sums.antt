@@ -14,14 +14,14 @@ abbrev pub wordsIn : List ℕ → ℕ → List ℕ
 wordsIn rows from = table 1920 (λ i. getD rows (from + i) 0)
 
 -- row t of a picture's rows, stream by stream
-abbrev pub rowOf : List ℕ → ℕ → List ℕ
-rowOf rows t = wordsIn rows (1920 * t)
+abbrev pub streamRow : List ℕ → ℕ → List ℕ
+streamRow rows t = wordsIn rows (1920 * t)
 
 -- the CRC of each row: of two rows, or of four; of rows of any other length none
 abbrev pub sumsIn : List ℕ → Sums
 sumsIn rows =
     cond (eqb (length rows) 3840)
-    (record { first = crc 0 (rowOf rows 0); second = crc 0 (rowOf rows 1); third = 0; fourth = 0 })
+    (record { first = crc 0 (streamRow rows 0); second = crc 0 (streamRow rows 1); third = 0; fourth = 0 })
     (cond (eqb (length rows) 7680)
-    (record { first = crc 0 (rowOf rows 0); second = crc 0 (rowOf rows 1); third = crc 0 (rowOf rows 2); fourth = crc 0 (rowOf rows 3) })
+    (record { first = crc 0 (streamRow rows 0); second = crc 0 (streamRow rows 1); third = crc 0 (streamRow rows 2); fourth = crc 0 (streamRow rows 3) })
     (record { first = 0; second = 0; third = 0; fourth = 0 }))

@@ -3,19 +3,14 @@
 -- Assumes nothing.
 use Prim.Native.Nat.{ℕ}
 use mathlib.Core.Path.{_≡_}
-use mathlib.Core.Bool.{Bool, true, false}
+use mathlib.Core.Bool.{Bool}
 use Rattle.symbol.specs.declared.disparity.Disparity.the-variants.{Negative, Positive}
 use Rattle.symbol.specs.Code.{afterOf, symbolOf}
-use Rattle.symbol.specs.Inside.Disparity.{isPositive}
+use Rattle.symbol.specs.Disparity.{isPositive}
 
 -- whether character c leaves positive disparity behind negative (and then negative behind positive: law `turns-both`)
-unfoldable pub turns : ℕ → Bool
-turns c = isPositive (afterOf Negative c)
-
--- a test as a number: 1 where it holds, else 0
-abbrev pub bit : Bool → ℕ
-bit true = 1
-bit false = 0
+unfoldable pub flips : ℕ → Bool
+flips c = isPositive (afterOf Negative c)
 
 -- a character with two different forms
 abbrev pub TwoForms : ℕ → Type 0

@@ -19,7 +19,7 @@ use Rattle.span.specs.Format.{isKnown, shapeOf, streams, samplesIn, eavAt}
 use Rattle.span.specs.Layout.{pictureStart}
 use Rattle.span.specs.Sample.{allowed}
 use Rattle.span.specs.Span.{bytes}
-use Rattle.span.specs.Stream.{Asked}
+use Rattle.span.specs.Stream.{Request}
 use Rattle.line.specs.Stream.{isLine, isActive}
 use Rattle.window.specs.declared.delivery.Delivery.{Delivery}
 use Rattle.window.specs.Encoded.{charsOf, AreContent, wordIn}
@@ -47,7 +47,7 @@ answered f d c words =
 -- ---- what is sent, and what arrives
 
 -- what may be sent: a known format, a line, content bytes, and as many samples as there are, each of them allowed
-pub record Sendable (f : Format) (a : Asked) : Type 0 where
+pub record Sendable (f : Format) (a : Request) : Type 0 where
   pub known : isKnown f ≡ true
   pub line : isLine (a .line) ≡ true
   pub content : AreContent (contentOf f (a .content))
@@ -57,19 +57,19 @@ pub record Sendable (f : Format) (a : Asked) : Type 0 where
 -- ---- what is read, sent again
 
 -- the sample that a word of line n carries: on an active line at ten bits the word without its two low bits, else the word
-abbrev pub sampleIn : Format → ℕ → ℕ → ℕ
-sampleIn f n x = cond (isActive n && eqb (f .depth) 10) (x / 4) x
+abbrev pub sampleOf : Format → ℕ → ℕ → ℕ
+sampleOf f n x = cond (isActive n && eqb (f .depth) 10) (x / 4) x
 
 -- what words carry, stream by stream
-abbrev pub samplesOf : Format → (ℕ → ℕ) → List ℕ
-samplesOf f word =
+abbrev pub samplesRead : Format → (ℕ → ℕ) → List ℕ
+samplesRead f word =
     let s = streams (shapeOf f) in
-    table (samplesIn (shapeOf f)) (λ i. sampleIn f (lineRead s word) (wordOf s word (pictureStart + i % 1920) (i / 1920)))
+    table (samplesIn (shapeOf f)) (λ i. sampleOf f (lineRead s word) (wordOf s word (pictureStart + i % 1920) (i / 1920)))
 
 -- what a caller asks for to have such words and content bytes sent
-abbrev pub askedFor : Format → ContentBytes → (ℕ → ℕ) → Asked
-askedFor f c word = record { line = lineRead (streams (shapeOf f)) word; content = Named c; samples = samplesOf f word }
+abbrev pub requestFor : Format → ContentBytes → (ℕ → ℕ) → Request
+requestFor f c word = record { line = lineRead (streams (shapeOf f)) word; content = Named c; samples = samplesRead f word }
 
 -- the answer of a window, as what a caller asks for
-abbrev pub askedAgain : Format → List ℕ → Asked
-askedAgain f w = askedFor f (contentIn (shapeOf f) w) (wordAt (shapeOf f) w)
+abbrev pub requestAgain : Format → List ℕ → Request
+requestAgain f w = requestFor f (contentIn (shapeOf f) w) (wordAt (shapeOf f) w)

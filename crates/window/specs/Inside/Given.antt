@@ -8,7 +8,7 @@ use Rattle.decoder.specs.Inside.Decoder.{decodingTable}
 use Rattle.span.specs.declared.format.Shape.{Shape}
 use Rattle.span.specs.Format.{symbolsIn}
 use Rattle.packing.specs.declared.bytes.TwoWords.{TwoWords}
-use Rattle.packing.specs.Bytes.{wordsOf}
+use Rattle.packing.specs.Bytes.{unpacked}
 use Rattle.span.specs.Inside.Format.{Small}
 use Rattle.window.specs.Scan.{symbolAt, byteOf}
 
@@ -21,4 +21,4 @@ pub record Given (p : Shape) (t w : List ℕ) : Type 0 where
 -- the two words of three symbols from o on, none of them replaced
 unfoldable pub plainPair : List ℕ → ℕ → TwoWords
 plainPair w o =
-    wordsOf (record { first = byteOf (symbolAt w o); second = byteOf (symbolAt w (o + 1)); third = byteOf (symbolAt w (o + 2)) })
+    unpacked (record { first = byteOf (symbolAt w o); second = byteOf (symbolAt w (o + 1)); third = byteOf (symbolAt w (o + 2)) })

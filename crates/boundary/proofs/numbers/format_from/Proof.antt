@@ -1,7 +1,7 @@
 -- `boundary::numbers::format_from` meets its contract: both numbers.
 -- Assumes nothing.
 use mathlib.Core.Path.{_∙_, ap₂}
-use Rattle.boundary.specs.Numbers.{formatFrom}
+use Rattle.span.specs.Format.{formatFrom}
 use borrow.Author.Needs.{needs}
 use Rattle.boundary.proofs.numbers.format_from.Statement.{statement}
 use Rattle.boundary.proofs.numbers.format_from.Tie as tie

@@ -4,14 +4,14 @@ use mathlib.Core.Path.{refl}
 use mathlib.Core.Bool.{cond}
 use Rattle.ground.proofs.Writing.{tested-table}
 use Rattle.symbol.specs.Code.{afterOf}
-use Rattle.symbol.specs.Inside.Code.{turns}
-use Rattle.encoder.specs.Inside.Tables.{turnTable}
+use Rattle.symbol.specs.Inside.Code.{flips}
+use Rattle.encoder.specs.Inside.Tables.{flipTable}
 use Rattle.encoder.proofs.tables.turn_table.Statement.{statement}
 use Rattle.encoder.proofs.tables.turn_table.Tie as tie
 
 returns : tie.Need-returns
-unfolding afterOf turns turnTable
-returns c = tested-table 268 (λ c. cond (turns c) 268 0) _ refl refl
+unfolding afterOf flips flipTable
+returns c = tested-table 268 (λ c. cond (flips c) 268 0) _ refl refl
 
 pub turn-table-spec : {M : Type 1} → statement M
 turn-table-spec = tie.close (tie.spec returns)

@@ -8,7 +8,7 @@ use lib.ListN.{length}
 use lib.Seq.{length-take-le}
 use borrow.Author.Needs.{needs}
 use Rattle.text.proofs.Putting.{Put, put-length}
-use Rattle.list_repairs.specs.Text.{lineCount, listed}
+use Rattle.list_repairs.specs.Text.{lineCount, repairLines}
 use Rattle.list_repairs.proofs.Lines.{none-listed, one-more, listed-most}
 use Rattle.list_repairs.proofs.listing.put_lines.Statement.{statement}
 use Rattle.list_repairs.proofs.listing.put_lines.Tie as tie
@@ -18,7 +18,7 @@ Inv-loop input from out₀ count at₀ i₀ out at i =
     (count ≡ lineCount (length input) from)
     × (38912 ≤ length out₀)
     × (i ≤ count)
-    × Put out₀ out 0 at (listed input from i)
+    × Put out₀ out 0 at (repairLines input from i)
 
 abbrev μ-loop : tie.MeasureT-loop
 μ-loop input from out₀ count at₀ i₀ out at i = count - i

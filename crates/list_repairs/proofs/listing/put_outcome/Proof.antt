@@ -5,7 +5,7 @@ use Prim.Native.Nat.{_+_, _≤_}
 use lib.ListN.{length}
 use Rattle.word.specs.Repair.{paperRepair, repairOf}
 use Rattle.text.proofs.Putting.{put-told, put-as}
-use Rattle.list_repairs.specs.Text.{refusedText, outcome}
+use Rattle.list_repairs.specs.Text.{refusedLine, outcome}
 use Rattle.list_repairs.proofs.Lines.{near-enough}
 use Rattle.list_repairs.proofs.Pieces.{repaired-put}
 use Rattle.ground.specs.Answer.{given}
@@ -89,7 +89,7 @@ returns-2 c =
     let e = ap outcome (sym (ap paperRepair (s .before .before .before .enum-told .given .1)) ∙ r .ensures) in
     let a = s .before .before .before .before .before .before .before .args in
     let room : a .at + 8 ≤ length (a .out .now) = search needs in
-    let p = put-as e (put-told refusedText room (s .put-text3 .ensures .0) (s .put-text3 .ensures .1)) in
+    let p = put-as e (put-told refusedLine room (s .put-text3 .ensures .0) (s .put-text3 .ensures .1)) in
     (p .ends, p .written)
 
 same-length-3 : tie.Need-same-length-3
@@ -102,7 +102,7 @@ returns-3 c =
     let e = ap outcome (sym (ap paperRepair (s .before .before .before .enum-told2 .given .1)) ∙ r .ensures) in
     let a = s .before .before .before .before .before .before .before .args in
     let room : a .at + 8 ≤ length (a .out .now) = search needs in
-    let p = put-as e (put-told refusedText room (s .put-text4 .ensures .0) (s .put-text4 .ensures .1)) in
+    let p = put-as e (put-told refusedLine room (s .put-text4 .ensures .0) (s .put-text4 .ensures .1)) in
     (p .ends, p .written)
 
 pub put-outcome-spec : {M : Type 1} → statement M

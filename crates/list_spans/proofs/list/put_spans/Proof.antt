@@ -8,7 +8,7 @@ use lib.ListN.{length}
 use borrow.Author.Needs.{needs}
 use Rattle.recording.specs.Recording.{deliveryFrom}
 use Rattle.recording.proofs.OneStep.{none-left, stepped, ended, no-key}
-use Rattle.list_spans.specs.Listing.{lineText, linesOf}
+use Rattle.list_spans.specs.Listing.{spanLine, linesOf}
 use Rattle.list_spans.proofs.Left.{Left, all-left, piece-put, nothing-left}
 use Rattle.list_spans.proofs.Stepping.{within-limit, line-shorter, first-line}
 use Rattle.list_spans.proofs.list.put_spans.Statement.{statement}
@@ -84,8 +84,8 @@ loop-again c =
       step .inside,
       search needs,
       search needs,
-      piece-put (v .inv .4) (lineText place (number .result)) more
-          (first-line step ∙ ap (λ (k : ℕ). lineText place k ++ more) (sym (number .ensures))) (put .1 .1) (put .0),
+      piece-put (v .inv .4) (spanLine place (number .result)) more
+          (first-line step ∙ ap (λ (k : ℕ). spanLine place k ++ more) (sym (number .ensures))) (put .1 .1) (put .0),
     )
 
 same-length : tie.Need-same-length Inv-loop μ-loop

@@ -8,7 +8,7 @@ use lib.ListN.{length, drop, length-take}
 use borrow.Author.Needs.{needs}
 use Rattle.ground.specs.Written.{upto}
 use Rattle.line.specs.Stream.{isActive}
-use Rattle.rig.specs.Frame.{lineIn}
+use Rattle.rig.specs.Frame.{lineOfPiece}
 use Rattle.text.proofs.Putting.{Put, put-length}
 use Rattle.loopback.proofs.Bytes.{lineBytes, no-line, active-put, blank-put, piece-put}
 use Rattle.loopback.proofs.file.put_piece.Statement.{statement}
@@ -85,7 +85,7 @@ loop-again c =
     let line = active .before in
     let v = line .before .before .loop in
     let a = line .before .before .before .before .before .args in
-    let number : line .stream-line .result .0 ≡ lineIn (a .piece) (v .i) = omega (arith, line .stream-line .ensures) in
+    let number : line .stream-line .result .0 ≡ lineOfPiece (a .piece) (v .i) = omega (arith, line .stream-line .ensures) in
     let test = ap isActive (sym number) ∙ sym (active .is-active .ensures) in
     let i = 7680 * v .i in
     let few = length-take (i + 7680 - i) (drop i (a .picture .now)) in

@@ -6,7 +6,7 @@ use native.Mathlib.Omega.{arith}
 use lib.ListN.{length, drop, length-set}
 use lib.Seq.{sets}
 use borrow.Author.Needs.{needs}
-use Rattle.loopback.specs.File.{bytesOf}
+use Rattle.loopback.specs.File.{highFirst}
 use Rattle.loopback.proofs.Bytes.{no-word-put, word-put, words-put}
 use Rattle.loopback.proofs.file.put_words.Statement.{statement}
 use Rattle.loopback.proofs.file.put_words.Tie as tie
@@ -15,7 +15,7 @@ abbrev Inv-loop : tie.InvT-loop
 Inv-loop words out₀ at i₀ out i =
     (i ≤ length words)
     × (length out ≡ length out₀)
-    × (sets out (at + 2 * i) (bytesOf (drop i words)) ≡ sets out₀ at (bytesOf words))
+    × (sets out (at + 2 * i) (highFirst (drop i words)) ≡ sets out₀ at (highFirst words))
 
 abbrev μ-loop : tie.MeasureT-loop
 μ-loop words out₀ at i₀ out i = length words - i

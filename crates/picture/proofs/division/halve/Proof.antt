@@ -1,7 +1,7 @@
 -- `picture::division::halve` meets its contract: image and line are those of n + 1, without that number.
 -- Assumes nothing.
 use native.Mathlib.Omega.{arith}
-use Rattle.picture.specs.Division.{imageAt, lineIn, sampleIn}
+use Rattle.picture.specs.Division.{imageAt, imageLine, imageSample}
 use Rattle.picture.proofs.Steps.{quarter-is}
 use borrow.Author.Needs.{needs}
 use Rattle.picture.proofs.division.halve.Statement.{statement}
@@ -32,7 +32,7 @@ picture-line-requires : tie.Need-picture-line-requires
 picture-line-requires c κs = search needs
 
 returns : tie.Need-returns
-unfolding imageAt lineIn sampleIn
+unfolding imageAt imageLine imageSample
 returns c =
     let a = c .before .before .args in
     let e = c .before .number-of .ensures in

@@ -7,7 +7,7 @@ use native.Mathlib.Nat.{mul-le-mul-left}
 use native.Mathlib.Omega.{arith}
 use lib.ListN.{length}
 use borrow.Author.Needs.{needs}
-use Rattle.read_test20.specs.Inside.Picture.{Got, Come}
+use Rattle.read_test20.specs.Inside.Picture.{RowsInv, Come}
 use Rattle.read_test20.specs.Inside.See.{passesBy}
 use Rattle.read_test20.proofs.Getting.{got-begin}
 use Rattle.read_test20.proofs.Kept.{bytes-in}
@@ -20,7 +20,7 @@ use Rattle.read_test20.proofs.see.passes.Reads as passes-reads
 
 abbrev Inv-loop : tie.InvT-loop
 Inv-loop t half symbols turns rows₀ p₀ j₀ rows p j =
-    (j ≤ 1920) × (j % 120 ≡ 0) × (length rows ≡ 3840 * half) × Got half symbols rows₀ j p rows × (passesBy (p .good) ≡ true)
+    (j ≤ 1920) × (j % 120 ≡ 0) × (length rows ≡ 3840 * half) × RowsInv half symbols rows₀ j p rows × (passesBy (p .good) ≡ true)
 
 abbrev μ-loop : tie.MeasureT-loop
 μ-loop t half symbols turns rows₀ p₀ j₀ rows p j = 1920 - j

@@ -8,13 +8,13 @@ use lib.ListN.{length}
 use borrow.Author.Needs.{needs}
 use Rattle.decoder.specs.Inside.Decoder.{decodingTable, entryIn}
 use Rattle.window.specs.Scan.{symbolAt}
-use Rattle.read_test20.specs.Inside.Run.{Reached}
+use Rattle.read_test20.specs.Inside.Run.{ScanInv}
 use Rattle.read_test20.proofs.Window.{on, stops, ends}
 use Rattle.read_test20.proofs.place.first_wrong.Statement.{statement}
 use Rattle.read_test20.proofs.place.first_wrong.Tie as tie
 
 abbrev Inv-loop : tie.InvT-loop
-Inv-loop t p symbols from mask m₀ i₀ m i = Reached p symbols i m
+Inv-loop t p symbols from mask m₀ i₀ m i = ScanInv p symbols i m
 
 abbrev μ-loop : tie.MeasureT-loop
 μ-loop t p symbols from mask m₀ i₀ m i = length symbols - i

@@ -4,7 +4,7 @@ use mathlib.Core.Path.{_≡_}
 use Prim.Native.Nat.{_-_, _≤_}
 use native.Mathlib.Omega.{arith}
 use borrow.Author.Needs.{needs}
-use Rattle.read_test20.specs.Inside.See.{Clean}
+use Rattle.read_test20.specs.Inside.See.{GatherInv}
 use Rattle.read_test20.proofs.Seeing.{seen-turn}
 use Rattle.read_test20.proofs.see.see_run.Statement.{statement}
 use Rattle.read_test20.proofs.see.see_run.Tie as tie
@@ -13,7 +13,7 @@ use Rattle.read_test20.proofs.see.see_run.Lts as lts
 use Rattle.read_test20.proofs.see.see.Reads as see-reads
 
 abbrev Inv-loop : tie.InvT-loop
-Inv-loop t symbols from to turns k₀ i₀ k i = (i ≤ to) × Clean symbols from i (k .good) (k .turns)
+Inv-loop t symbols from to turns k₀ i₀ k i = (i ≤ to) × GatherInv symbols from i (k .good) (k .turns)
 
 abbrev μ-loop : tie.MeasureT-loop
 μ-loop t symbols from to turns k₀ i₀ k i = to - i

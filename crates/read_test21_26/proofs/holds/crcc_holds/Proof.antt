@@ -7,7 +7,7 @@ use lib.Dec.{eqb}
 use Rattle.span.specs.Format.{streams}
 use Rattle.crcc.specs.declared.crcc.CrccWords.{CrccWords}
 use Rattle.window.proofs.Placing.{stream-below}
-use Rattle.read_test21_26.specs.Inside.Holds.{crccBehind}
+use Rattle.read_test21_26.specs.Inside.Holds.{crccReceived}
 use Rattle.read_test21_26.proofs.Reading.{here}
 use Rattle.read_test21_26.proofs.Tests.{first-24, second-24, else-24}
 use borrow.Author.Needs.{needs}
@@ -46,7 +46,7 @@ returns c =
     let word = here (a .p) (a .symbols .now) (a .k) (s .pre .0 .half) (c .before .before .before .before .word-at .ensures .0) in
     let sent =
     c .before .before .crcc-behind .ensures
-    ∙ ap (λ (x : ℕ). crccBehind (a .p) (a .symbols .now) (a .k % streams (a .p)) x) (c .before .before .before .sum-of .ensures) in
+    ∙ ap (λ (x : ℕ). crccReceived (a .p) (a .symbols .now) (a .k % streams (a .p)) x) (c .before .before .before .sum-of .ensures) in
     ap₂ eqb word (ap (λ (x : CrccWords). x .crcc0) sent)
     ∙ sym (first-24 (a .p) (a .symbols .now) (a .c) (a .k / streams (a .p)) (a .k % streams (a .p)) (c .before .if3 .taken))
 
@@ -58,7 +58,7 @@ returns-2 c =
     let word = here (a .p) (a .symbols .now) (a .k) (s .pre .0 .half) (c .before .before .before .before .word-at .ensures .0) in
     let sent =
     c .before .before .crcc-behind .ensures
-    ∙ ap (λ (x : ℕ). crccBehind (a .p) (a .symbols .now) (a .k % streams (a .p)) x) (c .before .before .before .sum-of .ensures) in
+    ∙ ap (λ (x : ℕ). crccReceived (a .p) (a .symbols .now) (a .k % streams (a .p)) x) (c .before .before .before .sum-of .ensures) in
     ap₂ eqb word (ap (λ (x : CrccWords). x .crcc1) sent)
     ∙ sym (second-24 (a .p) (a .symbols .now) (a .c) (a .k / streams (a .p)) (a .k % streams (a .p)) next)
 

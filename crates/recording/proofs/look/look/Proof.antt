@@ -3,13 +3,13 @@
 use Prim.Native.Nat.{_-_}
 use native.Mathlib.Omega.{arith}
 use borrow.Author.Needs.{needs}
-use Rattle.recording.specs.Inside.Look.{Passed}
+use Rattle.recording.specs.Inside.Look.{LookInv}
 use Rattle.recording.proofs.Looking.{nothing-yet, further, up-to, no-commas, no-pairs}
 use Rattle.recording.proofs.look.look.Statement.{statement}
 use Rattle.recording.proofs.look.look.Tie as tie
 
 abbrev Inv-loop : tie.InvT-loop
-Inv-loop symbols from to i₀ i = Passed symbols from i
+Inv-loop symbols from to i₀ i = LookInv symbols from i
 
 abbrev μ-loop : tie.MeasureT-loop
 μ-loop symbols from to i₀ i = to - i

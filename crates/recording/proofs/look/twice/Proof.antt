@@ -5,13 +5,13 @@ use Prim.Native.Nat.{ℕ, _-_, _≤_}
 use native.Mathlib.Omega.{arith}
 use lib.Bits.{bitAnd, bitOr}
 use borrow.Author.Needs.{needs}
-use Rattle.recording.specs.Inside.Look.{gathered, pairAt}
+use Rattle.recording.specs.Inside.Look.{gathered, commaPair}
 use Rattle.recording.proofs.Looking.{one-more}
 use Rattle.recording.proofs.look.twice.Statement.{statement}
 use Rattle.recording.proofs.look.twice.Tie as tie
 
 abbrev Inv-loop : tie.InvT-loop
-Inv-loop symbols from count found₀ k₀ found k = (k ≤ count) × (found ≡ gathered k (pairAt symbols from))
+Inv-loop symbols from count found₀ k₀ found k = (k ≤ count) × (found ≡ gathered k (commaPair symbols from))
 
 abbrev μ-loop : tie.MeasureT-loop
 μ-loop symbols from count found₀ k₀ found k = count - k
@@ -58,7 +58,7 @@ loop-again c =
     let s = c .before .before .before .before .before .before .before in
     let v = c .before .before .before .before .before .loop in
     let pair = bitAnd (c .before .before .comma .result) (c .comma2 .result) in
-    (search needs, ap (λ (x : ℕ). bitOr x pair) (v .inv .1) ∙ one-more (pairAt (s .args .symbols .now) (s .args .from)) (v .k) (ap₂ bitAnd (c .before .before .comma .ensures) (c .comma2 .ensures)))
+    (search needs, ap (λ (x : ℕ). bitOr x pair) (v .inv .1) ∙ one-more (commaPair (s .args .symbols .now) (s .args .from)) (v .k) (ap₂ bitAnd (c .before .before .comma .ensures) (c .comma2 .ensures)))
 
 returns : tie.Need-returns Inv-loop μ-loop
 returns c =

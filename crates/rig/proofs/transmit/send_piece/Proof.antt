@@ -11,7 +11,7 @@ use borrow.Rule.Slice.PartMut.{putMid}
 use Rattle.span.specs.Span.{spanSymbols}
 use Rattle.reception.specs.Link.{link}
 use Rattle.reception.proofs.Parts.{part-put}
-use Rattle.rig.specs.Sending.{askedOn, afterFrom}
+use Rattle.rig.specs.Sending.{requestOn, afterFrom}
 use Rattle.rig.specs.Inside.Sending.{sentFrom}
 use Rattle.rig.proofs.Lines.{length-span, next-line, no-line-more, all-sent, after-turn, sent-turn}
 use Rattle.rig.proofs.transmit.send_piece.Statement.{statement}
@@ -85,7 +85,7 @@ loop-again c =
     let a = start .args in
     let inside : v .k < 5 = omega arith in
     let here = v .inv .3 inside in
-    let span = spanSymbols (v .d) link (askedOn (v .l .0)) in
+    let span = spanSymbols (v .d) link (requestOn (v .l .0)) in
     let put =
     ap (putMid (19008 * v .k) (19008 * v .k + 19008 - 19008 * v .k) (v .symbols)) (sent .send-line .ensures .1)
     ∙ part-put (v .symbols) span (19008 * v .k) (19008 * v .k + 19008) (omega (arith, length-span (v .d) (v .l .0))) (omega (arith, v .inv .2)) in (

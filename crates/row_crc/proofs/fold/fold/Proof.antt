@@ -5,13 +5,13 @@ use Prim.Native.Nat.{_-_, _≤_}
 use native.Mathlib.Omega.{arith}
 use borrow.Author.Needs.{needs}
 use lib.ListN.{length}
-use Rattle.row_crc.specs.Inside.Fold.{Folds}
+use Rattle.row_crc.specs.Inside.Fold.{FoldInv}
 use Rattle.row_crc.proofs.Folding.{begin, folds-on}
 use Rattle.row_crc.proofs.fold.fold.Statement.{statement}
 use Rattle.row_crc.proofs.fold.fold.Tie as tie
 
 abbrev Inv-loop : tie.InvT-loop
-Inv-loop row moved₀ j₀ moved j = (j ≤ 1781) × (length moved ≡ 1984) × Folds row moved j
+Inv-loop row moved₀ j₀ moved j = (j ≤ 1781) × (length moved ≡ 1984) × FoldInv row moved j
 
 abbrev μ-loop : tie.MeasureT-loop
 μ-loop row moved₀ j₀ moved j = 1781 - j

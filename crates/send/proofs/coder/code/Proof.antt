@@ -6,7 +6,7 @@ use native.Mathlib.Omega.{arith}
 use lib.Bits.{bitXor}
 use lib.ListN.{getD}
 use mathlib.Core.List.{List}
-use Rattle.encoder.specs.Inside.Tables.{offsetOf, ofOffset, symbolTable, turnTable}
+use Rattle.encoder.specs.Inside.Tables.{offsetOf, ofOffset, symbolTable, flipTable}
 use Rattle.encoder.proofs.Entries.{offset-below, turn-below, symbol-at, after-at}
 use Rattle.send.specs.declared.coder.Coded.{Coded}
 use Rattle.send.specs.Put.{coded}
@@ -15,7 +15,7 @@ use Rattle.send.proofs.coder.code.Statement.{statement}
 use Rattle.send.proofs.coder.code.Tie as tie
 
 -- the entries, where the tables are the encoder's and the offset is one
-entries : (symbols turns : List ℕ) (d c : ℕ) → symbols ≡ symbolTable → turns ≡ turnTable → d ≡ offsetOf (ofOffset d) → c < 268
+entries : (symbols turns : List ℕ) (d c : ℕ) → symbols ≡ symbolTable → turns ≡ flipTable → d ≡ offsetOf (ofOffset d) → c < 268
     → _≡_ {A = Coded} (record { symbol = getD symbols (d + c) 0; offset = bitXor d (getD turns c 0) }) (coded (ofOffset d) c)
 entries symbols turns d c s t o h =
     ap₂ (λ (x y : ℕ). record { symbol = x; offset = y })
@@ -40,7 +40,7 @@ element-copy-out-t10 c = omega (arith, offset-below (ofOffset (c .before .args .
 cast-t14 : tie.Need-cast-t14
 cast-t14 c =
     let a = c .before .before .args in
-    let t : a .turns .now ≡ turnTable = search needs in
+    let t : a .turns .now ≡ flipTable = search needs in
     rw t (omega (arith, turn-below (a .c) (omega arith)))
 
 returns : tie.Need-returns

@@ -2,7 +2,7 @@
 -- Assumes nothing.
 use mathlib.Core.Path.{sym, ap}
 use native.Mathlib.Omega.{arith}
-use Rattle.span.specs.Span.{listed}
+use Rattle.span.specs.Span.{bytesListed}
 use Rattle.send.proofs.Putting.{made, renamed}
 use borrow.Author.Needs.{needs}
 use Rattle.send.proofs.put.put_pair.Statement.{statement}
@@ -28,7 +28,7 @@ same-length c = search needs
 
 returns : tie.Need-returns
 returns c =
-    let p = renamed (sym (ap listed (c .before .before .before .before .before .before .before .bytes-of .ensures))) (made (c .before .before .put-three .ensures)) in
+    let p = renamed (sym (ap bytesListed (c .before .before .before .before .before .before .before .bytes-of .ensures))) (made (c .before .before .put-three .ensures)) in
     (p .offset, p .out)
 
 pub put-pair-spec : {M : Type 1} → statement M

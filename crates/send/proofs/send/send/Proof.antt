@@ -7,7 +7,7 @@ use borrow.Author.Tests.{not-true, not-false}
 use Rattle.ground.proofs.Answers.{when-refused}
 use Rattle.span.specs.declared.length.SpanLengths.{SpanLengths}
 use Rattle.span.specs.Format.{shapeOf, samplesIn}
-use Rattle.send.specs.Send.{asked}
+use Rattle.send.specs.Send.{request}
 use Rattle.send.proofs.Refusals.{send-meets-1, send-meets-2, send-meets-3, send-meets-4}
 use borrow.Author.Needs.{needs}
 use Rattle.send.proofs.send.send.Statement.{statement}
@@ -26,7 +26,7 @@ returns : tie.Need-returns
 returns c =
     let a = c .before .before .before .before .args in
     let known = sym (c .before .is-known .ensures) ∙ not-true _ (c .if1 .taken) in
-    let bad = send-meets-1 (a .d) (a .f) (asked (a .l .0) (a .content) (a .samples .now)) (length (a .symbols .now)) known in
+    let bad = send-meets-1 (a .d) (a .f) (request (a .l .0) (a .content) (a .samples .now)) (length (a .symbols .now)) known in
     (sym bad, when-refused _ _ bad)
 
 is-line-requires : tie.Need-is-line-requires
@@ -38,7 +38,7 @@ returns-2 c =
     let a = k .before .before .before .args in
     let known = sym (k .is-known .ensures) ∙ not-false _ (c .before .before .if1 .left) in
     let line = sym (c .before .is-line .ensures) ∙ not-true _ (c .if2 .taken) in
-    let bad = send-meets-2 (a .d) (a .f) (asked (a .l .0) (a .content) (a .samples .now)) (length (a .symbols .now)) known line in
+    let bad = send-meets-2 (a .d) (a .f) (request (a .l .0) (a .content) (a .samples .now)) (length (a .symbols .now)) known line in
     (sym bad, when-refused _ _ bad)
 
 span-lengths-requires : tie.Need-span-lengths-requires
@@ -53,7 +53,7 @@ returns-3 c =
     let line = sym (z .before .is-line .ensures) ∙ not-false _ (z .if2 .left) in
     let lengths = c .before .before .span-lengths .ensures in
     let bad =
-    send-meets-3 (a .d) (a .f) (asked (a .l .0) (a .content) (a .samples .now)) (length (a .symbols .now)) known line
+    send-meets-3 (a .d) (a .f) (request (a .l .0) (a .content) (a .samples .now)) (length (a .symbols .now)) known line
     (λ e. omega (arith, samples lengths))
     in
     (sym bad, when-refused _ _ bad)
@@ -69,7 +69,7 @@ returns-4 c =
     let lengths = y .before .before .span-lengths .ensures in
     let long : length (a .samples .now) ≡ samplesIn (shapeOf (a .f)) = omega (arith, samples lengths) in
     let bad =
-    send-meets-4 (a .d) (a .f) (asked (a .l .0) (a .content) (a .samples .now)) (length (a .symbols .now)) known line long
+    send-meets-4 (a .d) (a .f) (request (a .l .0) (a .content) (a .samples .now)) (length (a .symbols .now)) known line long
     (λ e. omega (arith, symbols lengths))
     in
     (sym bad, when-refused _ _ bad)

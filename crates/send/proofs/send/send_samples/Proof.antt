@@ -14,7 +14,7 @@ use Rattle.span.specs.declared.format.Format.{Format}
 use Rattle.span.specs.declared.sample.Bounds.{Bounds}
 use Rattle.span.specs.Inside.Sample.{boundsOf}
 use Rattle.send.specs.Check.{firstOutside}
-use Rattle.send.specs.Send.{asked}
+use Rattle.send.specs.Send.{request}
 use Rattle.send.proofs.Refusals.{send-meets-6, sends, is-good}
 use borrow.Author.Needs.{needs}
 use Rattle.send.proofs.send.send_samples.Statement.{statement}
@@ -46,7 +46,7 @@ returns c =
     let a = s .args in
     let v = c .before in
     let found : v .first-outside .result < length (a .samples .now) = omega (arith, c .if1 .taken) in
-    let bad = send-meets-6 (a .d) (a .f) (asked (a .l .0) (a .content) (a .samples .now)) (length (a .symbols .now)) (s .pre .0) (s .pre .1 .0) (s .pre .1 .1 .0) (s .pre .1 .1 .1) _ (found-by (a .samples .now) (v .first-outside .ensures) (v .before .bounds-of .ensures)) found in
+    let bad = send-meets-6 (a .d) (a .f) (request (a .l .0) (a .content) (a .samples .now)) (length (a .symbols .now)) (s .pre .0) (s .pre .1 .0) (s .pre .1 .1 .0) (s .pre .1 .1 .1) _ (found-by (a .samples .now) (v .first-outside .ensures) (v .before .bounds-of .ensures)) found in
     (sym bad, when-refused _ _ bad)
 
 send-span-requires : tie.Need-send-span-requires
@@ -54,7 +54,7 @@ send-span-requires c κs =
     let s = c .before .before .before .before .before .before in
     let a = s .args in
     let v = c .before .before in
-    (is-good (a .d) (a .f) (asked (a .l .0) (a .content) (a .samples .now)) (length (a .symbols .now)) (s .pre .0) (s .pre .1 .0) (s .pre .1 .1 .0) (s .pre .1 .1 .1) _ (found-by (a .samples .now) (v .first-outside .ensures) (v .before .bounds-of .ensures)) (c .before .if1 .left), (ap (λ (b : Bounds). b .factor) (v .before .bounds-of .ensures), s .pre .1 .1 .1))
+    (is-good (a .d) (a .f) (request (a .l .0) (a .content) (a .samples .now)) (length (a .symbols .now)) (s .pre .0) (s .pre .1 .0) (s .pre .1 .1 .0) (s .pre .1 .1 .1) _ (found-by (a .samples .now) (v .first-outside .ensures) (v .before .bounds-of .ensures)) (c .before .if1 .left), (ap (λ (b : Bounds). b .factor) (v .before .bounds-of .ensures), s .pre .1 .1 .1))
 
 same-length : tie.Need-same-length
 same-length c = search needs
@@ -64,7 +64,7 @@ returns-2 c =
     let s = c .before .before .before .before .before .before .before .before .before in
     let a = s .args in
     let v = c .before .before .before .before .before in
-    let good = sends (a .d) (a .f) (asked (a .l .0) (a .content) (a .samples .now)) (length (a .symbols .now)) (s .pre .0) (s .pre .1 .0) (s .pre .1 .1 .0) (s .pre .1 .1 .1) _ (found-by (a .samples .now) (v .first-outside .ensures) (v .before .bounds-of .ensures)) (c .before .before .before .before .if1 .left) in
+    let good = sends (a .d) (a .f) (request (a .l .0) (a .content) (a .samples .now)) (length (a .symbols .now)) (s .pre .0) (s .pre .1 .0) (s .pre .1 .1 .0) (s .pre .1 .1 .1) _ (found-by (a .samples .now) (v .first-outside .ensures) (v .before .bounds-of .ensures)) (c .before .before .before .before .if1 .left) in
     let made = c .before .before .send-span .ensures in
     (ap given (made .0) ∙ sym good, made .1 ∙ when-given _ _ good)
 

@@ -1,7 +1,7 @@
 -- `send::send::send_scaled` meets its contract: the words are the samples by the factor.
 -- Assumes nothing.
 use mathlib.Core.Path.{_∙_}
-use Rattle.send.specs.Send.{asked}
+use Rattle.send.specs.Send.{request}
 use Rattle.send.proofs.Scaling.{length-words, are-words}
 use Rattle.send.proofs.Whole.{fits, span-put}
 use borrow.Author.Needs.{needs}
@@ -12,14 +12,14 @@ scale-requires : tie.Need-scale-requires
 scale-requires c κs =
     let s = c .before .before .before .before in
     let a = s .args in
-    let n = asked (a .l .0) (a .content) (a .samples .now) in
+    let n = request (a .l .0) (a .content) (a .samples .now) in
     (fits (a .f) n (s .pre .0) (a .factor) (s .pre .1 .0), s .pre .1 .1 .0)
 
 send-words-requires : tie.Need-send-words-requires
 send-words-requires c κs =
     let s = c .before .before .before .before .before .before .before .before .before in
     let a = s .args in
-    let n = asked (a .l .0) (a .content) (a .samples .now) in
+    let n = request (a .l .0) (a .content) (a .samples .now) in
     let e = c .before .before .before .before .scale .ensures in
     (s .pre .0 .known, (are-words (a .factor) (a .samples .now) e (fits (a .f) n (s .pre .0) (a .factor) (s .pre .1 .0)), (length-words (a .factor) (a .samples .now) e ∙ s .pre .0 .samples, s .pre .1 .1 .1)))
 
@@ -33,7 +33,7 @@ returns : tie.Need-returns
 returns c =
     let s = c .before .before .before .before .before .before .before .before .before .before .before .before in
     let a = s .args in
-    let n = asked (a .l .0) (a .content) (a .samples .now) in
+    let n = request (a .l .0) (a .content) (a .samples .now) in
     span-put (a .f) n (s .pre .0) (a .factor) (s .pre .1 .0) (a .d) (a .out .now) (c .before .before .before .before .before .before .before .scale .ensures) (s .pre .1 .1 .1) (c .before .before .send-words .ensures)
 
 pub send-scaled-spec : {M : Type 1} → statement M

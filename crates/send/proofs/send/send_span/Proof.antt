@@ -7,7 +7,7 @@ use lib.Seq.{length-take-le}
 use Rattle.span.specs.declared.format.Format.{Format}
 use Rattle.span.specs.Format.{shapeOf, samplesIn}
 use Rattle.span.proofs.Formats.{small}
-use Rattle.send.specs.Send.{asked}
+use Rattle.send.specs.Send.{request}
 use Rattle.send.proofs.Scaling.{as-they-are, are-words}
 use Rattle.send.proofs.Whole.{fits, span-put}
 use borrow.Author.Needs.{needs}
@@ -22,7 +22,7 @@ send-words-requires : tie.Need-send-words-requires
 send-words-requires c κs =
     let s = c .before .before .before .before in
     let a = s .args in
-    let n = asked (a .l .0) (a .content) (a .samples .now) in
+    let n = request (a .l .0) (a .content) (a .samples .now) in
     let e = as-they-are (a .samples .now) (c .before .if1 .taken) in
     (s .pre .0 .known, (are-words (a .factor) (a .samples .now) e (fits (a .f) n (s .pre .0) (a .factor) (s .pre .1 .0)), (s .pre .0 .samples, s .pre .1 .1)))
 
@@ -30,7 +30,7 @@ returns : tie.Need-returns
 returns c =
     let s = c .before .before .before .before .before .before .before in
     let a = s .args in
-    let n = asked (a .l .0) (a .content) (a .samples .now) in
+    let n = request (a .l .0) (a .content) (a .samples .now) in
     let e = as-they-are (a .samples .now) (c .before .before .before .before .if1 .taken) in
     span-put (a .f) n (s .pre .0) (a .factor) (s .pre .1 .0) (a .d) (a .out .now) e (s .pre .1 .1) (c .before .before .send-words .ensures)
 

@@ -1,7 +1,7 @@
--- `symbol::special::named` meets its contract: the names stand in the order of the numbers.
+-- `symbol::special::named` meets its contract: the specialNames stand in the order of the numbers.
 -- Assumes nothing.
 use Rattle.symbol.specs.declared.special.Special.the-variants.{«K28_0»}
-use Rattle.symbol.specs.Character.{names, nth}
+use Rattle.symbol.specs.Character.{specialNames, nth}
 use lib.ListN.{List·getD-eq-default}
 use mathlib.Core.Path.{refl, sym}
 use borrow.Author.Needs.{needs}
@@ -17,7 +17,7 @@ returns c = refl
 
 returns-2 : tie.Need-returns-2
 unfolding nth
-returns-2 c = sym (List·getD-eq-default names «K28_0» (c .if1 .left))
+returns-2 c = sym (List·getD-eq-default specialNames «K28_0» (c .if1 .left))
 
 pub named-spec : {M : Type 1} → statement M
 named-spec = tie.close (tie.spec array-copy-out-result returns returns-2)

@@ -8,7 +8,7 @@ use borrow.Author.Needs.{needs}
 use lib.ListN.{length, set, length-set}
 use lib.Seq.{sets}
 use Rattle.ground.specs.Written.{table}
-use Rattle.test_picture.specs.TestPicture.{sampleBy, rowBy}
+use Rattle.test_picture.specs.TestPicture.{sampleBy, rowInSteps}
 use Rattle.test_picture.proofs.Rows.{none-put, one-put, all-put}
 use Rattle.test_picture.proofs.row.put_codes.Statement.{statement}
 use Rattle.test_picture.proofs.row.put_codes.Tie as tie
@@ -61,7 +61,7 @@ same-length : tie.Need-same-length Inv-loop μ-loop
 same-length c = search needs
 
 returns : tie.Need-returns Inv-loop μ-loop
-unfolding rowBy
+unfolding rowInSteps
 returns c =
     let a = c .before .before .before .args in
     let v = c .before .loop in

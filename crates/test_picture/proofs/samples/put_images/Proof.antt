@@ -1,6 +1,6 @@
 -- `test_picture::samples::put_images` meets its contract: the library's call divides the row, and its two parts are copied one behind the other.
 -- Assumes nothing.
-use Rattle.test_picture.specs.TestPicture.{rowBy}
+use Rattle.test_picture.specs.TestPicture.{rowInSteps}
 use Rattle.test_picture.proofs.Images.{both-put}
 use Rattle.test_picture.proofs.Rows.{length-row}
 use borrow.Author.Needs.{needs}
@@ -43,7 +43,7 @@ returns c =
     let a = codes .before .before .before .before .before .before .args in
     let parts = split .split .ensures .1 in
     let pre = codes .before .before .before .before .before .before .pre in
-    both-put (rowBy (a .step) (a .line .0)) (a .first .now) (a .second .now) (codes .put-codes .ensures) (length-row (a .step) (a .line .0))
+    both-put (rowInSteps (a .step) (a .line .0)) (a .first .now) (a .second .now) (codes .put-codes .ensures) (length-row (a .step) (a .line .0))
     (pre .1 .1 .0) (pre .1 .1 .1 .0) (parts .0) (parts .1) (a .samples .now) (a .at) (first .copy-to .ensures) (second .copy-to2 .ensures)
 
 pub put-images-spec : {M : Type 1} → statement M

@@ -13,7 +13,7 @@ use Rattle.dividing.specs.Row.{divided}
 use Rattle.span.specs.declared.format.Shape.{Shape}
 use Rattle.span.specs.Format.{shapeOf, streams}
 use Rattle.span.proofs.Formats.{small}
-use Rattle.test_picture.specs.TestPicture.{stepOf, rowBy}
+use Rattle.test_picture.specs.TestPicture.{codeStep, rowInSteps}
 use Rattle.test_picture.proofs.Images.{carried, none-carried, row-carried, all-carried, some-step, basic-low, basic-high, are-carried}
 use Rattle.test_picture.proofs.samples.put_picture.Statement.{statement}
 use Rattle.test_picture.proofs.samples.put_picture.Tie as tie
@@ -95,7 +95,7 @@ loop-again c =
     let step = k .before .before .step-of .result in
     let basic = k .before .basic-line-of .result .0 in
     let o = start .args .samples .now in
-    let put : List ℕ → ℕ → List ℕ = λ s n. sets s (3840 * v .i) (divided 0 1920 (rowBy step n) ++ divided 1 1920 (rowBy step n)) in (
+    let put : List ℕ → ℕ → List ℕ = λ s n. sets s (3840 * v .i) (divided 0 1920 (rowInSteps step n) ++ divided 1 1920 (rowInSteps step n)) in (
       omega arith,
       c .before .before .before .before .before .before .before .row .given ∙ v .inv .1,
       c .before .before .before .before .before .first .given ∙ v .inv .2,
@@ -130,7 +130,7 @@ returns c =
     v .inv .5
     ∙ ap (λ (m : ℕ). sets o 0 (upto m (carried (k .before .before .step-of .result) (k .before .basic-line-of .result .0)))) end
     ∙ ap₂ (λ (step l : ℕ). sets o 0 (upto s (carried step l))) (k .before .before .step-of .ensures) (k .before .basic-line-of .ensures)
-    ∙ all-carried (stepOf f) (basicLineOf n) o s (omega (arith, start .pre .1 .1 .1 .1))
+    ∙ all-carried (codeStep f) (basicLineOf n) o s (omega (arith, start .pre .1 .1 .1 .1))
     ∙ are-carried f n active
 
 pub put-picture-spec : {M : Type 1} → statement M

@@ -7,14 +7,14 @@ use native.Mathlib.Omega.{arith}
 use borrow.Author.Needs.{needs}
 use lib.ListN.{length, set, length-set}
 use lib.Seq.{sets}
-use Rattle.text.specs.Words.{countOf, wordsOf}
+use Rattle.text.specs.Words.{countOf, wordsInBytes}
 use Rattle.text.proofs.WordsRead.{none-read, one-word-more}
 use Rattle.text.proofs.words.read_words.Statement.{statement}
 use Rattle.text.proofs.words.read_words.Tie as tie
 
 abbrev Inv-loop : tie.InvT-loop
 Inv-loop bytes words₀ count i₀ words i =
-    (count ≡ countOf (length words₀) (length bytes)) × (i ≤ count) × (length words ≡ length words₀) × (words ≡ sets words₀ 0 (wordsOf i bytes))
+    (count ≡ countOf (length words₀) (length bytes)) × (i ≤ count) × (length words ≡ length words₀) × (words ≡ sets words₀ 0 (wordsInBytes i bytes))
 
 abbrev μ-loop : tie.MeasureT-loop
 μ-loop bytes words₀ count i₀ words i = count - i

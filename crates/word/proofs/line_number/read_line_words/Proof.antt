@@ -7,7 +7,7 @@ use Prim.Native.Nat.{ℕ, _≤_}
 use native.Mathlib.Omega.{arith}
 use Rattle.ground.specs.Answer.{Answer, given}
 use Rattle.line.specs.declared.stream.StreamLine.{StreamLine}
-use Rattle.word.specs.LineNumber.{names}
+use Rattle.word.specs.LineNumber.{areWordsOf}
 use Rattle.word.proofs.LineNumbers.{numberIn, names-line, names-none, meets-7}
 use Rattle.word.proofs.Words.{both-words}
 use borrow.Author.Needs.{needs}
@@ -45,8 +45,8 @@ returns-3 : tie.Need-returns-3
 returns-3 c =
     let a = c .before .before .before .before .before .args in
     let n = c .before .before .stream-line .ensures in
-    let t : names (a .ln0) (a .ln1) (numberIn (a .ln0) (a .ln1)) ≡ true =
-    ap (names (a .ln0) (a .ln1)) (sym n) ∙ sym (c .before .are-words-of .ensures) ∙ c .if3 .taken in
+    let t : areWordsOf (a .ln0) (a .ln1) (numberIn (a .ln0) (a .ln1)) ≡ true =
+    ap (areWordsOf (a .ln0) (a .ln1)) (sym n) ∙ sym (c .before .are-words-of .ensures) ∙ c .if3 .taken in
     let p : a .ln0 ≤ 4095 = omega arith in
     let q : a .ln1 ≤ 4095 = omega arith in
     simp (both-words (a .ln0) (a .ln1) p q, names-line (a .ln0) (a .ln1) t) (ap named n)
@@ -55,8 +55,8 @@ returns-4 : tie.Need-returns-4
 returns-4 c =
     let a = c .before .before .before .before .before .args in
     let n = c .before .before .stream-line .ensures in
-    let t : names (a .ln0) (a .ln1) (numberIn (a .ln0) (a .ln1)) ≡ false =
-    ap (names (a .ln0) (a .ln1)) (sym n) ∙ sym (c .before .are-words-of .ensures) ∙ c .if3 .left in
+    let t : areWordsOf (a .ln0) (a .ln1) (numberIn (a .ln0) (a .ln1)) ≡ false =
+    ap (areWordsOf (a .ln0) (a .ln1)) (sym n) ∙ sym (c .before .are-words-of .ensures) ∙ c .if3 .left in
     let p : a .ln0 ≤ 4095 = omega arith in
     let q : a .ln1 ≤ 4095 = omega arith in
     simp (both-words (a .ln0) (a .ln1) p q, names-none (a .ln0) (a .ln1) t)

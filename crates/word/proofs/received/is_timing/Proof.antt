@@ -3,7 +3,7 @@
 use mathlib.Core.Path.{sym, ap, _∙_}
 use mathlib.Core.Bool.{Bool}
 use lib.Dec.{eqb}
-use Rattle.word.specs.Timing.{bit}
+use Rattle.ground.specs.Bit.{bit}
 use Prim.Native.Nat.{_%_, _≤_}
 use native.Mathlib.Omega.{arith}
 use Rattle.word.proofs.Near.{first-word, other-words, no-timing, is-h}
