@@ -1,4 +1,4 @@
--- The same sending, request in other words.
+-- The same sending, asked in other words.
 -- Assumes nothing.
 use mathlib.Core.Path.{_≡_}
 use mathlib.Core.List.{List}

@@ -1,2 +1,2 @@
 pub mod Asking
-pub mod Whole
+pub mod Clamped

@@ -74,7 +74,7 @@ ahead-more (suc m) n c =
     let e : suc (m + n) ≡ suc m + n = omega arith in
     ahead-more m n (crcWord c 0) ∙ ap (λ (k : ℕ). ahead k c) e
 
--- a bit of zero before words of zeros, or behind them
+-- a bit of zero before words of zeros, or after them
 bits-turned : (n c : ℕ) → bitSteps n (bitStep c 0) 0 ≡ bitStep (bitSteps n c 0) 0
 unfolding bitSteps
 bits-turned zero c = refl

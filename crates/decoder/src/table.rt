@@ -1080,5 +1080,5 @@ pub(crate) fn legal_at(d: Disparity, e: u16) -> bool
 pub(crate) fn after_entry(d: Disparity, e: u16) -> Disparity
     ensures { λ r. ⌜ r ≡ entryAfter d e ⌝ }
 {
-    symbol::disparity::turned_if(e / 2048 % 2 == 1, d)
+    symbol::disparity::flipped_if(e / 2048 % 2 == 1, d)
 }

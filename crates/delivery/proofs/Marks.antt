@@ -1,5 +1,5 @@
 -- A window that has the mark at its first two symbols at most, read or not: nothing that is read begins inside it. So it is delivered or it is
--- not, and delivery goes on behind it.
+-- not, and delivery goes on after it.
 -- Assumes nothing.
 use mathlib.Core.Path.{_≡_, refl, sym, ap, _∙_}
 use mathlib.Core.Bool.{Bool, false, true≢false}
@@ -43,7 +43,7 @@ module _ {A : Type 0} (n : ℕ) (read : List ℕ → Option A) (mark : ℕ → B
       ∙ silent v t (suc p) (λ i h. none-has (suc i) (omega arith))
       ∙ ap (λ (k : ℕ). on k t) q
 
-  -- a window's length of symbols that has the mark nowhere behind its first two
+  -- a window's length of symbols that has the mark nowhere after its first two
   pub record Apart (w : List ℕ) : Type 0 where
     pub long : length w ≡ n
     pub none : (i : ℕ) → 2 ≤ i → i < n → mark (getD w i 0) ≡ false

@@ -27,7 +27,7 @@ module _ {A : Type 0} (n : ℕ) (read : List ℕ → Option A) where
         passed-over n read p x l (ap read (take-all n (x ∷ l) h) ∙ e) ∙ none-of-few n read whole (suc p) 0 l (omega arith)
 
     module _ {S : Type 0} (symbols : S → List ℕ) (reading : S → A) where
-      -- windows that are read, and then whatever stands behind them
+      -- windows that are read, and then whatever stands after them
       pub then-rest : (xs : List S) → Each (ReadAs symbols reading) xs → (p : ℕ) (t : List ℕ)
           → deliver n read p 0 (concatenated symbols xs ++ t)
           ≡ placedFrom n reading p xs ++ deliver n read (p + n * length xs) 0 t
@@ -67,7 +67,7 @@ module _ {A : Type 0} (n : ℕ) (read : List ℕ → Option A) where
         ∙ ap (λ (l : List (Found A)). deliver n read p 0 d ++ (record { place = p + length d; reading = reading x } ∷ l))
         (exactly (m .whole) symbols reading xs each (p + length d + n))
 
-    -- any symbols in the place of one window: those before, what these deliver by themselves, those behind
+    -- any symbols in the place of one window: those before, what these deliver by themselves, those after
     pub in-place : (xs ys : List S) → Each (ReadAs symbols reading) xs → Each (ReadAs symbols reading) ys → (d : List ℕ) (p : ℕ)
         → deliver n read p 0 (concatenated symbols xs ++ (d ++ concatenated symbols ys))
         ≡ placedFrom n reading p xs

@@ -1,5 +1,5 @@
 -- The splitting law: where a window that is read stands in a recording, whatever stands around it, delivery is that of what stands before it,
--- by itself, then this window, then that of what stands behind it.
+-- by itself, then this window, then that of what stands after it.
 -- Assumes nothing.
 use mathlib.Core.Path.{_≡_, refl, sym, ap, _∙_}
 use mathlib.Core.Bool.{Bool, true}
@@ -21,12 +21,12 @@ module _ {A : Type 0} (n : ℕ) (read : List ℕ → Option A) (mark : ℕ → B
   abbrev on : ℕ → ℕ → List ℕ → List (Found A)
   on = deliver n read
 
-  -- the window that is read, and what stands behind it
+  -- the window that is read, and what stands after it
   module _ (w t : List ℕ) (a : A) (is : read w ≡ some a) where
     long : length w ≡ n
     long = m .whole .long w a is
 
-    -- symbol i of it, behind v
+    -- symbol i of it, after v
     behind : (v : List ℕ) (i j : ℕ) → j ≡ length v + i → i < n → j < n → getD (take n (v ++ (w ++ t))) j 0 ≡ getD w i 0
     behind v i j e h l =
         getD-take n (v ++ (w ++ t)) j 0 l ∙ ap (λ (k : ℕ). getD (v ++ (w ++ t)) k 0) e ∙ getD-append-add v (w ++ t) i 0

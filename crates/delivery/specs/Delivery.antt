@@ -23,10 +23,10 @@ abbrev pub followed : {A : Type 0} → Option (Found A) → (Found A → List (F
 followed none more = []
 followed (some e) more = e ∷ more e
 
--- what is found at p and then what comes behind it; what comes from the next place on where nothing is
+-- what is found at p and then what comes after it; what comes from the next place on where nothing is
 abbrev pub either : {A : Type 0} → ℕ → Option A → List (Found A) → List (Found A) → List (Found A)
-either p none on behind = on
-either p (some a) on behind = record { place = p; reading = a } ∷ behind
+either p none on after = on
+either p (some a) on after = record { place = p; reading = a } ∷ after
 
 module _ {A : Type 0} (n : ℕ) (read : List ℕ → Option A) where
   -- the n symbols from place q on; fewer where the recording ends before

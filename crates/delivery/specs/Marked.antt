@@ -5,7 +5,7 @@ use Prim.Native.Nat.{ℕ, _+_, _<_}
 use mathlib.Core.List.{List, [], _∷_}
 use Rattle.delivery.specs.Delivery.{Found}
 
--- every window of a delivery ends behind place e
+-- every window of a delivery ends after place e
 abbrev pub AllAfter : {A : Type 0} → ℕ → ℕ → List (Found A) → Type 0
 AllAfter n e [] = Unit
 AllAfter n e (x ∷ xs) = (e < x .place + n) × AllAfter n e xs

@@ -76,7 +76,7 @@ module _ (f : Format) (a : Request) (whole : List ℕ) (t : ℕ) (known : IsForm
       simp (active, ne-eqb (f .depth) 10 other) (omega arith))
       (known .2)
 
-  -- and it stands where the sample was request to be sent
+  -- and it stands where the sample was asked to be sent
   carried : (s j i : ℕ) → j < 1920 → i < 3840 → getD (a .samples) (1920 * s + j) 0 ≡ getD whole i 0 → getD (picture f a s) j 0 ≡ wordOf i
   unfolding picture
   carried s j i p h e =
@@ -116,7 +116,7 @@ image rows t = divided (t % 2) 1920 (rows (t / 2))
 
 -- samples that are h rows, divided, on the 2h streams of the format
 record Carries (f : Format) (h : ℕ) (rows : ℕ → List ℕ) (samples : List ℕ) : Type 0 where
-  half : shapeOf f .half ≡ h
+  half : shapeOf f .«stream_pairs» ≡ h
   made : samples ≡ upto (2 * h) (image rows)
   are : (u : ℕ) → u < h → IsRow f (rows u)
 
@@ -193,23 +193,23 @@ module _ {f : Format} {h : ℕ} {rows : ℕ → List ℕ} {samples : List ℕ} (
 
 -- ---- the formats
 
-half-two : (n : ℕ) → 1 ≤ n → n ≤ 2 → numbered n .half ≡ 1
+half-two : (n : ℕ) → 1 ≤ n → n ≤ 2 → numbered n .«stream_pairs» ≡ 1
 half-two zero p q = absurd (omega arith)
 half-two (suc zero) p q = refl
 half-two (suc (suc zero)) p q = refl
 half-two (suc (suc (suc n))) p q = absurd (omega arith)
 
 -- formats 1 and 2 have two streams, format 3 four
-two-streams : (f : Format) → IsFormat f → f .number ≤ 2 → shapeOf f .half ≡ 1
+two-streams : (f : Format) → IsFormat f → f .number ≤ 2 → shapeOf f .«stream_pairs» ≡ 1
 unfolding shapeOf
 two-streams f known q = half-two (f .number) (known .0) q
 
-four-streams : (f : Format) → f .number ≡ 3 → shapeOf f .half ≡ 2
+four-streams : (f : Format) → f .number ≡ 3 → shapeOf f .«stream_pairs» ≡ 2
 unfolding shapeOf
 four-streams f e = rw e
 
 -- the image that a stream carries, by half the number of streams
-image-of : (f : Format) (h pair t : ℕ) → shapeOf f .half ≡ h → imageOf f pair t ≡ cond (eqb h 1) (2 * (pair - 1) + t + 1) (t + 1)
+image-of : (f : Format) (h pair t : ℕ) → shapeOf f .«stream_pairs» ≡ h → imageOf f pair t ≡ cond (eqb h 1) (2 * (pair - 1) + t + 1) (t + 1)
 unfolding imageOf
 image-of f h pair t e = ap (λ (k : ℕ). cond (eqb k 1) (2 * (pair - 1) + t + 1) (t + 1)) e
 

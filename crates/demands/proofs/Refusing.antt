@@ -76,15 +76,15 @@ tried a (then one more) = (
   λ g. rw (one .passed g) (tried a (more g)),
 )
 
--- ---- spanRules
+-- ---- tests
 
 -- a test holds where the call is good, and nowhere else
-pub record Says (b : Bool) (good : Type 0) : Type 0 where
+pub record Reflects (b : Bool) (good : Type 0) : Type 0 where
   pub told : b ≡ true → good
   pub holds : good → b ≡ true
 
 -- such a test is a rule without a place
-pub plain : (n : ℕ) {b : Bool} {good : Type 0} → Says b good → Agrees (unless n b) (rule n good)
+pub plain : (n : ℕ) {b : Bool} {good : Type 0} → Reflects b good → Agrees (unless n b) (rule n good)
 plain n {b} says = record {
   same = refl;
   passed = λ g. rw (says .holds g);
@@ -92,35 +92,35 @@ plain n {b} says = record {
 }
 
 -- the same said otherwise
-pub or-so : {b : Bool} {p q : Type 0} → Says b p → (p → q) → (q → p) → Says b q
+pub or-so : {b : Bool} {p q : Type 0} → Reflects b p → (p → q) → (q → p) → Reflects b q
 or-so says to from = record { told = λ t. to (says .told t); holds = λ g. says .holds (from g) }
 
--- the spanRules that the calls make: a bound, a number, a range, two of them together
-pub up-to : (x n : ℕ) → Says (ltb x (suc n)) (x ≤ n)
+-- the tests that the calls make: a bound, a number, a range, two of them together
+pub up-to : (x n : ℕ) → Reflects (ltb x (suc n)) (x ≤ n)
 up-to x n = record { told = λ t. omega (arith, ltb-true x (suc n) t); holds = λ h. lt-ltb x (suc n) (omega arith) }
 
-pub at-most : (x n : ℕ) → Says (leb x n) (x ≤ n)
+pub at-most : (x n : ℕ) → Reflects (leb x n) (x ≤ n)
 at-most x n = record { told = leb-true x n; holds = le-leb x n }
 
-pub equal : (x n : ℕ) → Says (eqb x n) (x ≡ n)
+pub equal : (x n : ℕ) → Reflects (eqb x n) (x ≡ n)
 equal x n = record { told = eqb-true x n; holds = eq-eqb x n }
 
-pub in-range : (low high x : ℕ) → Says (within low high x) ((low ≤ x) × (x ≤ high))
+pub in-range : (low high x : ℕ) → Reflects (within low high x) ((low ≤ x) × (x ≤ high))
 in-range low high x = record { told = λ t. (from-low low high x t, to-high low high x t); holds = λ g. is-within low high x (g .0) (g .1) }
 
-pub both : {a b : Bool} {p q : Type 0} → Says a p → Says b q → Says (a && b) (p × q)
+pub both : {a b : Bool} {p q : Type 0} → Reflects a p → Reflects b q → Reflects (a && b) (p × q)
 both {a} {b} x y = record {
   told = λ t. (x .told (both-left a b t), y .told (both-right a b t));
   holds = λ g. rw (x .holds (g .0)) (y .holds (g .1));
 }
 
 -- a test as it stands
-pub as-is : (b : Bool) → Says b (b ≡ true)
+pub as-is : (b : Bool) → Reflects b (b ≡ true)
 as-is b = record { told = λ t. t; holds = λ t. t }
 
 -- some number below n is good
-pub some-below : (n : ℕ) (p : ℕ → Bool) {Good : ℕ → Type 0} → ((k : ℕ) → Says (p k) (Good k))
-    → Says (isSome (firstBelow n p)) ((k : ℕ) × (k < n) × Good k)
+pub some-below : (n : ℕ) (p : ℕ → Bool) {Good : ℕ → Type 0} → ((k : ℕ) → Reflects (p k) (Good k))
+    → Reflects (isSome (firstBelow n p)) ((k : ℕ) × (k < n) × Good k)
 some-below n p {Good} says = record { told = λ t. told (firstBelow n p) refl t; holds = λ g. holds (firstBelow n p) refl g }
   where
     told : (o : Option ℕ) → firstBelow n p ≡ o → isSome o ≡ true → (k : ℕ) × (k < n) × Good k
@@ -131,8 +131,8 @@ some-below n p {Good} says = record { told = λ t. told (firstBelow n p) refl t;
     holds none e (k, h, g) = absurd (true≢false (sym (says k .holds g) ∙ miss p n e .never k (omega arith) h))
     holds (some k) e g = refl
 
--- a test of n places is a rule with the ruleAt at which it does not hold
-pub at-places : (number n : ℕ) (holds : ℕ → Bool) {Good : ℕ → Type 0} → ((k : ℕ) → Says (holds k) (Good k))
+-- a test of n places is a rule with the first place at which it does not hold
+pub at-places : (number n : ℕ) (holds : ℕ → Bool) {Good : ℕ → Type 0} → ((k : ℕ) → Reflects (holds k) (Good k))
     → Agrees (record { number = number; fails = firstBelow n (λ k. not (holds k)) }) (ruleAt number n Good)
 at-places number n holds {Good} says = record {
   same = refl;
@@ -186,7 +186,7 @@ is-legal x =
     (⊎-elim (λ e. (1, omega arith, e)) (⊎-elim (λ e. (2, omega arith, e)) (λ e. (3, omega arith, e))))
 
 -- a legal word is near where the search finds one
-near-says : (w : ℕ) → Says (isSome (nearest w)) ((x : ℕ) × Legal x × (distance w x ≤ 1))
+near-says : (w : ℕ) → Reflects (isSome (nearest w)) ((x : ℕ) × Legal x × (distance w x ≤ 1))
 unfolding nearest
 near-says w =
     or-so (some-below 4 (near w) (λ vh. at-most (distance w (legalWord vh)) 1))
@@ -203,7 +203,7 @@ pub line-words-tried : (n : ℕ) → Tried (numberedOf n) (rule 2 ((1 ≤ n) × 
 line-words-tried n = tried _ (then (plain 2 (in-range 1 1125 n)) (λ _. end))
 
 -- the two words are those of a line where the search finds one
-named-says : (a b : ℕ) → Says (isSome (lineOf a b)) ((n : ℕ) × (1 ≤ n) × (n ≤ 1125) × (ln0 n ≡ a) × (ln1 n ≡ b))
+named-says : (a b : ℕ) → Reflects (isSome (lineOf a b)) ((n : ℕ) × (1 ≤ n) × (n ≤ 1125) × (ln0 n ≡ a) × (ln1 n ≡ b))
 unfolding lineOf
 named-says a b =
     or-so (some-below 1126 (areWordsOf a b) (λ n. both (in-range 1 1125 n) (both (equal (ln0 n) a) (equal (ln1 n) b))))
@@ -219,7 +219,7 @@ read-line-words-tried a b =
     tried _ (then (plain 7 (both (up-to a 4095) (up-to b 4095))) (λ _. then (plain 22 (named-says a b)) (λ _. end)))
 
 -- every word of a run has twelve bits
-all-words-say : (ws : List ℕ) → Says (allWords ws) ((i : ℕ) → i < length ws → getD ws i 0 ≤ 4095)
+all-words-say : (ws : List ℕ) → Reflects (allWords ws) ((i : ℕ) → i < length ws → getD ws i 0 ≤ 4095)
 all-words-say [] = record { told = λ t i h. absurd (omega arith); holds = λ g. refl }
 all-words-say (w ∷ ws) = or-so (both (up-to w 4095) (all-words-say ws)) each (λ g. (g 0 (omega arith), λ i h. g (suc i) (omega arith)))
   where
@@ -258,10 +258,10 @@ lent r entry makes = record {
 -- ---- dividing and joining rows
 
 -- the two short rows have their length
-rows-say : (first second : List ℕ) → Says (areRows first second) ((length first ≡ 1920) × (length second ≡ 1920))
+rows-say : (first second : List ℕ) → Reflects (areRows first second) ((length first ≡ 1920) × (length second ≡ 1920))
 rows-say first second = both (equal (length first) 1920) (equal (length second) 1920)
 
--- dividing a rule
+-- dividing a row
 pub split-tried :
     (whole first second : List ℕ)
     → Tried (splitOf whole first second)
@@ -280,7 +280,7 @@ join-tried first second whole =
 -- ---- formats
 
 -- formats 1 to 3 at 10 or 12 bits
-pub known-says : (f : Format) → Says (isKnown f) (IsFormat f)
+pub known-says : (f : Format) → Reflects (isKnown f) (IsFormat f)
 known-says f = record {
   told = λ t. let k = known-told f t in (k .from, k .to, k .bits);
   holds = λ g. is-known f (record { from = g .0; to = g .1; bits = g .2 });
@@ -288,14 +288,14 @@ known-says f = record {
 
 module _ (f : Format) (known : IsFormat f) (x : ℕ) where
   -- a known format has so many symbols, and so many samples
-  pub symbols-say : Says (eqb x (symbolsIn (shapeOf f))) (Symbols f x)
+  pub symbols-say : Reflects (eqb x (symbolsIn (shapeOf f))) (Symbols f x)
   unfolding shapeOf
   symbols-say =
       or-so (equal x (symbolsIn (shapeOf f)))
       (of-is (λ n. symbolsIn (numbered n)) (f .number) x (known .0) (known .1))
       (is-of (λ n. symbolsIn (numbered n)) (f .number) x)
 
-  pub samples-say : Says (eqb x (samplesIn (shapeOf f))) (Samples f x)
+  pub samples-say : Reflects (eqb x (samplesIn (shapeOf f))) (Samples f x)
   unfolding shapeOf
   samples-say =
       or-so (equal x (samplesIn (shapeOf f)))
@@ -303,7 +303,7 @@ module _ (f : Format) (known : IsFormat f) (x : ℕ) where
       (is-of (λ n. samplesIn (numbered n)) (f .number) x)
 
   -- what may be sent, of any stream t
-  may-send : (n t : ℕ) → Says (allowed f n t x) (MaySend f n x)
+  may-send : (n t : ℕ) → Reflects (allowed f n t x) (MaySend f n x)
   may-send n t = record { told = told; holds = holds }
     where
       twelve-is : f .depth ≡ 12 → eqb (f .depth) 10 ≡ false
@@ -334,7 +334,7 @@ module _ (f : Format) (known : IsFormat f) (x : ℕ) where
 pub lengths-tried : (f : Format) → Tried (lengthsOf f) (rule 1 (IsFormat f) ∷ [])
 lengths-tried f = tried _ (then (plain 1 (known-says f)) (λ _. end))
 
--- a rule filled with blanking
+-- a row filled with blanking
 pub fill-tried : (f : Format) (entry : List ℕ) → Tried (fillOf f entry) (rule 1 (IsFormat f) ∷ rule 4 (Samples f (length entry)) ∷ [])
 fill-tried f entry =
     tried _ (then (plain 1 (known-says f)) (λ known. then (plain 4 (samples-say f known (length entry))) (λ _. end)))
@@ -362,7 +362,7 @@ send-tried d f a room =
     (λ i. may-send f known (getD xs i 0) (a .line) (i / 1920)))
     (λ _. end))))))
 
--- spanRules 20 to 26 of a window
+-- tests 20 to 26 of a window
 tests-agree : (f : Format) (w : List ℕ) → Agree (testsOf f w) (spanRules f w)
 tests-agree f w =
     let s = streams (shapeOf f) in

@@ -56,7 +56,7 @@ use Rattle.demands.specs.Form.{MaySend, Refusal, rule, ruleAt, Tried, Le
 abbrev pub Legal : ℕ → Type 0
 Legal x = (x ≡ 0x800) ⊎ ((x ≡ 0x9D0) ⊎ ((x ≡ 0xAB0) ⊎ (x ≡ 0xB60)))
 
--- spanRules 20 to 26 of the reader, each over the whole span
+-- tests 20 to 26 of the reader, each over the whole span
 abbrev pub spanRules : Format → List ℕ → List Refusal
 spanRules f w =
     let s = streams (shapeOf f) in
@@ -100,7 +100,7 @@ pub record Demand1 : Type 0 where
   -- the place of a sample: 2
   pub place :
       (line sample : ℕ) → Tried (placedOf line sample) (rule 2 ((1 ≤ line) × (line ≤ 2160) × (sample ≤ 3839)) ∷ [])
-  -- dividing a rule: 3, 4
+  -- dividing a row: 3, 4
   pub split :
       (whole first second : List ℕ)
       → Tried (splitOf whole first second)
@@ -115,12 +115,12 @@ pub record Demand1 : Type 0 where
       × Lent (joinOf first second whole) whole (joined 1920 first second) (joinRow first second whole)
   -- the lengths of a format: 1
   pub lengths : (f : Format) → Tried (lengthsOf f) (rule 1 (IsFormat f) ∷ [])
-  -- a rule filled with blanking: 1, 4
+  -- a row filled with blanking: 1, 4
   pub fill :
       (f : Format) (entry : List ℕ)
       → Tried (fillOf f entry) (rule 1 (IsFormat f) ∷ rule 4 (Samples f (length entry)) ∷ [])
       × Lent (fillOf f entry) entry (blankRow f) (filledRow f entry)
-  -- sending a span: 1, 2, 3, 4, 6 with the ruleAt index
+  -- sending a span: 1, 2, 3, 4, 6 with the first index
   pub send :
       (d : Disparity) (f : Format) (a : Request) (entry : List ℕ)
       → Tried (sendOf d f a (length entry))
@@ -167,7 +167,7 @@ pub record Demand1 : Type 0 where
 
 -- ==== 2 ====
 
--- a rule of the picture: 3840 samples, each of which may be sent at the depth
+-- a row of the picture: 3840 samples, each of which may be sent at the depth
 pub record IsRow (f : Format) (whole : List ℕ) : Type 0 where
   pub long : length whole ≡ 3840
   pub ten : f .depth ≡ 10 → (i : ℕ) → i < 3840 → (4 ≤ getD whole i 0) × (getD whole i 0 ≤ 1019)
@@ -181,9 +181,9 @@ pub record Delivers (f : Format) (l : ℕ) (content : Content) (samples words : 
       → Symbols f (length entry)
       → sendOf d f (request (l + 41) content samples) (length entry) ≡ given (spanAfter d f (request (l + 41) content samples))
   pub found :
-      (d : Disparity) (before entry behind : List ℕ)
+      (d : Disparity) (before entry after : List ℕ)
       → Symbols f (length entry)
-      → let r = before ++ (sentBuffer d f (request (l + 41) content samples) entry ++ behind) in
+      → let r = before ++ (sentBuffer d f (request (l + 41) content samples) entry ++ after) in
       length r ≤ limit
       → (v : Delivery)
       × (v .line .0 ≡ l + 41)
@@ -210,7 +210,7 @@ pub record Demand2 : Type 0 where
       → WasSent f x
       → (readSpan f (sentSymbols f x) ≡ given (readingOf f x .values))
       × (pictureOf f (sentSymbols f x) ≡ readingOf f x .words)
-  -- and read is exactly what is the encoding of words that meet the spanRules
+  -- and read is exactly what is the encoding of words that meet the tests
   pub exactIf :
       (f : Format) (w : List ℕ) (d : Disparity) (c : ContentBytes) (words : List ℕ)
       → IsFormat f
@@ -260,7 +260,7 @@ pub record Demand2 : Type 0 where
       → (w : List ℕ) (d : Disparity) (c : ContentBytes)
       → Encodes f w d c words
       → readSpan f w ≡ refused 21 k
-  -- joining what was divided is the rule, and dividing what was joined the two rows
+  -- joining what was divided is the row, and dividing what was joined the two rows
   pub joinSplit : (whole : List ℕ) → length whole ≡ 3840 → joined 1920 (divided 0 1920 whole) (divided 1 1920 whole) ≡ whole
   pub splitJoin :
       (first second : List ℕ)
@@ -279,8 +279,8 @@ pub record Demand2 : Type 0 where
       ≡ given (record { image = u; line = record { 0 = l }; stream = record { 0 = l + 41 }; sample = j }))
       × (getD (divided ((u + 1) % 2) 1920 whole) j 0 ≡ getD whole (sampleFrom u j) 0)
   -- the picture comes back. Formats 1 and 2: picture line 2l - 1 gives images 1 and 2, which one link carries (pair 1), and line 2l gives
-  -- images 3 and 4, which the other does (pair 2). Its rule is divided, sent on stream line l + 41 of its link, delivered wherever it stands,
-  -- and joined: it is the rule again.
+  -- images 3 and 4, which the other does (pair 2). Its row is divided, sent on stream line l + 41 of its link, delivered wherever it stands,
+  -- and joined: it is the row again.
   pub pictureOfTwo :
       (f : Format) (content : Content) (whole : List ℕ) (pair l : ℕ)
       → IsFormat f
@@ -386,14 +386,14 @@ pub record Demand3 : Type 0 where
       → stepsFrom k f r p rows ≡ deliveryFrom f r p
   -- a sent span anywhere
   pub anywhere :
-      (f : Format) (x : Sending) (before behind : List ℕ)
+      (f : Format) (x : Sending) (before after : List ℕ)
       → WasSent f x
-      → let r = before ++ (sentSymbols f x ++ behind) in
+      → let r = before ++ (sentSymbols f x ++ after) in
       length r ≤ limit
       → Delivered f r
       (deliveryFrom f before 0
       ++ (record { place = length before; reading = readingOf f x }
-      ∷ movedBy (length before + symbolsIn (shapeOf f)) (deliveryFrom f behind 0)))
+      ∷ movedBy (length before + symbolsIn (shapeOf f)) (deliveryFrom f after 0)))
   -- sent spans alone: exactly those
   pub alone :
       (f : Format) (xs : List Sending)
@@ -417,7 +417,7 @@ pub record Demand3 : Type 0 where
 
 -- ==== beyond ====
 
--- Any symbols in the place of one span: those before, what these deliver by themselves, every span behind. So nothing behind the damage is
+-- Any symbols in the place of one span: those before, what these deliver by themselves, every span after. So nothing after the damage is
 -- lost, and no more than a span's length of symbols that are not accepted delivers nothing. Lost and inserted symbols are cases of it.
 pub record Beyond : Type 0 where
   pub damaged :
@@ -448,7 +448,7 @@ pub record Beyond : Type 0 where
       let r = concatenated (sentSymbols f) xs ++ (d ++ concatenated (sentSymbols f) ys) in
       length r ≤ limit
       → Delivered f r (placedFrom n (readingOf f) 0 xs ++ placedFrom n (readingOf f) (n * length xs + length d) ys)
-  -- the beginning of a recording delivers a beginning of what the whole delivers: what is left out ends behind the cut
+  -- the beginning of a recording delivers a beginning of what the whole delivers: what is left out ends after the cut
   pub cut :
       (f : Format) (r : List ℕ) (m : ℕ)
       → IsFormat f

@@ -44,7 +44,7 @@ pub record Refusal : Type 1 where
 abbrev pub rule : ℕ → Type 0 → Refusal
 rule number good = record { number = number; good = good; place = λ k. k ≡ 0 }
 
--- a rule that asks n places: the ruleAt at which it does not hold is answered
+-- a rule that asks n places: the first at which it does not hold is answered
 abbrev pub ruleAt : ℕ → ℕ → (ℕ → Type 0) → Refusal
 ruleAt number n Holds =
     record {
@@ -129,6 +129,6 @@ Delivered f r list = (rows : List ℕ) → Samples f (length rows) → (k : ℕ)
 
 -- ---- the picture
 
--- the words of a rule of samples: at depth 10 shifted by two
+-- the words of a row of samples: at depth 10 shifted by two
 abbrev pub wordsFor : Format → List ℕ → List ℕ
 wordsFor f rule = table (length rule) (λ i. cond (eqb (f .depth) 10) (4 * getD rule i 0) (getD rule i 0))

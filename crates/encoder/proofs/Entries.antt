@@ -28,7 +28,7 @@ pub offset-below : (d : Disparity) → offsetOf d ≤ 268
 offset-below Negative = omega arith
 offset-below Positive = omega arith
 
--- behind the offset of a disparity stand the symbols at it
+-- after the offset of a disparity stand the symbols at it
 pub symbol-at : (d : Disparity) (c : ℕ) → c < 268 → getD symbolTable (offsetOf d + c) 0 ≡ symbolOf d c
 unfolding ofOffset symbolTable
 symbol-at d c h =
@@ -64,7 +64,7 @@ after-at d c h = ap (bitXor (offsetOf d)) (turn-at c h) ∙ turned d (flips c) �
     turned Positive true = refl
     turned Positive false = refl
 
--- so the symbol that stands behind the offset, and the disparity of the offset after, are what encoding answers
+-- so the symbol that stands after the offset, and the disparity of the offset after, are what encoding answers
 pub encoded-is : (d : Disparity) (c : ℕ) → c < 268 → {t : List ℕ} {at after : ℕ} {e : Disparity} → t ≡ symbolTable → at ≡ offsetOf d + c
     → e ≡ ofOffset after → after ≡ offsetOf (afterOf d c) → _≡_ {A = Encoded} (record { symbol = getD t at 0; after = e }) (encoded d c)
 encoded-is d c h p q r s =

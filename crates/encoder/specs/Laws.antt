@@ -9,7 +9,7 @@ use Rattle.symbol.specs.Code.{symbolOf, afterOf}
 use Rattle.encoder.specs.Inside.Tables.{offsetOf, ofOffset, symbolTable, flipTable}
 
 pub record EncoderLaws : Type 0 where
-  -- behind the offset of a disparity stand the symbols of the characters at it
+  -- after the offset of a disparity stand the symbols of the characters at it
   pub symbolAt : (d : Disparity) (c : ℕ) → c < 268 → getD symbolTable (offsetOf d + c) 0 ≡ symbolOf d c
   -- the exclusive or of the offset with a character's turn is the offset of the disparity after it
   pub afterAt : (d : Disparity) (c : ℕ) → c < 268 → bitXor (offsetOf d) (getD flipTable c 0) ≡ offsetOf (afterOf d c)

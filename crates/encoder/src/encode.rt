@@ -18,7 +18,7 @@ fn encode_character(d: Disparity, c: u16) -> Encoded
     ensures { λ r. ⌜ r ≡ encoded d c ⌝ }
 {
     let symbols = crate::tables::symbol_table();
-    let turns = crate::tables::turn_table();
+    let turns = crate::tables::flip_table();
     let offset = crate::tables::offset_of(d);
     let at = offset + c as usize;
     let symbol = symbols[at];

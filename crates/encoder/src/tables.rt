@@ -824,7 +824,7 @@ pub fn symbol_table() -> [u16; 536]
 }
 
 // The turns by value. The offset after a character is the exclusive or of the offset before it with its turn.
-pub fn turn_table() -> [u16; 268]
+pub fn flip_table() -> [u16; 268]
     ensures { λ r. ⌜ r ≡ flipTable ⌝ }
 {
     TURNS

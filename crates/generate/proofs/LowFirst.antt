@@ -1,4 +1,4 @@
--- Symbols as bytes: read again, one after the other, and a run behind a run.
+-- Symbols as bytes: read again, one after the other, and a run after a run.
 -- Assumes nothing.
 use mathlib.Core.Path.{_≡_, refl, sym, ap, ap₂, _∙_}
 use mathlib.Core.List.{List, [], _∷_, _++_}
@@ -26,7 +26,7 @@ word-again (x ∷ l) (suc i) h =
 pub read-again : (l : List ℕ) → wordsInBytes (length l) (lowFirst l) ≡ l
 read-again l = sym (is-table (length l) (wordInBytes (lowFirst l)) 0 l refl (word-again l))
 
--- ---- a run behind a run, and how long it is
+-- ---- a run after a run, and how long it is
 
 pub low-append : (a b : List ℕ) → lowFirst (a ++ b) ≡ lowFirst a ++ lowFirst b
 unfolding lowFirst

@@ -52,7 +52,7 @@ six-count (a ∷ b ∷ c ∷ d ∷ e ∷ f ∷ rest) =
 
 -- so many spans have that many times the symbols of one
 pub signal-long :
-    (d : Disparity) (f : Format) (n count : ℕ) → 1 ≤ shapeOf f .half
+    (d : Disparity) (f : Format) (n count : ℕ) → 1 ≤ shapeOf f .«stream_pairs»
     → length (signalFrom d f (spansFrom f n count)) ≡ count * symbolsIn (shapeOf f)
 unfolding signalFrom spansFrom
 signal-long d f n zero some = omega arith

@@ -1,4 +1,4 @@
--- Where a span is left it may be sent, at the start and behind every span.
+-- Where a span is left it may be sent, at the start and after every span.
 -- Assumes nothing.
 use mathlib.Core.Path.{_≡_, refl, subst}
 use mathlib.Core.Bool.{true}
@@ -50,6 +50,6 @@ module _ (input : List ℕ) where
   pub left-ready : Ready (leftOf input)
   left-ready = by-answer (wantedOf input) refl
 
--- behind every span
+-- after every span
 pub next-ready : (s : Left) → Ready s → 0 < s .count → Ready (nextLeft s)
 next-ready s r h = record { known = λ _. r .known h; line = λ _. after-is-line (s .line .0) }

@@ -31,7 +31,7 @@ pub none-left : (s : Left) → s .count ≡ 0 → restOf s ≡ []
 unfolding restOf spansFrom signalFrom lowFirst
 none-left s e = rw e
 
--- else the next span, and what is left behind it
+-- else the next span, and what is left after it
 module _ (d : Disparity) (f : Format) (n : ℕ) where
   abbrev span : List ℕ
   span = spanSymbols d f (spanOn f n)

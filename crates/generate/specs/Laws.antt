@@ -51,7 +51,7 @@ pub record GenerateLaws : Type 0 where
   -- so many spans have so many times the symbols of one
   pub signalLong :
       (d : Disparity) (f : Format) (n count : ℕ)
-      → 1 ≤ shapeOf f .half
+      → 1 ≤ shapeOf f .«stream_pairs»
       → length (signalFrom d f (spansFrom f n count)) ≡ count * symbolsIn (shapeOf f)
   -- the program writes it in pieces: the start, and then span after span until none is left; together they are what is to be written
   pub pieces : (input : List ℕ) → generated input ≡ fileStart input ++ restOf (leftOf input)

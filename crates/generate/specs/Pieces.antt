@@ -22,7 +22,7 @@ startText input (given p) = take 2 input
 abbrev pub fileStart : List ℕ → List ℕ
 fileStart input = startText input (wantedOf input)
 
--- what is left behind it: all spans, from fresh disparity, or nothing
+-- what is left after it: all spans, from fresh disparity, or nothing
 abbrev pub allOf : Parameters → Left
 allOf p = record { format = p .format; line = p .first; disparity = fresh; count = p .count }
 

@@ -34,7 +34,7 @@ fn after_of(sent: Sent, d: Disparity) -> Disparity
     }
 }
 
-// The next span: its bytes fill what is lent, and what is left behind it comes back. The rows of samples and symbols are its own to write.
+// The next span: its bytes fill what is lent, and what is left after it comes back. The rows of samples and symbols are its own to write.
 pub(crate) fn put_next(s: Left, samples: &mut [u16], symbols: &mut [u16], out: &mut [u8]) -> Left
     requires { ⌜ Ready s ⌝ }
     requires { ⌜ 0 < s .count ⌝ }

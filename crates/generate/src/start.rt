@@ -1,4 +1,4 @@
-// The start of what is written, and what is left behind it.
+// The start of what is written, and what is left after it.
 use crate::left::Left;
 use crate::parameters::Parameters;
 use crate::parameters::Wanted;

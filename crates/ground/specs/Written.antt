@@ -4,7 +4,7 @@ use mathlib.Core.List.{List, [], _∷_, _++_}
 use Prim.Native.Nat.{ℕ, zero, suc}
 
 module _ {A : Type 0} where
-  -- the pieces f 0, f 1, and so on, n of them, one behind the other
+  -- the pieces f 0, f 1, and so on, n of them, one after the other
   unfoldable pub upto : ℕ → (ℕ → List A) → List A
   upto zero f = []
   upto (suc n) f = upto n f ++ f n

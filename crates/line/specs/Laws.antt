@@ -10,7 +10,7 @@ use Rattle.line.specs.Picture.{streamLineOf, basicLineOf}
 use Rattle.line.specs.Stream.{isLine, vOf, lineAfter, lineBefore}
 
 pub record LineLaws : Type 0 where
-  -- V is 0 on stream lines 42 to 1121 and 1 on those before and behind (004, table 5)
+  -- V is 0 on stream lines 42 to 1121 and 1 on those before and after (004, table 5)
   pub active : (n : ℕ) → 42 ≤ n → n ≤ 1121 → vOf n ≡ false
   pub blankingBefore : (n : ℕ) → n ≤ 41 → vOf n ≡ true
   pub blankingBehind : (n : ℕ) → 1122 ≤ n → vOf n ≡ true

@@ -1,4 +1,4 @@
--- The pieces of a line, each put behind the one before it.
+-- The pieces of a line, each put after the one before it.
 -- Assumes nothing.
 use mathlib.Core.Path.{_≡_}
 use mathlib.Core.List.{List, [], _∷_}

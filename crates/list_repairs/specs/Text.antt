@@ -28,7 +28,7 @@ repairLine index w = decimal index ++ (space ∷ []) ++ hexadecimal w ++ (space 
 abbrev pub wordCount : ℕ → ℕ
 wordCount len = countOf 32768 len
 
--- how many of them are repairLines at once, from one on
+-- how many of them are listed at once, from one on
 abbrev pub lineCount : ℕ → ℕ → ℕ
 lineCount len from = min 2048 (wordCount len - from)
 

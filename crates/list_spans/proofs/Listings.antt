@@ -1,4 +1,4 @@
--- Which case of the spanListing an input is, and that it is what was put.
+-- Which case of the listing an input is, and that it is what was put.
 -- Assumes nothing.
 use mathlib.Core.Path.{_≡_, refl, sym, ap, ap₂, _∙_}
 use mathlib.Core.Bool.{true, false}

@@ -24,7 +24,7 @@ unfolding highFirst
 length-bytes [] = refl
 length-bytes (w ∷ l) = omega (arith, length-bytes l)
 
--- ---- a loop over words: what is left, put behind what is there, is the whole
+-- ---- a loop over words: what is left, put after what is there, is the whole
 module _ (words out : List ℕ) (at i : ℕ) where
   abbrev left : List ℕ
   left = sets out (at + 2 * i) (highFirst (drop i words))

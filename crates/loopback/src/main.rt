@@ -44,7 +44,7 @@ fn write_header(fd: i32) {
     io::write_all(fd, &head[..n]);
 }
 
-// The picture behind its header, and then the summary.
+// The picture after its header, and then the summary.
 fn run(fd: i32, k: Knock) {
     let mut heard = [0u16; 1125];
     let mut picture = [0u16; 38400];

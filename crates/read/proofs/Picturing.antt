@@ -215,10 +215,10 @@ module _ (f : Format) (w : List ℕ) (is : IsWindow f w) where
   abbrev fails26 : Option ℕ
   fails26 = firstBelow n (λ k. not (placed s (holds26 s word f) k))
 
-  fill-26 : fails26 ≡ wrongIn asked26 from (from + 2 * shapeOf f .fill)
+  fill-26 : fails26 ≡ wrongIn asked26 from (from + 2 * shapeOf f .«fill_pairs»)
   unfolding holds26
   fill-26 =
-      one-run n from (from + 2 * shapeOf f .fill) (placed s (holds26 s word f)) asked26 (omega arith) (omega arith)
+      one-run n from (from + 2 * shapeOf f .«fill_pairs») (placed s (holds26 s word f)) asked26 (omega arith) (omega arith)
       (λ k b far.
       on-test (ltb k from)
       (λ t.
@@ -230,12 +230,12 @@ module _ (f : Format) (w : List ℕ) (is : IsWindow f w) where
       rw (le-ltb (k / s) (1932 + shapeOf f .ancillary) l))
 
   -- the look at the fill is that search
-  looked-26 : fillRight (shapeOf f) w ≡ not (isSome (wrongIn asked26 from (from + 2 * shapeOf f .fill)))
+  looked-26 : fillRight (shapeOf f) w ≡ not (isSome (wrongIn asked26 from (from + 2 * shapeOf f .«fill_pairs»)))
   unfolding fillRight wrongIn
   looked-26 =
-      let size : from + 2 * shapeOf f .fill - from ≡ 2 * shapeOf f .fill = omega arith in
+      let size : from + 2 * shapeOf f .«fill_pairs» - from ≡ 2 * shapeOf f .«fill_pairs» = omega arith in
       rw size
-      (ap (λ (test : ℕ → Bool). not (isSome (firstFrom from (2 * shapeOf f .fill) test)))
+      (ap (λ (test : ℕ → Bool). not (isSome (firstFrom from (2 * shapeOf f .«fill_pairs») test)))
       (fun-ext (λ k. ap (λ (x : ℕ). not (eqb (word x) fillWord)) (sym (place-again s some-streams k)))))
 
   is-none : (o : Option ℕ) → not (isSome o) ≡ true → o ≡ none
@@ -249,7 +249,7 @@ module _ (f : Format) (w : List ℕ) (is : IsWindow f w) where
   unfolding place26
   wrong-26 t =
       fill-26
-      ∙ found-some (wrongIn asked26 from (from + 2 * shapeOf f .fill)) (from + 2 * shapeOf f .fill)
+      ∙ found-some (wrongIn asked26 from (from + 2 * shapeOf f .«fill_pairs»)) (from + 2 * shapeOf f .«fill_pairs»)
       (λ e. true≢false (sym (looked-26 ∙ rw e) ∙ t))
 
   -- ---- the verdict over both

@@ -23,12 +23,12 @@ use Rattle.window.proofs.Placing.{stream-below}
 use Rattle.read_test21_26.specs.Inside.Holds.{crccReceived, holds24By}
 use Rattle.read_test21_26.specs.Inside.Verdict.{serviceTests}
 
-module _ (p : Shape) (w : List ℕ) (some-streams : 1 ≤ p .half) (few : p .half ≤ 2) where
+module _ (p : Shape) (w : List ℕ) (some-streams : 1 ≤ p .«stream_pairs») (few : p .«stream_pairs» ≤ 2) where
   -- the sum of a stream is that of its picture words
   sum-is : (t : ℕ) → t < streams p → sumIn (sumsOf p w) t ≡ crc 0 (columnOf p w 4 1920 t)
-  sum-is t h = go (p .half) refl t h
+  sum-is t h = go (p .«stream_pairs») refl t h
     where
-      go : (half : ℕ) → p .half ≡ half → (t : ℕ) → t < streams p → sumIn (sumsOf p w) t ≡ crc 0 (columnOf p w 4 1920 t)
+      go : (half : ℕ) → p .«stream_pairs» ≡ half → (t : ℕ) → t < streams p → sumIn (sumsOf p w) t ≡ crc 0 (columnOf p w 4 1920 t)
       go half e zero h = refl
       go half e (suc zero) h = refl
       go zero e (suc (suc t)) h = absurd (omega arith)

@@ -36,10 +36,10 @@ at-positive : (m : ℕ) → (m ≡ 512 → ⊥) → (0x346 ≡ blankBy m .first)
 unfolding symbolOf
 at-positive m x = rw (ne-eqb m 512 x) (refl, refl, refl)
 
-module _ (w : List ℕ) (from turns : ℕ) where
+module _ (w : List ℕ) (from flips : ℕ) where
   -- ---- the first three
-  three-blank : symbolAt w from ≡ blankBy (maskBy turns) .first → symbolAt w (from + 1) ≡ blankBy (maskBy turns) .second
-      → symbolAt w (from + 2) ≡ blankBy (maskBy turns) .third → AreBlank w from (from + 3) turns
+  three-blank : symbolAt w from ≡ blankBy (maskBy flips) .first → symbolAt w (from + 1) ≡ blankBy (maskBy flips) .second
+      → symbolAt w (from + 2) ≡ blankBy (maskBy flips) .third → AreBlank w from (from + 3) flips
   three-blank x y z =
       record {
         first = λ q h. let at : from ≡ from + 3 * q = omega arith in rw at at x;
@@ -47,16 +47,16 @@ module _ (w : List ℕ) (from turns : ℕ) where
         third = λ q h. let at : from + 2 ≡ from + 3 * q + 2 = omega arith in rw at at z;
       }
 
-  pub negative-blank : turns / 2048 % 4 ≡ 2 → symbolAt w from ≡ 0x0B9 → symbolAt w (from + 1) ≡ 0x0AE → symbolAt w (from + 2) ≡ 0x0B6
-      → AreBlank w from (from + 3) turns
+  pub negative-blank : flips / 2048 % 4 ≡ 2 → symbolAt w from ≡ 0x0B9 → symbolAt w (from + 1) ≡ 0x0AE → symbolAt w (from + 2) ≡ 0x0B6
+      → AreBlank w from (from + 3) flips
   negative-blank e x y z =
-      let b = at-negative (maskBy turns) (omega arith) in
+      let b = at-negative (maskBy flips) (omega arith) in
       three-blank (x ∙ b .0) (y ∙ b .1) (z ∙ b .2)
 
-  pub positive-blank : (turns / 2048 % 4 ≡ 2 → ⊥) → symbolAt w from ≡ 0x346 → symbolAt w (from + 1) ≡ 0x351 → symbolAt w (from + 2) ≡ 0x349
-      → AreBlank w from (from + 3) turns
+  pub positive-blank : (flips / 2048 % 4 ≡ 2 → ⊥) → symbolAt w from ≡ 0x346 → symbolAt w (from + 1) ≡ 0x351 → symbolAt w (from + 2) ≡ 0x349
+      → AreBlank w from (from + 3) flips
   positive-blank n x y z =
-      let b = at-positive (maskBy turns) (λ e. n (omega arith)) in
+      let b = at-positive (maskBy flips) (λ e. n (omega arith)) in
       three-blank (x ∙ b .0) (y ∙ b .1) (z ∙ b .2)
 
   -- ---- and so on
@@ -67,7 +67,7 @@ module _ (w : List ℕ) (from turns : ℕ) where
         let at : from + k + 3 * suc q ≡ from + k + 3 * q + 3 = omega arith in
         ap (symbolAt w) at ∙ r .again (from + k + 3 * q) (omega arith) (omega arith) ∙ again k q (omega arith)
 
-    pub all-blank : AreBlank w from (from + 3) turns → AreBlank w from to turns
+    pub all-blank : AreBlank w from (from + 3) flips → AreBlank w from to flips
     all-blank b =
         record {
           first =
@@ -88,15 +88,15 @@ module _ (w : List ℕ) (from turns : ℕ) where
         }
 
   -- ---- they are bytes where they stand
-  module _ (to : ℕ) (b : AreBlank w from to turns) (start : ℕ) (g : RunInv w 0 255 start from (maskBy turns)) where
-    going-by : (k : ℕ) → from + 3 * k ≤ to → RunInv w 0 255 start (from + 3 * k) (maskBy turns)
+  module _ (to : ℕ) (b : AreBlank w from to flips) (start : ℕ) (g : RunInv w 0 255 start from (maskBy flips)) where
+    going-by : (k : ℕ) → from + 3 * k ≤ to → RunInv w 0 255 start (from + 3 * k) (maskBy flips)
     going-by zero h = let at : from + 3 * 0 ≡ from = omega arith in rw at g
     going-by (suc k) h =
         let at : from + 3 * suc k ≡ from + 3 * k + 3 = omega arith in
         rw at
         (blank-turn w (going-by k (omega arith)) (b .first k (omega arith)) (b .second k (omega arith)) (b .third k (omega arith)))
 
-    pub blank-going : (k : ℕ) → to ≡ from + 3 * k → RunInv w 0 255 start to (maskBy turns)
+    pub blank-going : (k : ℕ) → to ≡ from + 3 * k → RunInv w 0 255 start to (maskBy flips)
     blank-going k e = rw e (going-by k (omega arith))
 
 -- ---- they are fill
@@ -123,17 +123,17 @@ module _ (w : List ℕ) (o m : ℕ) where
       → Both (plainPair w o)
   blank-both x y z = rw (blank-pair x y z) (record { first = refl; second = refl })
 
-pub blank-fill : (p : Shape) (w : List ℕ) (from turns : ℕ) → 1 ≤ p .half → length w ≡ symbolsIn p → from ≡ length w - 3 * p .fill
-    → AreBlank w from (length w) turns → fillRight p w ≡ true
-blank-fill p w from turns some long begins b =
+pub blank-fill : (p : Shape) (w : List ℕ) (from flips : ℕ) → 1 ≤ p .«stream_pairs» → length w ≡ symbolsIn p → from ≡ length w - 3 * p .«fill_pairs»
+    → AreBlank w from (length w) flips → fillRight p w ≡ true
+blank-fill p w from flips some long begins b =
     all-right p w some
     (record {
       come = omega arith;
       right =
           λ k h l.
-          let q = k - p .half * (1932 + p .ancillary) in
+          let q = k - p .«stream_pairs» * (1932 + p .ancillary) in
           let at : from + 3 * q ≡ 3 * k = omega arith in
-          blank-both w (3 * k) (maskBy turns) (rw at at (b .first q (omega arith))) (rw at at (b .second q (omega arith)))
+          blank-both w (3 * k) (maskBy flips) (rw at at (b .first q (omega arith))) (rw at at (b .second q (omega arith)))
           (rw at at (b .third q (omega arith)));
     })
 

@@ -49,7 +49,7 @@ suits-byte d e has none = ap₂ _&&_ (ap not (ne-eqb _ 0 (λ z. positive d (sym 
     positive Positive z = absurd (omega arith)
 
 module _ (w : List ℕ) where
-  -- one run behind another
+  -- one run after another
   pub join : {from mid to m n : ℕ} → RunInv w 0 255 from mid m → RunInv w 0 255 mid to n → RunInv w 0 255 from to n
   join {from} {mid} {to} a b =
       record {

@@ -95,33 +95,33 @@ module _ (w : List ℕ) {old : List ℕ} {j : ℕ} {v : Passed} {rows : List ℕ
       (got-four w (omega arith)
       (rw three at (got-four w (omega arith) (rw two at (got-four w (omega arith) (got-four w (omega arith) g))))))
 
--- what is answered behind four words, and the rows with them, by what was seen of each
+-- what is answered after four words, and the rows with them, by what was seen of each
 module _ (w : List ℕ) (j : ℕ) (v : Passed) where
-  pub after-two : {a b c d : Three} → a ≡ seenThree w (12 + 3 * j) (v .good) (v .turns)
-      → b ≡ seenThree w (12 + 3 * (j + 1)) (a .good) (a .turns) → c ≡ seenThree w (12 + 3 * (j + 2)) (b .good) (b .turns)
-      → d ≡ seenThree w (12 + 3 * (j + 3)) (c .good) (c .turns)
-      → record { good = d .good; turns = d .turns } ≡ placeTwo w (j + 3) (placeTwo w (j + 2) (placeTwo w (j + 1) (placeTwo w j v)))
+  pub after-two : {a b c d : Three} → a ≡ seenThree w (12 + 3 * j) (v .good) (v .flips)
+      → b ≡ seenThree w (12 + 3 * (j + 1)) (a .good) (a .flips) → c ≡ seenThree w (12 + 3 * (j + 2)) (b .good) (b .flips)
+      → d ≡ seenThree w (12 + 3 * (j + 3)) (c .good) (c .flips)
+      → record { good = d .good; flips = d .flips } ≡ placeTwo w (j + 3) (placeTwo w (j + 2) (placeTwo w (j + 1) (placeTwo w j v)))
   after-two ea eb ec ed = rw (ed, ec, eb, ea)
 
-  pub after-four : {a b c d : Six} → a ≡ seenSix w (24 + 6 * j) (v .good) (v .turns)
-      → b ≡ seenSix w (24 + 6 * (j + 1)) (a .good) (a .turns) → c ≡ seenSix w (24 + 6 * (j + 2)) (b .good) (b .turns)
-      → d ≡ seenSix w (24 + 6 * (j + 3)) (c .good) (c .turns)
-      → record { good = d .good; turns = d .turns }
+  pub after-four : {a b c d : Six} → a ≡ seenSix w (24 + 6 * j) (v .good) (v .flips)
+      → b ≡ seenSix w (24 + 6 * (j + 1)) (a .good) (a .flips) → c ≡ seenSix w (24 + 6 * (j + 2)) (b .good) (b .flips)
+      → d ≡ seenSix w (24 + 6 * (j + 3)) (c .good) (c .flips)
+      → record { good = d .good; flips = d .flips }
       ≡ placeFour w (j + 3) (placeFour w (j + 2) (placeFour w (j + 1) (placeFour w j v)))
   after-four ea eb ec ed = rw (ed, ec, eb, ea)
 
 -- the words of what was seen
-pub words-seen : {x : Three} (w : List ℕ) (o good turns : ℕ) → x ≡ seenThree w o good turns → x .words ≡ plainPair w o
+pub words-seen : {x : Three} (w : List ℕ) (o good flips : ℕ) → x ≡ seenThree w o good flips → x .words ≡ plainPair w o
 unfolding seenThree
-words-seen w o good turns e = ap (λ (y : Three). y .words) e
+words-seen w o good flips e = ap (λ (y : Three). y .words) e
 
-pub low-seen : {x : Six} (w : List ℕ) (o good turns : ℕ) → x ≡ seenSix w o good turns → x .low ≡ plainPair w o
+pub low-seen : {x : Six} (w : List ℕ) (o good flips : ℕ) → x ≡ seenSix w o good flips → x .low ≡ plainPair w o
 unfolding seenThree seenSix
-low-seen w o good turns e = ap (λ (y : Six). y .low) e
+low-seen w o good flips e = ap (λ (y : Six). y .low) e
 
-pub high-seen : {x : Six} (w : List ℕ) (o good turns : ℕ) → x ≡ seenSix w o good turns → x .high ≡ plainPair w (o + 3)
+pub high-seen : {x : Six} (w : List ℕ) (o good flips : ℕ) → x ≡ seenSix w o good flips → x .high ≡ plainPair w (o + 3)
 unfolding seenThree seenSix
-high-seen w o good turns e = ap (λ (y : Six). y .high) e
+high-seen w o good flips e = ap (λ (y : Six). y .high) e
 
 module _ (w : List ℕ) (j : ℕ) (r0 : List ℕ) {r1 r2 r3 r4 : List ℕ} where
   pub put-two : {a b c d : TwoWords} → a ≡ plainPair w (12 + 3 * j) → b ≡ plainPair w (12 + 3 * (j + 1)) → c ≡ plainPair w (12 + 3 * (j + 2))
@@ -138,9 +138,9 @@ module _ (w : List ℕ) (j : ℕ) (r0 : List ℕ) {r1 r2 r3 r4 : List ℕ} where
   put-four ea eb ec ed ek el em en q1 q2 q3 q4 = rw (q4, q3, q2, q1, ea, eb, ec, ed, ek, el, em, en)
 
 -- at the beginning nothing is
-pub got-begin : (half turns : ℕ) (w old : List ℕ) → GatherInv w (12 * half) (12 * half) 65535 turns
-    → RowsInv half w old 0 (record { good = 65535; turns = turns }) old
-got-begin half turns w old g =
+pub got-begin : (half flips : ℕ) (w old : List ℕ) → GatherInv w (12 * half) (12 * half) 65535 flips
+    → RowsInv half w old 0 (record { good = 65535; flips = flips }) old
+got-begin half flips w old g =
     let at : 12 * half ≡ 12 * half + 3 * half * 0 = omega arith in
     record {
       clean = rw (← at) g;
@@ -154,34 +154,34 @@ got-begin half turns w old g =
 
 module _ (p : Shape) (w : List ℕ) where
   -- the words of streams 2u and 2u + 1 are those of the window
-  module _ (u : ℕ) (h : u < p .half) where
-    plain : (i : ℕ) → i < 1920 → Behind p (p .half * (4 + i) + u)
+  module _ (u : ℕ) (h : u < p .«stream_pairs») where
+    plain : (i : ℕ) → i < 1920 → Behind p (p .«stream_pairs» * (4 + i) + u)
     plain i l = in-pair p (4 + i) u h (omega arith) (λ z. absurd (omega arith))
 
-    pub first-column : table 1920 (λ i. pairIn (p .half) w u i .a) ≡ columnOf p w 4 1920 (2 * u)
+    pub first-column : table 1920 (λ i. pairIn (p .«stream_pairs») w u i .a) ≡ columnOf p w 4 1920 (2 * u)
     first-column = table-same 1920 _ _ (λ i l. stream-a p w (4 + i) u refl (plain i l))
 
-    pub second-column : table 1920 (λ i. pairIn (p .half) w u i .b) ≡ columnOf p w 4 1920 (2 * u + 1)
+    pub second-column : table 1920 (λ i. pairIn (p .«stream_pairs») w u i .b) ≡ columnOf p w 4 1920 (2 * u + 1)
     second-column = table-same 1920 _ _ (λ i l. stream-b p w (4 + i) u refl (plain i l))
 
     pub put-columns : {old rows : List ℕ} {low high : ℕ}
-        → TwoRowsInv (λ i. pairIn (p .half) w u i .a) (λ i. pairIn (p .half) w u i .b) 1920 low high old 1920 rows
+        → TwoRowsInv (λ i. pairIn (p .«stream_pairs») w u i .a) (λ i. pairIn (p .«stream_pairs») w u i .b) 1920 low high old 1920 rows
         → low ≡ 2 * u * 1920 → high ≡ 2 * u * 1920 + 1920 → rows ≡ putTwo p w u 4 1920 old
     put-columns t l k = t .put ∙ rw (first-column, second-column, l, k)
 
-  module _ {old rows : List ℕ} {v : Passed} (small : p .half ≤ 2) (some : 1 ≤ p .half) (long : length old ≡ samplesIn p)
-      (g : RowsInv (p .half) w old 1920 v rows) where
+  module _ {old rows : List ℕ} {v : Passed} (small : p .«stream_pairs» ≤ 2) (some : 1 ≤ p .«stream_pairs») (long : length old ≡ samplesIn p)
+      (g : RowsInv (p .«stream_pairs») w old 1920 v rows) where
     low-rows-are : g .low-rows ≡ putTwo p w 0 4 1920 old
     low-rows-are = put-columns 0 (omega arith) (g .low) refl refl
 
     pub picture-is : rows ≡ rowsOf (streams p) (wordAt p w)
     picture-is =
-        on-test (eqb (p .half) 1)
+        on-test (eqb (p .«stream_pairs») 1)
         (λ t.
-        let one = eqb-true (p .half) 1 t in
+        let one = eqb-true (p .«stream_pairs») 1 t in
         g .two one ∙ rows-of-two p w old long low-rows-are one)
         (λ t.
-        let two : p .half ≡ 2 = omega (arith, eqb-false (p .half) 1 t) in
+        let two : p .«stream_pairs» ≡ 2 = omega (arith, eqb-false (p .«stream_pairs») 1 t) in
         rows-of-four p w old long low-rows-are two (put-columns 1 (omega arith) (g .four two) refl refl))
 
   -- a row of the picture is its stream's column, and so its CRC is that stream's
@@ -202,13 +202,13 @@ module _ (p : Shape) (w : List ℕ) where
     unfolding rowsOf
     rows-long = ap (λ (x : List ℕ). length x) is ∙ length-upto 1920 (columnOf p w 4 1920) sized (streams p)
 
-    pub sums-are : p .half ≤ 2 → 1 ≤ p .half → sumsIn rows ≡ sumsOf p w
+    pub sums-are : p .«stream_pairs» ≤ 2 → 1 ≤ p .«stream_pairs» → sumsIn rows ≡ sumsOf p w
     sums-are small some =
-        on-test (eqb (p .half) 1)
+        on-test (eqb (p .«stream_pairs») 1)
         (λ t.
-        let two : length rows ≡ 3840 = omega (arith, rows-long, eqb-true (p .half) 1 t) in
+        let two : length rows ≡ 3840 = omega (arith, rows-long, eqb-true (p .«stream_pairs») 1 t) in
         rw (two, t, row-is 0 (omega arith), row-is 1 (omega arith)))
         (λ t.
-        let half : p .half ≡ 2 = omega (arith, eqb-false (p .half) 1 t) in
+        let half : p .«stream_pairs» ≡ 2 = omega (arith, eqb-false (p .«stream_pairs») 1 t) in
         let four : length rows ≡ 7680 = omega (arith, rows-long) in
         rw (four, t, row-is 0 (omega arith), row-is 1 (omega arith), row-is 2 (omega arith), row-is 3 (omega arith)))

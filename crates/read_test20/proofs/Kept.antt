@@ -53,7 +53,7 @@ module _ (w : List ℕ) where
   its-after : (c j : ℕ) → suits w c c j ≡ true → runningAt w (j + 1) ≡ afterOf (runningAt w j) c
   its-after c j t = ap (runningAt w) (add-one j) ∙ running-on w j ∙ ap (afterOf (runningAt w j)) (its-meaning c j t)
 
-  -- it stands at a place and behind it, each at the disparity there
+  -- it stands at a place and after it, each at the disparity there
   twice-told : (c at : ℕ) → Twice w c at → (symbolAt w at ≡ symbolOf (runningAt w at) c) × (symbolAt w (at + 1) ≡ symbolOf (afterOf (runningAt w at) c) c)
   twice-told c at t =
       (its-symbol c at (t .first), its-symbol c (at + 1) (t .second) ∙ ap (λ (d : Disparity). symbolOf d c) (its-after c at (t .first)))
@@ -69,21 +69,21 @@ module _ (w : List ℕ) where
       go Positive both = inr both
 
   -- K29.7 twice: in the same form
-  module _ (at turns : ℕ) (bit : maskBy turns ≡ maskOf (runningAt w at)) (t : Twice w 266 at) where
-    pub eav-negative : turns / 2048 % 4 ≡ 2 → (symbolAt w at ≡ 0x05D) × (symbolAt w (at + 1) ≡ 0x05D)
+  module _ (at flips : ℕ) (bit : maskBy flips ≡ maskOf (runningAt w at)) (t : Twice w 266 at) where
+    pub eav-negative : flips / 2048 % 4 ≡ 2 → (symbolAt w at ≡ 0x05D) × (symbolAt w (at + 1) ≡ 0x05D)
     unfolding symbolOf afterOf
     eav-negative e = go (runningAt w at) bit (twice-told 266 at t)
       where
-        go : (d : Disparity) → maskBy turns ≡ maskOf d → (symbolAt w at ≡ symbolOf d 266) × (symbolAt w (at + 1) ≡ symbolOf (afterOf d 266) 266)
+        go : (d : Disparity) → maskBy flips ≡ maskOf d → (symbolAt w at ≡ symbolOf d 266) × (symbolAt w (at + 1) ≡ symbolOf (afterOf d 266) 266)
             → (symbolAt w at ≡ 0x05D) × (symbolAt w (at + 1) ≡ 0x05D)
         go Negative m both = both
         go Positive m both = absurd (omega arith)
 
-    pub eav-positive : (turns / 2048 % 4 ≡ 2 → ⊥) → (symbolAt w at ≡ 0x3A2) × (symbolAt w (at + 1) ≡ 0x3A2)
+    pub eav-positive : (flips / 2048 % 4 ≡ 2 → ⊥) → (symbolAt w at ≡ 0x3A2) × (symbolAt w (at + 1) ≡ 0x3A2)
     unfolding symbolOf afterOf
     eav-positive n = go (runningAt w at) bit (twice-told 266 at t)
       where
-        go : (d : Disparity) → maskBy turns ≡ maskOf d → (symbolAt w at ≡ symbolOf d 266) × (symbolAt w (at + 1) ≡ symbolOf (afterOf d 266) 266)
+        go : (d : Disparity) → maskBy flips ≡ maskOf d → (symbolAt w at ≡ symbolOf d 266) × (symbolAt w (at + 1) ≡ symbolOf (afterOf d 266) 266)
             → (symbolAt w at ≡ 0x3A2) × (symbolAt w (at + 1) ≡ 0x3A2)
         go Negative m both = absurd (n (omega arith))
         go Positive m both = both
@@ -115,7 +115,7 @@ module _ (p : Shape) (w : List ℕ) (all : AllHold p w) where
         second = sym (same-test p w 266 266 at (at + 2) kind (at + 1) (omega arith) (omega arith)) ∙ all .each (at + 1) (omega arith);
       }
 
-  -- bytes, before the EAV and behind its special characters
+  -- bytes, before the EAV and after its special characters
   pub bytes-stand : (from to : ℕ) → 2 ≤ from → to ≤ length w → ((i : ℕ) → from ≤ i → i < to → eavAt p ≤ i → eavAt p + 2 ≤ i) → AreBytes w from to
   bytes-stand from to l h apart =
       record {

@@ -1,4 +1,4 @@
--- Symbols seen without a way out: where nothing is missing, each is a byte that is legal where it stands.
+-- Symbols seen without an early exit: where nothing is missing, each is a byte that is legal where it stands.
 -- Assumes nothing.
 use mathlib.Core.Path.{_≡_, refl, sym, ap, ap₂, _∙_}
 use mathlib.Core.Bool.{true, _&&_}
@@ -45,8 +45,8 @@ byte-one good x = ap (λ (n : ℕ). n % 2) (and-shr good x 13) ∙ and-mod (good
 either-one : (e n : ℕ) → bitOr e n / 8192 % 2 ≡ bitOr (e / 8192 % 2) (n / 8192 % 2)
 either-one e n = ap (λ (n : ℕ). n % 2) (or-shr e n 13) ∙ or-mod (e / 8192) (n / 8192) 1
 
-turned-two : (turns e : ℕ) → bitXor turns e / 2048 % 4 ≡ bitXor (turns / 2048 % 4) (e / 2048 % 4)
-turned-two turns e = ap (λ (n : ℕ). n % 4) (xor-shr turns e 11) ∙ xor-mod (turns / 2048) (e / 2048) 2
+turned-two : (flips e : ℕ) → bitXor flips e / 2048 % 4 ≡ bitXor (flips / 2048 % 4) (e / 2048 % 4)
+turned-two flips e = ap (λ (n : ℕ). n % 4) (xor-shr flips e 11) ∙ xor-mod (flips / 2048) (e / 2048) 2
 
 -- two bits that are both set in what is left were set before, and one of two has each
 and-three : (a b : ℕ) → a < 4 → b < 4 → bitAnd a b ≡ 3 → (a ≡ 3) × (b ≡ 3)
@@ -107,9 +107,9 @@ entry-is s e h = ap (λ (l : List ℕ). getD l s 0) e ∙ entry-at s h
 
 -- ---- the mask
 
-mask-told : (d : Disparity) (turns : ℕ) → maskBy turns ≡ maskOf d → turns / 2048 % 4 ≡ other d
-mask-told Negative turns e = omega arith
-mask-told Positive turns e = omega arith
+mask-told : (d : Disparity) (flips : ℕ) → maskBy flips ≡ maskOf d → flips / 2048 % 4 ≡ other d
+mask-told Negative flips e = omega arith
+mask-told Positive flips e = omega arith
 
 -- an entry that has the bit of the running disparity
 has-bit : (d : Disparity) (e : ℕ) → bitOr (e / 512 % 4) (other d) ≡ 3 → bitAnd e (maskOf d) ≡ maskOf d
@@ -139,67 +139,67 @@ mask-turned Positive (suc (suc zero)) h = refl
 mask-turned Positive (suc (suc (suc zero))) h = refl
 mask-turned Positive (suc (suc (suc (suc y)))) h = absurd (omega arith)
 
-after-seen : (d : Disparity) (turns e : ℕ) → turns / 2048 % 4 ≡ other d → afterBy (maskOf d) e ≡ maskBy (bitXor turns e)
+after-seen : (d : Disparity) (flips e : ℕ) → flips / 2048 % 4 ≡ other d → afterBy (maskOf d) e ≡ maskBy (bitXor flips e)
 unfolding afterBy
-after-seen d turns e o =
+after-seen d flips e o =
     let y : e / 4 / 512 % 4 ≡ e / 2048 % 4 = omega arith in
     ap (bitXor (maskOf d)) (and-high (e / 4) 2 9 ∙ ap (λ (n : ℕ). n * 512) y)
     ∙ mask-turned d (e / 2048 % 4) (omega arith)
-    ∙ ap (λ (n : ℕ). 1536 - n * 512) (sym (turned-two turns e ∙ ap (λ (n : ℕ). bitXor n (e / 2048 % 4)) o))
+    ∙ ap (λ (n : ℕ). 1536 - n * 512) (sym (turned-two flips e ∙ ap (λ (n : ℕ). bitXor n (e / 2048 % 4)) o))
 
 -- ---- one symbol more
 
 module _ (w : List ℕ) where
-  pub see-begin : (from turns : ℕ) → turns < 16384 → maskBy turns ≡ maskOf (runningAt w from) → GatherInv w from from 65535 turns
-  see-begin from turns h e = record { come = omega arith; fits = h; clean = λ _. begin w 0 255 from (maskBy turns) e; kept = λ _. refl }
+  pub see-begin : (from flips : ℕ) → flips < 16384 → maskBy flips ≡ maskOf (runningAt w from) → GatherInv w from from 65535 flips
+  see-begin from flips h e = record { come = omega arith; fits = h; clean = λ _. begin w 0 255 from (maskBy flips) e; kept = λ _. refl }
 
-  pub see-turn : {from i good turns e : ℕ} → GatherInv w from i good turns → e ≡ entryOf (symbolAt w i)
-      → GatherInv w from (i + 1) (bitAnd good (bitOr e (turns / 4))) (bitXor turns e)
-  see-turn {from} {i} {good} {turns} {e} g is =
+  pub see-turn : {from i good flips e : ℕ} → GatherInv w from i good flips → e ≡ entryOf (symbolAt w i)
+      → GatherInv w from (i + 1) (bitAnd good (bitOr e (flips / 4))) (bitXor flips e)
+  see-turn {from} {i} {good} {flips} {e} g is =
       let small : e < 16384 = rw is (entry-fits (symbolAt w i)) in
-      record { come = omega (arith, g .come); fits = xor-lt 14 turns e (g .fits) small; clean = step; kept = keep }
+      record { come = omega (arith, g .come); fits = xor-lt 14 flips e (g .fits) small; clean = step; kept = keep }
     where
-      keep : AreBytes w from (i + 1) → passesBy (bitAnd good (bitOr e (turns / 4))) ≡ true
+      keep : AreBytes w from (i + 1) → passesBy (bitAnd good (bitOr e (flips / 4))) ≡ true
       keep all =
           let was = g .kept (record { each = λ j h l. all .each j h (omega arith) }) in
           let legal : good / 512 % 4 ≡ 3 = eqb-true _ _ (both-left (eqb (good / 512 % 4) 3) (eqb (good / 8192 % 2) 1) was) in
           let byte : good / 8192 % 2 ≡ 1 = eqb-true _ _ (both-right (eqb (good / 512 % 4) 3) (eqb (good / 8192 % 2) 1) was) in
           let d = runningAt w i in
-          let o : turns / 2048 % 4 ≡ other d = mask-told d turns (g .clean was .bit) in
-          let at : turns / 4 / 512 % 4 ≡ other d = omega (arith, o) in
+          let o : flips / 2048 % 4 ≡ other d = mask-told d flips (g .clean was .bit) in
+          let at : flips / 4 / 512 % 4 ≡ other d = omega (arith, o) in
           let suit : suitsBy 0 255 (maskOf d) e ≡ true = rw is (suits-is w 0 255 i ∙ all .each i (g .come) (omega arith)) in
           let has = has-both d e (both-left (legalBy (maskOf d) e) (within 0 255 (e % 512)) suit) in
           let low : e % 512 ≤ 255 = to-high 0 255 (e % 512) (both-right (legalBy (maskOf d) e) (within 0 255 (e % 512)) suit) in
           let flag : e / 8192 % 2 ≡ 1 = rw is (byte-flag (symbolAt w i) (rw is at (let b : e % 512 < 256 = omega arith in b)) (λ z. absurd (omega (arith, has .1, is ∙ z)))) in
-          let none-above : turns / 4 / 8192 % 2 ≡ 0 = omega (arith, g .fits) in
-          let two : bitAnd good (bitOr e (turns / 4)) / 512 % 4 ≡ 3 =
-          legal-two good (bitOr e (turns / 4)) ∙ ap₂ bitAnd legal (either-two e (turns / 4) ∙ ap (bitOr (e / 512 % 4)) at ∙ has .0) in
-          let one : bitAnd good (bitOr e (turns / 4)) / 8192 % 2 ≡ 1 =
-          byte-one good (bitOr e (turns / 4)) ∙ ap₂ bitAnd byte (either-one e (turns / 4) ∙ ap₂ bitOr flag none-above) in
+          let none-above : flips / 4 / 8192 % 2 ≡ 0 = omega (arith, g .fits) in
+          let two : bitAnd good (bitOr e (flips / 4)) / 512 % 4 ≡ 3 =
+          legal-two good (bitOr e (flips / 4)) ∙ ap₂ bitAnd legal (either-two e (flips / 4) ∙ ap (bitOr (e / 512 % 4)) at ∙ has .0) in
+          let one : bitAnd good (bitOr e (flips / 4)) / 8192 % 2 ≡ 1 =
+          byte-one good (bitOr e (flips / 4)) ∙ ap₂ bitAnd byte (either-one e (flips / 4) ∙ ap₂ bitOr flag none-above) in
           ap₂ _&&_ (eq-eqb _ _ two) (eq-eqb _ _ one)
 
-      step : passesBy (bitAnd good (bitOr e (turns / 4))) ≡ true → RunInv w 0 255 from (i + 1) (maskBy (bitXor turns e))
+      step : passesBy (bitAnd good (bitOr e (flips / 4))) ≡ true → RunInv w 0 255 from (i + 1) (maskBy (bitXor flips e))
       step t =
-          let legal : bitAnd good (bitOr e (turns / 4)) / 512 % 4 ≡ 3 = eqb-true _ _ (both-left (eqb (bitAnd good (bitOr e (turns / 4)) / 512 % 4) 3) (eqb (bitAnd good (bitOr e (turns / 4)) / 8192 % 2) 1) t) in
-          let byte : bitAnd good (bitOr e (turns / 4)) / 8192 % 2 ≡ 1 = eqb-true _ _ (both-right (eqb (bitAnd good (bitOr e (turns / 4)) / 512 % 4) 3) (eqb (bitAnd good (bitOr e (turns / 4)) / 8192 % 2) 1) t) in
-          let two = and-three (good / 512 % 4) (bitOr e (turns / 4) / 512 % 4) (omega arith) (omega arith) (sym (legal-two good (bitOr e (turns / 4))) ∙ legal) in
-          let one = and-one (good / 8192 % 2) (bitOr e (turns / 4) / 8192 % 2) (omega arith) (omega arith) (sym (byte-one good (bitOr e (turns / 4))) ∙ byte) in
+          let legal : bitAnd good (bitOr e (flips / 4)) / 512 % 4 ≡ 3 = eqb-true _ _ (both-left (eqb (bitAnd good (bitOr e (flips / 4)) / 512 % 4) 3) (eqb (bitAnd good (bitOr e (flips / 4)) / 8192 % 2) 1) t) in
+          let byte : bitAnd good (bitOr e (flips / 4)) / 8192 % 2 ≡ 1 = eqb-true _ _ (both-right (eqb (bitAnd good (bitOr e (flips / 4)) / 512 % 4) 3) (eqb (bitAnd good (bitOr e (flips / 4)) / 8192 % 2) 1) t) in
+          let two = and-three (good / 512 % 4) (bitOr e (flips / 4) / 512 % 4) (omega arith) (omega arith) (sym (legal-two good (bitOr e (flips / 4))) ∙ legal) in
+          let one = and-one (good / 8192 % 2) (bitOr e (flips / 4) / 8192 % 2) (omega arith) (omega arith) (sym (byte-one good (bitOr e (flips / 4))) ∙ byte) in
           let before = g .clean (ap₂ _&&_ (eq-eqb _ _ (two .0)) (eq-eqb _ _ (one .0))) in
           let d = runningAt w i in
-          let o : turns / 2048 % 4 ≡ other d = mask-told d turns (before .bit) in
-          let at : turns / 4 / 512 % 4 ≡ other d = omega (arith, o) in
-          let either : bitOr (e / 512 % 4) (other d) ≡ 3 = ap (bitOr (e / 512 % 4)) (sym at) ∙ sym (either-two e (turns / 4)) ∙ two .1 in
-          let none-above : turns / 4 / 8192 % 2 ≡ 0 = omega (arith, g .fits) in
+          let o : flips / 2048 % 4 ≡ other d = mask-told d flips (before .bit) in
+          let at : flips / 4 / 512 % 4 ≡ other d = omega (arith, o) in
+          let either : bitOr (e / 512 % 4) (other d) ≡ 3 = ap (bitOr (e / 512 % 4)) (sym at) ∙ sym (either-two e (flips / 4)) ∙ two .1 in
+          let none-above : flips / 4 / 8192 % 2 ≡ 0 = omega (arith, g .fits) in
           let flag : e / 8192 % 2 ≡ 1 =
-          sym (or-zero-r (e / 8192 % 2)) ∙ ap (bitOr (e / 8192 % 2)) (sym none-above) ∙ sym (either-one e (turns / 4)) ∙ one .1 in
+          sym (or-zero-r (e / 8192 % 2)) ∙ ap (bitOr (e / 8192 % 2)) (sym none-above) ∙ sym (either-one e (flips / 4)) ∙ one .1 in
           let low : e / 256 % 2 ≡ 0 = rw is (flag-byte (symbolAt w i) (rw is at flag)) in
           let suit : suitsBy 0 255 (maskOf d) e ≡ true = suits-byte d e (has-bit d e either) low in
-          rw (← (after-seen d turns e o), ← (before .bit))
+          rw (← (after-seen d flips e o), ← (before .bit))
           (turn w 0 255 before (is ∙ sym (entry-in (symbolAt w i))) (rw (before .bit) suit))
 
   -- the same of what is answered for a symbol
-  pub seen-turn : {from i good turns : ℕ} {x : Seen} → GatherInv w from i good turns → x ≡ seen (symbolAt w i) good turns
-      → GatherInv w from (i + 1) (x .good) (x .turns)
+  pub seen-turn : {from i good flips : ℕ} {x : Seen} → GatherInv w from i good flips → x ≡ seen (symbolAt w i) good flips
+      → GatherInv w from (i + 1) (x .good) (x .flips)
   seen-turn g is = rw is (see-turn g refl)
 
   -- ---- three symbols
@@ -208,12 +208,12 @@ module _ (w : List ℕ) where
   low-byte : (s : ℕ) → entryOf s % 256 ≡ byteOf s
   low-byte s = byte-is s refl (ap (λ (n : ℕ). n % 256) (sym (entry-in s)))
 
-  pub three-is : {x y z : Seen} {u : TwoWords} (o good turns : ℕ) → x ≡ seen (symbolAt w o) good turns
-      → y ≡ seen (symbolAt w (o + 1)) (x .good) (x .turns) → z ≡ seen (symbolAt w (o + 2)) (y .good) (y .turns)
+  pub three-is : {x y z : Seen} {u : TwoWords} (o good flips : ℕ) → x ≡ seen (symbolAt w o) good flips
+      → y ≡ seen (symbolAt w (o + 1)) (x .good) (x .flips) → z ≡ seen (symbolAt w (o + 2)) (y .good) (y .flips)
       → u ≡ unpacked (record { first = x .entry % 256; second = y .entry % 256; third = z .entry % 256 })
-      → record { good = z .good; turns = z .turns; words = u } ≡ seenThree w o good turns
+      → record { good = z .good; flips = z .flips; words = u } ≡ seenThree w o good flips
   unfolding seenThree
-  three-is {x} {y} {z} {u} o good turns ex ey ez eu =
+  three-is {x} {y} {z} {u} o good flips ex ey ez eu =
       let words : u ≡ plainPair w o =
       eu
       ∙ pair-is w o
@@ -222,7 +222,7 @@ module _ (w : List ℕ) where
       (ap (λ (l : Seen). l .entry % 256) ez ∙ low-byte (symbolAt w (o + 2))) in
       rw (words, ez, ey, ex)
 
-  pub three-turn : {from i good turns : ℕ} → GatherInv w from i good turns → GatherInv w from (i + 3) (seenThree w i good turns .good) (seenThree w i good turns .turns)
+  pub three-turn : {from i good flips : ℕ} → GatherInv w from i good flips → GatherInv w from (i + 3) (seenThree w i good flips .good) (seenThree w i good flips .flips)
   unfolding seenThree
   three-turn {from} {i} g =
       let two : i + 1 + 1 ≡ i + 2 = omega arith in

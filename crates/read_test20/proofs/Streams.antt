@@ -26,7 +26,7 @@ module _ (p : Shape) (w : List ℕ) where
       ap (λ (l : List ℕ). length l) e ∙ length-sets low (2 * u * count + count) (columnOf p w first count (2 * u + 1))
       ∙ length-sets old (2 * u * count) (columnOf p w first count (2 * u))
 
-  -- behind the rows before them
+  -- after the rows before them
   put-more : (old : List ℕ) (u : ℕ)
       → putTwo p w u 4 1920 (sets old 0 (upto (2 * u) (columnOf p w 4 1920))) ≡ sets old 0 (upto (2 * u + 1 + 1) (columnOf p w 4 1920))
   put-more old u =
@@ -48,9 +48,9 @@ module _ (p : Shape) (w : List ℕ) where
     first-two = put-more old 0
 
     module _ {mid : List ℕ} (is : mid ≡ putTwo p w 0 4 1920 old) where
-      pub rows-of-two : p .half ≡ 1 → mid ≡ rowsOf (streams p) (wordAt p w)
+      pub rows-of-two : p .«stream_pairs» ≡ 1 → mid ≡ rowsOf (streams p) (wordAt p w)
       rows-of-two one = is ∙ first-two ∙ whole 2 (omega arith)
 
-      pub rows-of-four : {after : List ℕ} → p .half ≡ 2 → after ≡ putTwo p w 1 4 1920 mid → after ≡ rowsOf (streams p) (wordAt p w)
+      pub rows-of-four : {after : List ℕ} → p .«stream_pairs» ≡ 2 → after ≡ putTwo p w 1 4 1920 mid → after ≡ rowsOf (streams p) (wordAt p w)
       rows-of-four two e =
           e ∙ ap (putTwo p w 1 4 1920) (is ∙ first-two) ∙ put-more old 1 ∙ whole 4 (omega arith)

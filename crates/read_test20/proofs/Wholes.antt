@@ -68,54 +68,54 @@ module _ (w : List ℕ) where
       flat Negative g = g
       flat Positive g = g
 
-  module _ (at turns : ℕ) where
-    pub stays-negative : turns / 2048 % 4 ≡ 2 → symbolAt w at ≡ 0x05D → symbolAt w (at + 1) ≡ 0x05D → EavHolds w at turns
+  module _ (at flips : ℕ) where
+    pub stays-negative : flips / 2048 % 4 ≡ 2 → symbolAt w at ≡ 0x05D → symbolAt w (at + 1) ≡ 0x05D → EavHolds w at flips
     unfolding symbolOf
     stays-negative e x y = record { going = λ m. go (runningAt w at) refl m }
       where
-        go : (d : Disparity) → runningAt w at ≡ d → maskBy turns ≡ maskOf (runningAt w at) → RunInv w 266 266 at (at + 2) (maskBy turns)
+        go : (d : Disparity) → runningAt w at ≡ d → maskBy flips ≡ maskOf (runningAt w at) → RunInv w 266 266 at (at + 2) (maskBy flips)
         go Negative r m = rw (m, r) (eav-at Negative at r x y)
-        go Positive r m = absurd (let z : maskBy turns ≡ 1024 = m ∙ ap maskOf r in omega arith)
+        go Positive r m = absurd (let z : maskBy flips ≡ 1024 = m ∙ ap maskOf r in omega arith)
 
-    pub stays-positive : (turns / 2048 % 4 ≡ 2 → ⊥) → symbolAt w at ≡ 0x3A2 → symbolAt w (at + 1) ≡ 0x3A2 → EavHolds w at turns
+    pub stays-positive : (flips / 2048 % 4 ≡ 2 → ⊥) → symbolAt w at ≡ 0x3A2 → symbolAt w (at + 1) ≡ 0x3A2 → EavHolds w at flips
     unfolding symbolOf
     stays-positive n x y = record { going = λ m. go (runningAt w at) refl m }
       where
-        go : (d : Disparity) → runningAt w at ≡ d → maskBy turns ≡ maskOf (runningAt w at) → RunInv w 266 266 at (at + 2) (maskBy turns)
-        go Negative r m = absurd (n (let z : maskBy turns ≡ 512 = m ∙ ap maskOf r in omega arith))
+        go : (d : Disparity) → runningAt w at ≡ d → maskBy flips ≡ maskOf (runningAt w at) → RunInv w 266 266 at (at + 2) (maskBy flips)
+        go Negative r m = absurd (n (let z : maskBy flips ≡ 512 = m ∙ ap maskOf r in omega arith))
         go Positive r m = rw (m, r) (eav-at Positive at r x y)
 
 -- ---- the disparity at which something has been gathered
-pub by-negative : (turns : ℕ) → turns / 2048 % 4 ≡ 2 → Negative ≡ ofMask (maskBy turns)
-by-negative turns e = rw (eq-eqb (maskBy turns) 512 (omega arith)) refl
+pub by-negative : (flips : ℕ) → flips / 2048 % 4 ≡ 2 → Negative ≡ ofMask (maskBy flips)
+by-negative flips e = rw (eq-eqb (maskBy flips) 512 (omega arith)) refl
 
-pub by-positive : (turns : ℕ) → (turns / 2048 % 4 ≡ 2 → ⊥) → Positive ≡ ofMask (maskBy turns)
-by-positive turns n = rw (ne-eqb (maskBy turns) 512 (λ e. n (omega arith))) refl
+pub by-positive : (flips : ℕ) → (flips / 2048 % 4 ≡ 2 → ⊥) → Positive ≡ ofMask (maskBy flips)
+by-positive flips n = rw (ne-eqb (maskBy flips) 512 (λ e. n (omega arith))) refl
 
 -- ---- all of it
 
 module _ (p : Shape) (w : List ℕ) where
-  -- what is gathered behind a run tells the running disparity there
-  pub tied : {from i j good turns : ℕ} → GatherInv w from i good turns → passesBy good ≡ true → i ≡ j → Tied w j turns
+  -- what is gathered after a run tells the running disparity there
+  pub tied : {from i j good flips : ℕ} → GatherInv w from i good flips → passesBy good ≡ true → i ≡ j → Tied w j flips
   tied g t e = record { fits = g .fits; bit = rw e at (g .clean t .bit) }
 
   -- and a run begins there
-  pub goes-on : {i turns : ℕ} → Tied w i turns → GatherInv w i i 65535 turns
-  goes-on {i} {turns} t = see-begin w i turns (t .fits) (t .bit)
+  pub goes-on : {i flips : ℕ} → Tied w i flips → GatherInv w i i 65535 flips
+  goes-on {i} {flips} t = see-begin w i flips (t .fits) (t .bit)
 
-  module _ {first head good goods turns after : ℕ} (sav : Begun w first) (bytes : GatherInv w 2 (12 * p .half) good head)
-      (right : passesBy good ≡ true) (picture : GatherInv w (12 * p .half) (12 * p .half + 3 * p .half * 1920) goods turns)
-      (rights : passesBy goods ≡ true) (end : Ending p w turns after) where
+  module _ {first head good goods flips after : ℕ} (sav : Begun w first) (bytes : GatherInv w 2 (12 * p .«stream_pairs») good head)
+      (right : passesBy good ≡ true) (picture : GatherInv w (12 * p .«stream_pairs») (12 * p .«stream_pairs» + 3 * p .«stream_pairs» * 1920) goods flips)
+      (rights : passesBy goods ≡ true) (end : Ending p w flips after) where
     pub scanned-whole : record { place = length w; before = ofMask (maskBy first); after = ofMask (maskBy after) } ≡ scannedOf p w
     scanned-whole =
-        let at : 12 * p .half + 3 * p .half * 1920 ≡ eavAt p = omega arith in
-        let eav : 5772 * p .half ≡ eavAt p = omega arith in
+        let at : 12 * p .«stream_pairs» + 3 * p .«stream_pairs» * 1920 ≡ eavAt p = omega arith in
+        let eav : 5772 * p .«stream_pairs» ≡ eavAt p = omega arith in
         rw (← (sav .start))
         (all-suit p w (sav .going) (join w (bytes .clean right) (rw at at (picture .clean rights))) (rw eav at (end .eav)) (rw eav at (end .bytes)))
 
   -- as far as the picture words have come
-  pub reached-behind : {first head good turns words : ℕ} → Begun w first → GatherInv w 2 (12 * p .half) good head → passesBy good ≡ true
-      → Come (p .half) w words turns → length w ≡ symbolsIn p → ScanInv p w (12 * p .half + 3 * p .half * words) (maskBy turns)
+  pub reached-behind : {first head good flips words : ℕ} → Begun w first → GatherInv w 2 (12 * p .«stream_pairs») good head → passesBy good ≡ true
+      → Come (p .«stream_pairs») w words flips → length w ≡ symbolsIn p → ScanInv p w (12 * p .«stream_pairs» + 3 * p .«stream_pairs» * words) (maskBy flips)
   reached-behind {words = words} sav bytes right come long =
-      let most : 3 * p .half * words ≤ 3 * p .half * 1920 = mul-le-mul-left (3 * p .half) (come .some) in
+      let most : 3 * p .«stream_pairs» * words ≤ 3 * p .«stream_pairs» * 1920 = mul-le-mul-left (3 * p .«stream_pairs») (come .some) in
       reached p w (sav .going) (join w (bytes .clean right) (come .going)) (omega arith) (omega (arith, long))

@@ -20,15 +20,15 @@ fn repeats(symbols: &[u16], from: usize, to: usize) -> bool
     other == 0
 }
 
-// The bytes 00 01 10 (hex) of two blanking words, at the disparity at which `turns` has been gathered; they do not turn it.
-fn begins_blank(symbols: &[u16], from: usize, turns: u32) -> bool
+// The bytes 00 01 10 (hex) of two blanking words, at the disparity at which `flips` has been gathered; they do not flip it.
+fn begins_blank(symbols: &[u16], from: usize, flips: u32) -> bool
     requires { ⌜ from + 3 ≤ length (now symbols) ⌝ }
-    ensures { λ r. ⌜ (r ≡ true → AreBlank (now (symbols .entry)) from (from + 3) turns) ⌝ }
+    ensures { λ r. ⌜ (r ≡ true → AreBlank (now (symbols .entry)) from (from + 3) flips) ⌝ }
 {
     let first = symbols[from];
     let second = symbols[from + 1];
     let third = symbols[from + 2];
-    if turns / 2048 % 4 == 2 {
+    if flips / 2048 % 4 == 2 {
         if first == 0x0B9 {
             if second == 0x0AE {
                 return third == 0x0B6;
@@ -44,16 +44,16 @@ fn begins_blank(symbols: &[u16], from: usize, turns: u32) -> bool
     false
 }
 
-// Whether those from one place to another are: the first three, and each behind them as the one three before it.
-pub(crate) fn are_blank(symbols: &[u16], from: usize, to: usize, turns: u32) -> bool
+// Whether those from one place to another are: the first three, and each after them as the one three before it.
+pub(crate) fn are_blank(symbols: &[u16], from: usize, to: usize, flips: u32) -> bool
     requires { ⌜ from ≤ to ⌝ }
     requires { ⌜ to ≤ length (now symbols) ⌝ }
-    ensures { λ r. ⌜ (r ≡ true → AreBlank (now (symbols .entry)) from to turns) ⌝ }
+    ensures { λ r. ⌜ (r ≡ true → AreBlank (now (symbols .entry)) from to flips) ⌝ }
 {
     if to - from < 3 {
         return false;
     }
-    if begins_blank(symbols, from, turns) {
+    if begins_blank(symbols, from, flips) {
         return repeats(symbols, from, to);
     }
     false

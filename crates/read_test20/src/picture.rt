@@ -11,21 +11,21 @@ ghost use Rattle.decoder.specs.Inside.Decoder.{decodingTable};
 ghost use Rattle.read_test20.specs.Inside.Picture.{RowsInv, Come, putPair};
 ghost use Rattle.read_test20.specs.Inside.See.{TenBits, AreBytes, GatherInv, passesBy};
 
-// Words of each stream in a piece. None is looked at behind one with a fault: what is no window is soon known to be none.
+// Words of each stream in a piece. None is looked at after one with a fault: what is no window is soon known to be none.
 const PIECE: usize = 120;
 
-// What is gathered behind so many words of each stream.
+// What is gathered after so many words of each stream.
 pub(crate) struct Passed {
     pub(crate) good: u32,
-    pub(crate) turns: u32,
+    pub(crate) flips: u32,
 }
 
-// What is gathered behind the picture, or behind as many words of each stream as were as they should be.
+// What is gathered after the picture, or after as many words of each stream as were as they should be.
 pub(crate) struct Pictured {
     // Of all words that were looked at: whether each was.
     pub(crate) good: u32,
-    // Behind so many words, up to which each was.
-    pub(crate) turns: u32,
+    // After so many words, up to which each was.
+    pub(crate) flips: u32,
     pub(crate) words: usize,
 }
 
@@ -40,8 +40,8 @@ fn put_pair(w: TwoWords, at: usize, rows: &mut [u16])
 }
 
 // Four words of each of two streams from j on. All of their symbols are seen before anything is put: the compiler does not know that rows and
-// symbols lie apart, and would look at each symbol only behind the stores before it.
-fn turn_two(t: &[u16; 1024], symbols: &[u16], j: usize, v: Passed, rows: &mut [u16]) -> Passed
+// symbols lie apart, and would look at each symbol only after the stores before it.
+fn step_two(t: &[u16; 1024], symbols: &[u16], j: usize, v: Passed, rows: &mut [u16]) -> Passed
     requires { ⌜ now t ≡ decodingTable ⌝ }
     requires { ⌜ TenBits (now symbols) ⌝ }
     requires { ⌜ j + 4 ≤ 1920 ⌝ }
@@ -50,10 +50,10 @@ fn turn_two(t: &[u16; 1024], symbols: &[u16], j: usize, v: Passed, rows: &mut [u
     ensures size { λ _. ⌜ length (now (rows .exit)) ≡ 3840 ⌝ }
     ensures got { λ r. ⌜ ((old : List ℕ) → RowsInv 1 (now (symbols .entry)) old j v (now (rows .entry)) → RowsInv 1 (now (symbols .entry)) old (j + 4) r (now (rows .exit))) ⌝ }
 {
-    let a = crate::see::see_three(t, symbols, 12 + 3 * j, v.good, v.turns);
-    let b = crate::see::see_three(t, symbols, 12 + 3 * (j + 1), a.good, a.turns);
-    let c = crate::see::see_three(t, symbols, 12 + 3 * (j + 2), b.good, b.turns);
-    let d = crate::see::see_three(t, symbols, 12 + 3 * (j + 3), c.good, c.turns);
+    let a = crate::see::see_three(t, symbols, 12 + 3 * j, v.good, v.flips);
+    let b = crate::see::see_three(t, symbols, 12 + 3 * (j + 1), a.good, a.flips);
+    let c = crate::see::see_three(t, symbols, 12 + 3 * (j + 2), b.good, b.flips);
+    let d = crate::see::see_three(t, symbols, 12 + 3 * (j + 3), c.good, c.flips);
     let wa = a.words;
     let wb = b.words;
     let wc = c.words;
@@ -64,7 +64,7 @@ fn turn_two(t: &[u16; 1024], symbols: &[u16], j: usize, v: Passed, rows: &mut [u
     put_pair(wd, j + 3, rows);
     Passed {
         good: d.good,
-        turns: d.turns,
+        flips: d.flips,
     }
 }
 
@@ -90,13 +90,13 @@ fn take_two(
     let mut p = v;
     let mut j = from;
     while j < to {
-        p = turn_two(t, symbols, j, p, rows);
+        p = step_two(t, symbols, j, p, rows);
         j += 4;
     }
     p
 }
 
-// Word j of four streams: put behind those of two, in the same order.
+// Word j of four streams: put after those of two, in the same order.
 fn put_six(x: Six, j: usize, rows: &mut [u16])
     requires { ⌜ j < 1920 ⌝ }
     requires { ⌜ length (now rows) ≡ 7680 ⌝ }
@@ -110,7 +110,7 @@ fn put_six(x: Six, j: usize, rows: &mut [u16])
 }
 
 // Four words of each of four streams from j on, all of their symbols first.
-fn turn_four(t: &[u16; 1024], symbols: &[u16], j: usize, v: Passed, rows: &mut [u16]) -> Passed
+fn step_four(t: &[u16; 1024], symbols: &[u16], j: usize, v: Passed, rows: &mut [u16]) -> Passed
     requires { ⌜ now t ≡ decodingTable ⌝ }
     requires { ⌜ TenBits (now symbols) ⌝ }
     requires { ⌜ j + 4 ≤ 1920 ⌝ }
@@ -119,17 +119,17 @@ fn turn_four(t: &[u16; 1024], symbols: &[u16], j: usize, v: Passed, rows: &mut [
     ensures size { λ _. ⌜ length (now (rows .exit)) ≡ 7680 ⌝ }
     ensures got { λ r. ⌜ ((old : List ℕ) → RowsInv 2 (now (symbols .entry)) old j v (now (rows .entry)) → RowsInv 2 (now (symbols .entry)) old (j + 4) r (now (rows .exit))) ⌝ }
 {
-    let a = crate::see::see_six(t, symbols, 24 + 6 * j, v.good, v.turns);
-    let b = crate::see::see_six(t, symbols, 24 + 6 * (j + 1), a.good, a.turns);
-    let c = crate::see::see_six(t, symbols, 24 + 6 * (j + 2), b.good, b.turns);
-    let d = crate::see::see_six(t, symbols, 24 + 6 * (j + 3), c.good, c.turns);
+    let a = crate::see::see_six(t, symbols, 24 + 6 * j, v.good, v.flips);
+    let b = crate::see::see_six(t, symbols, 24 + 6 * (j + 1), a.good, a.flips);
+    let c = crate::see::see_six(t, symbols, 24 + 6 * (j + 2), b.good, b.flips);
+    let d = crate::see::see_six(t, symbols, 24 + 6 * (j + 3), c.good, c.flips);
     put_six(a, j, rows);
     put_six(b, j + 1, rows);
     put_six(c, j + 2, rows);
     put_six(d, j + 3, rows);
     Passed {
         good: d.good,
-        turns: d.turns,
+        flips: d.flips,
     }
 }
 
@@ -155,7 +155,7 @@ fn take_four(
     let mut p = v;
     let mut j = from;
     while j < to {
-        p = turn_four(t, symbols, j, p, rows);
+        p = step_four(t, symbols, j, p, rows);
         j += 4;
     }
     p
@@ -164,7 +164,7 @@ fn take_four(
 // Words from one to another of all streams.
 fn take_piece(
     t: &[u16; 1024],
-    half: usize,
+    pairs: usize,
     symbols: &[u16],
     from: usize,
     to: usize,
@@ -173,17 +173,17 @@ fn take_piece(
 ) -> Passed
     requires { ⌜ now t ≡ decodingTable ⌝ }
     requires { ⌜ TenBits (now symbols) ⌝ }
-    requires { ⌜ 1 ≤ half ⌝ }
-    requires { ⌜ half ≤ 2 ⌝ }
+    requires { ⌜ 1 ≤ pairs ⌝ }
+    requires { ⌜ pairs ≤ 2 ⌝ }
     requires { ⌜ from ≤ to ⌝ }
     requires { ⌜ to ≤ 1920 ⌝ }
     requires { ⌜ (to - from) % 4 ≡ 0 ⌝ }
-    requires { ⌜ 5772 * half ≤ length (now symbols) ⌝ }
-    requires { ⌜ length (now rows) ≡ 3840 * half ⌝ }
-    ensures size { λ _. ⌜ length (now (rows .exit)) ≡ 3840 * half ⌝ }
-    ensures got { λ r. ⌜ ((old : List ℕ) → RowsInv half (now (symbols .entry)) old from v (now (rows .entry)) → RowsInv half (now (symbols .entry)) old to r (now (rows .exit))) ⌝ }
+    requires { ⌜ 5772 * pairs ≤ length (now symbols) ⌝ }
+    requires { ⌜ length (now rows) ≡ 3840 * pairs ⌝ }
+    ensures size { λ _. ⌜ length (now (rows .exit)) ≡ 3840 * pairs ⌝ }
+    ensures got { λ r. ⌜ ((old : List ℕ) → RowsInv pairs (now (symbols .entry)) old from v (now (rows .entry)) → RowsInv pairs (now (symbols .entry)) old to r (now (rows .exit))) ⌝ }
 {
-    if half == 1 {
+    if pairs == 1 {
         return take_two(t, symbols, from, to, v, rows);
     }
     take_four(t, symbols, from, to, v, rows)
@@ -192,41 +192,41 @@ fn take_piece(
 // The picture words of all streams, piece by piece, as far as their symbols are as they should be.
 pub(crate) fn take_picture(
     t: &[u16; 1024],
-    half: usize,
+    pairs: usize,
     symbols: &[u16],
-    turns: u32,
+    flips: u32,
     rows: &mut [u16],
 ) -> Pictured
     requires { ⌜ now t ≡ decodingTable ⌝ }
     requires { ⌜ TenBits (now symbols) ⌝ }
-    requires { ⌜ 1 ≤ half ⌝ }
-    requires { ⌜ half ≤ 2 ⌝ }
-    requires { ⌜ 5772 * half ≤ length (now symbols) ⌝ }
-    requires { ⌜ length (now rows) ≡ 3840 * half ⌝ }
-    requires { ⌜ GatherInv (now symbols) (12 * half) (12 * half) 65535 turns ⌝ }
-    ensures size { λ _. ⌜ length (now (rows .exit)) ≡ 3840 * half ⌝ }
-    ensures got { λ r. ⌜ (passesBy (r .good) ≡ true → RowsInv half (now (symbols .entry)) (now (rows .entry)) 1920 (record { good = r .good; turns = r .turns }) (now (rows .exit))) ⌝ }
-    ensures come { λ r. ⌜ Come half (now (symbols .entry)) (r .words) (r .turns) ⌝ }
-    ensures kept { λ r. ⌜ (AreBytes (now (symbols .entry)) (12 * half) (5772 * half) → passesBy (r .good) ≡ true) ⌝ }
+    requires { ⌜ 1 ≤ pairs ⌝ }
+    requires { ⌜ pairs ≤ 2 ⌝ }
+    requires { ⌜ 5772 * pairs ≤ length (now symbols) ⌝ }
+    requires { ⌜ length (now rows) ≡ 3840 * pairs ⌝ }
+    requires { ⌜ GatherInv (now symbols) (12 * pairs) (12 * pairs) 65535 flips ⌝ }
+    ensures size { λ _. ⌜ length (now (rows .exit)) ≡ 3840 * pairs ⌝ }
+    ensures got { λ r. ⌜ (passesBy (r .good) ≡ true → RowsInv pairs (now (symbols .entry)) (now (rows .entry)) 1920 (record { good = r .good; flips = r .flips }) (now (rows .exit))) ⌝ }
+    ensures come { λ r. ⌜ Come pairs (now (symbols .entry)) (r .words) (r .flips) ⌝ }
+    ensures kept { λ r. ⌜ (AreBytes (now (symbols .entry)) (12 * pairs) (5772 * pairs) → passesBy (r .good) ≡ true) ⌝ }
 {
-    let mut p = Passed { good: 65535, turns };
+    let mut p = Passed { good: 65535, flips };
     let mut j = 0;
     while j < 1920 {
-        let next = take_piece(t, half, symbols, j, j + PIECE, p, rows);
+        let next = take_piece(t, pairs, symbols, j, j + PIECE, p, rows);
         if crate::see::passes(next.good) {
             p = next;
             j += PIECE;
         } else {
             return Pictured {
                 good: next.good,
-                turns: p.turns,
+                flips: p.flips,
                 words: j,
             };
         }
     }
     Pictured {
         good: p.good,
-        turns: p.turns,
+        flips: p.flips,
         words: 1920,
     }
 }

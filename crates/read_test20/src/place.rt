@@ -34,13 +34,13 @@ fn start_of(symbols: &[u16]) -> Disparity
 
 // Whether a character is of the kind that stands at symbol i.
 fn fits_at(p: Shape, i: usize, c: u16) -> bool
-    requires { ⌜ p .half ≤ 2 ⌝ }
+    requires { ⌜ p .«stream_pairs» ≤ 2 ⌝ }
     ensures { λ r. ⌜ r ≡ fits p i c ⌝ }
 {
     if i < 2 {
         return c == K28_5;
     }
-    let eav = span::layout::EAV_SYMBOL * p.half;
+    let eav = span::layout::EAV_SYMBOL * p.stream_pairs;
     if i < eav {
         return c < 256;
     }
@@ -52,7 +52,7 @@ fn fits_at(p: Shape, i: usize, c: u16) -> bool
 
 // Whether an entry is legal at the disparity of a bit, with such a character.
 fn holds(p: Shape, i: usize, mask: u16, e: u16) -> bool
-    requires { ⌜ p .half ≤ 2 ⌝ }
+    requires { ⌜ p .«stream_pairs» ≤ 2 ⌝ }
     ensures { λ r. ⌜ r ≡ holdsBy p i mask e ⌝ }
 {
     if decoder::mask::legal_by(mask, e) {
@@ -70,7 +70,7 @@ pub(crate) fn first_wrong(
     mask: u16,
 ) -> usize
     requires { ⌜ now t ≡ decodingTable ⌝ }
-    requires { ⌜ p .half ≤ 2 ⌝ }
+    requires { ⌜ p .«stream_pairs» ≤ 2 ⌝ }
     requires { ⌜ ScanInv p (now symbols) from mask ⌝ }
     ensures { λ r. ⌜ r ≡ place20 p (now (symbols .entry)) ⌝ }
 {
@@ -91,7 +91,7 @@ pub(crate) fn first_wrong(
 // The same from the beginning.
 pub(crate) fn first_wrong_of_all(t: &[u16; 1024], p: Shape, symbols: &[u16]) -> usize
     requires { ⌜ now t ≡ decodingTable ⌝ }
-    requires { ⌜ p .half ≤ 2 ⌝ }
+    requires { ⌜ p .«stream_pairs» ≤ 2 ⌝ }
     ensures { λ r. ⌜ r ≡ place20 p (now (symbols .entry)) ⌝ }
 {
     let before = start_of(symbols);

@@ -1,4 +1,4 @@
-// Symbols through the table without a way out: what is gathered of them says afterwards whether each was a byte that is legal where it stands.
+// Symbols through the table without an early exit: what is gathered of them says afterwards whether each was a byte that is legal where it stands.
 use packing::bytes::ThreeBytes;
 use packing::bytes::TwoWords;
 ghost use mathlib.Core.Path.{_≡_};
@@ -7,59 +7,59 @@ ghost use lib.ListN.{length};
 ghost use Rattle.decoder.specs.Inside.Decoder.{decodingTable};
 ghost use Rattle.read_test20.specs.Inside.See.{TenBits, GatherInv, seen, seenThree, seenSix, passesBy};
 
-// The entry of a symbol, and what is gathered behind it. Bits 9, 10 and 13 of `good` stay set where each symbol was legal and a byte. Bits 11
-// and 12 of `turns` are those of the disparity that is not the running one, at which a symbol need not be legal.
+// The entry of a symbol, and what is gathered after it. Bits 9, 10 and 13 of `good` stay set where each symbol was legal and a byte. Bits 11
+// and 12 of `flips` are those of the disparity that is not the running one, at which a symbol need not be legal.
 pub(crate) struct Seen {
     pub(crate) entry: u32,
     pub(crate) good: u32,
-    pub(crate) turns: u32,
+    pub(crate) flips: u32,
 }
 
-// What is gathered behind some symbols.
+// What is gathered after some symbols.
 pub(crate) struct Kept {
     pub(crate) good: u32,
-    pub(crate) turns: u32,
+    pub(crate) flips: u32,
 }
 
-// The words of three symbols, and what is gathered behind them.
+// The words of three symbols, and what is gathered after them.
 pub(crate) struct Three {
     pub(crate) good: u32,
-    pub(crate) turns: u32,
+    pub(crate) flips: u32,
     pub(crate) words: TwoWords,
 }
 
-// The words of six symbols, and what is gathered behind them.
+// The words of six symbols, and what is gathered after them.
 pub(crate) struct Six {
     pub(crate) good: u32,
-    pub(crate) turns: u32,
+    pub(crate) flips: u32,
     pub(crate) low: TwoWords,
     pub(crate) high: TwoWords,
 }
 
 // One symbol. What its entry says of the other disparity's bit does not count.
-fn see(t: &[u16; 1024], s: u16, good: u32, turns: u32) -> Seen
+fn see(t: &[u16; 1024], s: u16, good: u32, flips: u32) -> Seen
     requires { ⌜ now t ≡ decodingTable ⌝ }
     requires { ⌜ s < 1024 ⌝ }
-    ensures { λ r. ⌜ r ≡ seen s good turns ⌝ }
+    ensures { λ r. ⌜ r ≡ seen s good flips ⌝ }
 {
     let entry = t[s as usize] as u32;
     Seen {
         entry,
-        good: good & (entry | turns / 4),
-        turns: turns ^ entry,
+        good: good & (entry | flips / 4),
+        flips: flips ^ entry,
     }
 }
 
 // Three symbols, and their words.
-pub(crate) fn see_three(t: &[u16; 1024], symbols: &[u16], o: usize, good: u32, turns: u32) -> Three
+pub(crate) fn see_three(t: &[u16; 1024], symbols: &[u16], o: usize, good: u32, flips: u32) -> Three
     requires { ⌜ now t ≡ decodingTable ⌝ }
     requires { ⌜ TenBits (now symbols) ⌝ }
     requires { ⌜ o + 3 ≤ length (now symbols) ⌝ }
-    ensures { λ r. ⌜ r ≡ seenThree (now (symbols .entry)) o good turns ⌝ }
+    ensures { λ r. ⌜ r ≡ seenThree (now (symbols .entry)) o good flips ⌝ }
 {
-    let x = see(t, symbols[o], good, turns);
-    let y = see(t, symbols[o + 1], x.good, x.turns);
-    let z = see(t, symbols[o + 2], y.good, y.turns);
+    let x = see(t, symbols[o], good, flips);
+    let y = see(t, symbols[o + 1], x.good, x.flips);
+    let z = see(t, symbols[o + 2], y.good, y.flips);
     let words = packing::bytes::unpack(ThreeBytes {
         first: (x.entry % 256) as u8,
         second: (y.entry % 256) as u8,
@@ -67,46 +67,46 @@ pub(crate) fn see_three(t: &[u16; 1024], symbols: &[u16], o: usize, good: u32, t
     });
     Three {
         good: z.good,
-        turns: z.turns,
+        flips: z.flips,
         words,
     }
 }
 
 // Six symbols: one word of each of four streams.
-pub(crate) fn see_six(t: &[u16; 1024], symbols: &[u16], o: usize, good: u32, turns: u32) -> Six
+pub(crate) fn see_six(t: &[u16; 1024], symbols: &[u16], o: usize, good: u32, flips: u32) -> Six
     requires { ⌜ now t ≡ decodingTable ⌝ }
     requires { ⌜ TenBits (now symbols) ⌝ }
     requires { ⌜ o + 6 ≤ length (now symbols) ⌝ }
-    ensures { λ r. ⌜ r ≡ seenSix (now (symbols .entry)) o good turns ⌝ }
+    ensures { λ r. ⌜ r ≡ seenSix (now (symbols .entry)) o good flips ⌝ }
 {
-    let x = see_three(t, symbols, o, good, turns);
-    let y = see_three(t, symbols, o + 3, x.good, x.turns);
+    let x = see_three(t, symbols, o, good, flips);
+    let y = see_three(t, symbols, o + 3, x.good, x.flips);
     let low = x.words;
     let high = y.words;
     Six {
         good: y.good,
-        turns: y.turns,
+        flips: y.flips,
         low,
         high,
     }
 }
 
 // The symbols from one place to another.
-pub(crate) fn see_run(t: &[u16; 1024], symbols: &[u16], from: usize, to: usize, turns: u32) -> Kept
+pub(crate) fn see_run(t: &[u16; 1024], symbols: &[u16], from: usize, to: usize, flips: u32) -> Kept
     requires { ⌜ now t ≡ decodingTable ⌝ }
     requires { ⌜ TenBits (now symbols) ⌝ }
     requires { ⌜ from ≤ to ⌝ }
     requires { ⌜ to ≤ length (now symbols) ⌝ }
-    requires { ⌜ GatherInv (now symbols) from from 65535 turns ⌝ }
-    ensures { λ r. ⌜ GatherInv (now (symbols .entry)) from to (r .good) (r .turns) ⌝ }
+    requires { ⌜ GatherInv (now symbols) from from 65535 flips ⌝ }
+    ensures { λ r. ⌜ GatherInv (now (symbols .entry)) from to (r .good) (r .flips) ⌝ }
 {
-    let mut k = Kept { good: 65535, turns };
+    let mut k = Kept { good: 65535, flips };
     let mut i = from;
     while i < to {
-        let x = see(t, symbols[i], k.good, k.turns);
+        let x = see(t, symbols[i], k.good, k.flips);
         k = Kept {
             good: x.good,
-            turns: x.turns,
+            flips: x.flips,
         };
         i += 1;
     }

@@ -47,18 +47,18 @@ fn are_ten_bits(symbols: &[u16]) -> bool
     all < 1024
 }
 
-// The disparity at which `turns` has been gathered.
-fn disparity_by(turns: u32) -> Disparity
-    ensures { λ r. ⌜ r ≡ ofMask (maskBy turns) ⌝ }
+// The disparity at which `flips` has been gathered.
+fn disparity_by(flips: u32) -> Disparity
+    ensures { λ r. ⌜ r ≡ ofMask (maskBy flips) ⌝ }
 {
-    if turns / 2048 % 4 == 2 {
+    if flips / 2048 % 4 == 2 {
         return Disparity::Negative;
     }
     Disparity::Positive
 }
 
-// K28.5 twice: what is gathered behind it; 0 where something else stands there.
-fn behind_sav(symbols: &[u16]) -> u32
+// K28.5 twice: what is gathered after it; 0 where something else stands there.
+fn after_sav(symbols: &[u16]) -> u32
     requires { ⌜ 2 ≤ length (now symbols) ⌝ }
     ensures sound { λ r. ⌜ ((r ≡ 0 → ⊥) → Begun (now (symbols .entry)) r) ⌝ }
     ensures kept { λ r. ⌜ (Twice (now (symbols .entry)) 261 0 → r ≡ 0 → ⊥) ⌝ }
@@ -77,13 +77,13 @@ fn behind_sav(symbols: &[u16]) -> u32
     0
 }
 
-// Whether K29.7 stands twice from a place on, at the disparity at which `turns` has been gathered, which it does not turn.
-fn is_eav(symbols: &[u16], at: usize, turns: u32) -> bool
+// Whether K29.7 stands twice from a place on, at the disparity at which `flips` has been gathered, which it does not flip.
+fn is_eav(symbols: &[u16], at: usize, flips: u32) -> bool
     requires { ⌜ at + 2 ≤ length (now symbols) ⌝ }
-    ensures sound { λ r. ⌜ (r ≡ true → EavHolds (now (symbols .entry)) at turns) ⌝ }
-    ensures kept { λ r. ⌜ (maskBy turns ≡ maskOf (runningAt (now (symbols .entry)) at) → Twice (now (symbols .entry)) 266 at → r ≡ true) ⌝ }
+    ensures sound { λ r. ⌜ (r ≡ true → EavHolds (now (symbols .entry)) at flips) ⌝ }
+    ensures kept { λ r. ⌜ (maskBy flips ≡ maskOf (runningAt (now (symbols .entry)) at) → Twice (now (symbols .entry)) 266 at → r ≡ true) ⌝ }
 {
-    if turns / 2048 % 4 == 2 {
+    if flips / 2048 % 4 == 2 {
         if symbols[at] == 0x05D {
             return symbols[at + 1] == 0x05D;
         }
@@ -95,37 +95,37 @@ fn is_eav(symbols: &[u16], at: usize, turns: u32) -> bool
     false
 }
 
-// What stands behind the picture: whether it is as it should be, whether the fill is known to be, and what is gathered behind it.
+// What stands after the picture: whether it is as it should be, whether the fill is known to be, and what is gathered after it.
 struct Ended {
     whole: bool,
     filled: bool,
-    turns: u32,
+    flips: u32,
 }
 
 // A run of words: mostly blanking words, else any bytes.
-fn run_of(t: &[u16; 1024], symbols: &[u16], from: usize, to: usize, turns: u32) -> Ended
+fn run_of(t: &[u16; 1024], symbols: &[u16], from: usize, to: usize, flips: u32) -> Ended
     requires { ⌜ now t ≡ decodingTable ⌝ }
     requires { ⌜ TenBits (now symbols) ⌝ }
     requires { ⌜ from ≤ to ⌝ }
     requires { ⌜ to ≤ length (now symbols) ⌝ }
     requires { ⌜ (to - from) % 3 ≡ 0 ⌝ }
-    requires { ⌜ Tied (now symbols) from turns ⌝ }
-    ensures whole { λ r. ⌜ (r .whole ≡ true → RunTo (now (symbols .entry)) from to (r .turns)) ⌝ }
-    ensures filled { λ r. ⌜ (r .filled ≡ true → AreBlank (now (symbols .entry)) from to turns) ⌝ }
+    requires { ⌜ Tied (now symbols) from flips ⌝ }
+    ensures whole { λ r. ⌜ (r .whole ≡ true → RunTo (now (symbols .entry)) from to (r .flips)) ⌝ }
+    ensures filled { λ r. ⌜ (r .filled ≡ true → AreBlank (now (symbols .entry)) from to flips) ⌝ }
     ensures kept { λ r. ⌜ (AreBytes (now (symbols .entry)) from to → r .whole ≡ true) ⌝ }
 {
-    if crate::blank::are_blank(symbols, from, to, turns) {
+    if crate::blank::are_blank(symbols, from, to, flips) {
         return Ended {
             whole: true,
             filled: true,
-            turns,
+            flips,
         };
     }
-    let k = crate::see::see_run(t, symbols, from, to, turns);
+    let k = crate::see::see_run(t, symbols, from, to, flips);
     Ended {
         whole: crate::see::passes(k.good),
         filled: false,
-        turns: k.turns,
+        flips: k.flips,
     }
 }
 
@@ -135,58 +135,58 @@ fn unended() -> Ended
     Ended {
         whole: false,
         filled: false,
-        turns: 0,
+        flips: 0,
     }
 }
 
 // The ancillary area, and then the fill.
-fn tail_of(t: &[u16; 1024], p: Shape, symbols: &[u16], turns: u32) -> Ended
+fn tail_of(t: &[u16; 1024], p: Shape, symbols: &[u16], flips: u32) -> Ended
     requires { ⌜ Given p (now t) (now symbols) ⌝ }
     requires { ⌜ TenBits (now symbols) ⌝ }
-    requires { ⌜ Tied (now symbols) (5796 * p .half) turns ⌝ }
-    ensures whole { λ r. ⌜ (r .whole ≡ true → RunInv (now (symbols .entry)) 0 255 (5796 * p .half) (length (now (symbols .entry))) (maskBy (r .turns))) ⌝ }
+    requires { ⌜ Tied (now symbols) (5796 * p .«stream_pairs») flips ⌝ }
+    ensures whole { λ r. ⌜ (r .whole ≡ true → RunInv (now (symbols .entry)) 0 255 (5796 * p .«stream_pairs») (length (now (symbols .entry))) (maskBy (r .flips))) ⌝ }
     ensures filled { λ r. ⌜ (r .filled ≡ true → fillRight p (now (symbols .entry)) ≡ true) ⌝ }
-    ensures kept { λ r. ⌜ (AreBytes (now (symbols .entry)) (5796 * p .half) (length (now (symbols .entry))) → r .whole ≡ true) ⌝ }
+    ensures kept { λ r. ⌜ (AreBytes (now (symbols .entry)) (5796 * p .«stream_pairs») (length (now (symbols .entry))) → r .whole ≡ true) ⌝ }
 {
-    let from = span::layout::ANCILLARY_SYMBOL * p.half;
-    let fill = symbols.len() - 3 * p.fill;
-    let area = run_of(t, symbols, from, fill, turns);
+    let from = span::layout::ANCILLARY_SYMBOL * p.stream_pairs;
+    let fill = symbols.len() - 3 * p.fill_pairs;
+    let area = run_of(t, symbols, from, fill, flips);
     if !area.whole {
         return unended();
     }
-    run_of(t, symbols, fill, symbols.len(), area.turns)
+    run_of(t, symbols, fill, symbols.len(), area.flips)
 }
 
-// The EAV, the line number and the CRCC, and what stands behind them.
-fn end_of(t: &[u16; 1024], p: Shape, symbols: &[u16], turns: u32) -> Ended
+// The EAV, the line number and the CRCC, and what stands after them.
+fn end_of(t: &[u16; 1024], p: Shape, symbols: &[u16], flips: u32) -> Ended
     requires { ⌜ Given p (now t) (now symbols) ⌝ }
     requires { ⌜ TenBits (now symbols) ⌝ }
-    requires { ⌜ Tied (now symbols) (5772 * p .half) turns ⌝ }
-    ensures whole { λ r. ⌜ (r .whole ≡ true → Ending p (now (symbols .entry)) turns (r .turns)) ⌝ }
+    requires { ⌜ Tied (now symbols) (5772 * p .«stream_pairs») flips ⌝ }
+    ensures whole { λ r. ⌜ (r .whole ≡ true → Ending p (now (symbols .entry)) flips (r .flips)) ⌝ }
     ensures filled { λ r. ⌜ (r .filled ≡ true → fillRight p (now (symbols .entry)) ≡ true) ⌝ }
     ensures kept { λ r. ⌜ (AllHold p (now (symbols .entry)) → r .whole ≡ true) ⌝ }
 {
-    let eav = span::layout::EAV_SYMBOL * p.half;
-    let behind = eav + 24 * p.half;
-    if !is_eav(symbols, eav, turns) {
+    let eav = span::layout::EAV_SYMBOL * p.stream_pairs;
+    let after = eav + 24 * p.stream_pairs;
+    if !is_eav(symbols, eav, flips) {
         return unended();
     }
-    let k = crate::see::see_run(t, symbols, eav + 2, behind, turns);
+    let k = crate::see::see_run(t, symbols, eav + 2, after, flips);
     if !crate::see::passes(k.good) {
         return unended();
     }
-    tail_of(t, p, symbols, k.turns)
+    tail_of(t, p, symbols, k.flips)
 }
 
-// The bit of the disparity at which `turns` has been gathered.
-fn mask_by(turns: u32) -> u16
-    ensures { λ r. ⌜ r ≡ maskBy turns ⌝ }
+// The bit of the disparity at which `flips` has been gathered.
+fn mask_by(flips: u32) -> u16
+    ensures { λ r. ⌜ r ≡ maskBy flips ⌝ }
 {
-    (1536 - turns / 2048 % 4 * 512) as u16
+    (1536 - flips / 2048 % 4 * 512) as u16
 }
 
 // Of a window with a symbol that is not as it should be, its place and no more.
-fn wanting(place: usize) -> Taken
+fn fault(place: usize) -> Taken
     ensures { λ r. ⌜ (r .whole ≡ false) × (r .filled ≡ false) × (r .place ≡ place) ⌝ }
 {
     Taken {
@@ -205,24 +205,24 @@ fn wanting(place: usize) -> Taken
 }
 
 // The same, looked for from the beginning.
-fn wanting_somewhere(t: &[u16; 1024], p: Shape, symbols: &[u16]) -> Taken
+fn fault_somewhere(t: &[u16; 1024], p: Shape, symbols: &[u16]) -> Taken
     requires { ⌜ now t ≡ decodingTable ⌝ }
-    requires { ⌜ p .half ≤ 2 ⌝ }
+    requires { ⌜ p .«stream_pairs» ≤ 2 ⌝ }
     ensures { λ r. ⌜ (r .whole ≡ false) × (r .filled ≡ false) × (r .place ≡ place20 p (now (symbols .entry))) ⌝ }
 {
-    wanting(crate::place::first_wrong_of_all(t, p, symbols))
+    fault(crate::place::first_wrong_of_all(t, p, symbols))
 }
 
-// The same, where so many picture words of each stream are as they should be and `turns` has been gathered behind them.
-fn wanting_behind(t: &[u16; 1024], p: Shape, symbols: &[u16], words: usize, turns: u32) -> Taken
+// The same, where so many picture words of each stream are as they should be and `flips` has been gathered after them.
+fn fault_after(t: &[u16; 1024], p: Shape, symbols: &[u16], words: usize, flips: u32) -> Taken
     requires { ⌜ now t ≡ decodingTable ⌝ }
-    requires { ⌜ p .half ≤ 2 ⌝ }
+    requires { ⌜ p .«stream_pairs» ≤ 2 ⌝ }
     requires { ⌜ words ≤ 1920 ⌝ }
-    requires { ⌜ ScanInv p (now symbols) (12 * p .half + 3 * p .half * words) (maskBy turns) ⌝ }
+    requires { ⌜ ScanInv p (now symbols) (12 * p .«stream_pairs» + 3 * p .«stream_pairs» * words) (maskBy flips) ⌝ }
     ensures { λ r. ⌜ (r .whole ≡ false) × (r .filled ≡ false) × (r .place ≡ place20 p (now (symbols .entry))) ⌝ }
 {
-    let clean = span::layout::PICTURE_SYMBOL * p.half + 3 * p.half * words;
-    wanting(crate::place::first_wrong(t, p, symbols, clean, mask_by(turns)))
+    let clean = span::layout::PICTURE_SYMBOL * p.stream_pairs + 3 * p.stream_pairs * words;
+    fault(crate::place::first_wrong(t, p, symbols, clean, mask_by(flips)))
 }
 
 // A window of a known format whose symbols have ten bits.
@@ -236,21 +236,27 @@ fn take_window(t: &[u16; 1024], p: Shape, symbols: &[u16], rows: &mut [u16]) -> 
     ensures place { λ r. ⌜ r .place ≡ place20 p (now (symbols .entry)) ⌝ }
     ensures kept { λ r. ⌜ (AllHold p (now (symbols .entry)) → r .whole ≡ true) ⌝ }
 {
-    let first = behind_sav(symbols);
+    let first = after_sav(symbols);
     if first == 0 {
-        return wanting_somewhere(t, p, symbols);
+        return fault_somewhere(t, p, symbols);
     }
-    let head = crate::see::see_run(t, symbols, 2, span::layout::PICTURE_SYMBOL * p.half, first);
+    let head = crate::see::see_run(
+        t,
+        symbols,
+        2,
+        span::layout::PICTURE_SYMBOL * p.stream_pairs,
+        first,
+    );
     if !crate::see::passes(head.good) {
-        return wanting_somewhere(t, p, symbols);
+        return fault_somewhere(t, p, symbols);
     }
-    let v = crate::picture::take_picture(t, p.half, symbols, head.turns, rows);
+    let v = crate::picture::take_picture(t, p.stream_pairs, symbols, head.flips, rows);
     if !crate::see::passes(v.good) {
-        return wanting_behind(t, p, symbols, v.words, v.turns);
+        return fault_after(t, p, symbols, v.words, v.flips);
     }
-    let e = end_of(t, p, symbols, v.turns);
+    let e = end_of(t, p, symbols, v.flips);
     if !e.whole {
-        return wanting_behind(t, p, symbols, v.words, v.turns);
+        return fault_after(t, p, symbols, v.words, v.flips);
     }
     // Only of a window that is as it should be: nothing else pays for its CRCs.
     let sums = row_crc::sums::sums_of_rows(rows);
@@ -259,7 +265,7 @@ fn take_window(t: &[u16; 1024], p: Shape, symbols: &[u16], rows: &mut [u16]) -> 
         place: symbols.len(),
         filled: e.filled,
         before: disparity_by(first),
-        after: disparity_by(e.turns),
+        after: disparity_by(e.flips),
         sums,
     }
 }
@@ -273,12 +279,12 @@ pub fn take(f: Format, symbols: &[u16], rows: &mut [u16]) -> Taken
     ensures place { λ r. ⌜ r .place ≡ placeIf20 f (now (symbols .entry)) (length (now (rows .entry))) ⌝ }
 {
     if !span::fit::is_ready(f, symbols.len(), rows.len()) {
-        return wanting(0);
+        return fault(0);
     }
     let t = decoder::table::decoding_table();
     let p = span::format::shape_of(f);
     if !are_ten_bits(symbols) {
-        return wanting_somewhere(&t, p, symbols);
+        return fault_somewhere(&t, p, symbols);
     }
     take_window(&t, p, symbols, rows)
 }

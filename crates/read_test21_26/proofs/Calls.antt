@@ -49,9 +49,9 @@ given {p} {t} {w} f is e table =
 
 -- ---- the content bytes
 module _ (p : Shape) (w : List ℕ) {x1 x2 x3 x4 : ℕ} where
-  pub content-is : x1 ≡ byteOf (symbolAt w 2) → x2 ≡ byteOf (symbolAt w 3) → x3 ≡ byteOf (symbolAt w (5772 * p .half + 2))
-      → x4 ≡ byteOf (symbolAt w (5772 * p .half + 3)) → record { sav1 = x1; sav2 = x2; eav1 = x3; eav2 = x4 } ≡ contentIn p w
-  content-is e1 e2 e3 e4 = let at : 5772 * p .half ≡ eavAt p = omega arith in rw (e1, e2, e3, e4, at)
+  pub content-is : x1 ≡ byteOf (symbolAt w 2) → x2 ≡ byteOf (symbolAt w 3) → x3 ≡ byteOf (symbolAt w (5772 * p .«stream_pairs» + 2))
+      → x4 ≡ byteOf (symbolAt w (5772 * p .«stream_pairs» + 3)) → record { sav1 = x1; sav2 = x2; eav1 = x3; eav2 = x4 } ≡ contentIn p w
+  content-is e1 e2 e3 e4 = let at : 5772 * p .«stream_pairs» ≡ eavAt p = omega arith in rw (e1, e2, e3, e4, at)
 
 -- ---- the answers, by the shape in hand
 module _ (f : Format) (w : List ℕ) {p : Shape} (e : p ≡ shapeOf f) where
@@ -71,12 +71,12 @@ module _ (f : Format) (w : List ℕ) {p : Shape} (e : p ≡ shapeOf f) where
     pub is-place-26 :
         k
         ≡ firstWrong (holdsAt 26 f p w c) (streams p * (1932 + p .ancillary))
-        (streams p * (1932 + p .ancillary) + 2 * p .fill)
+        (streams p * (1932 + p .ancillary) + 2 * p .«fill_pairs»)
         → k ≡ place26 f w
     unfolding place26 holdsOf
     is-place-26 is =
         is
         ∙ ap
         (λ (q : Shape).
-        firstWrong (holdsAt 26 f q w c) (streams q * (1932 + q .ancillary)) (streams q * (1932 + q .ancillary) + 2 * q .fill))
+        firstWrong (holdsAt 26 f q w c) (streams q * (1932 + q .ancillary)) (streams q * (1932 + q .ancillary) + 2 * q .«fill_pairs»))
         e

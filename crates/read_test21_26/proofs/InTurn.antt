@@ -64,7 +64,7 @@ module _ (f : Format) (p : Shape) (w : List ℕ) (c : Sums) where
   abbrev answer : Verdict
   answer = firstRow (serviceTests p w c)
 
-  in-turn : 1 ≤ p .half → answer ≡ from-sav
+  in-turn : 1 ≤ p .«stream_pairs» → answer ≡ from-sav
   unfolding holdsOf
   in-turn h =
       let s = streams p in
@@ -96,7 +96,7 @@ module _ (f : Format) (p : Shape) (w : List ℕ) (c : Sums) where
         go (some k) e is = let q : v .number ≡ number = ap (λ (r : Verdict). r .number) is in absurd (omega arith)
 
   -- the six runs one after the other
-  module _ (half : 1 ≤ p .half) {sav : Verdict} (sav-is : sav ≡ judged 21 0 4 passed) where
+  module _ (half : 1 ≤ p .«stream_pairs») {sav : Verdict} (sav-is : sav ≡ judged 21 0 4 passed) where
     pub sav-wrong : (sav .number ≡ 0 → ⊥) → sav ≡ answer
     sav-wrong = ends-here 21 0 4 from-eav (in-turn half) sav-is
 

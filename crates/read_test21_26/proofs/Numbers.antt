@@ -40,7 +40,7 @@ module _ (number : ℕ) (f : Format) (p : Shape) (w : List ℕ) (c : Sums) where
   at-26 a b d e g =
       rw (ne-eqb number 21 a, ne-eqb number 22 b, ne-eqb number 23 d, ne-eqb number 24 e, ne-eqb number 25 g)
 
--- the sum of a stream behind the third
+-- the sum of a stream after the third
 pub fourth-is : (c : Sums) (i : ℕ) → (i ≡ 0 → ⊥) → (i ≡ 1 → ⊥) → (i ≡ 2 → ⊥) → c .fourth ≡ sumIn c i
 fourth-is c zero x y z = absurd (x refl)
 fourth-is c (suc zero) x y z = absurd (y refl)

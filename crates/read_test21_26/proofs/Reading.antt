@@ -53,7 +53,7 @@ module _ (p : Shape) (w : List ℕ) (k : ℕ) {x y z : ℕ} (first : x ≡ byteA
   word-odd e q = rw (e, first, second, third, ne-eqb (k % 2) 0 q)
 
 -- interleaved place k is that of word k / s of stream k % s
-module _ (p : Shape) (w : List ℕ) (k : ℕ) {x : ℕ} (some-streams : 1 ≤ p .half) (is : x ≡ wordAt p w k) where
+module _ (p : Shape) (w : List ℕ) (k : ℕ) {x : ℕ} (some-streams : 1 ≤ p .«stream_pairs») (is : x ≡ wordAt p w k) where
   abbrev placed-word : ℕ
   placed-word = wordOf (streams p) (wordAt p w) (k / streams p) (k % streams p)
 

@@ -64,14 +64,14 @@ pub fn service_of(f: Format, symbols: &[u16], c: Sums) -> Service
     }
 }
 
-// The lowest place of a word that may not be a sample's (25), or of a fill word that is not 100 (26); the place behind where all are right.
+// The lowest place of a word that may not be a sample's (25), or of a fill word that is not 100 (26); the place after where all are right.
 pub fn lowest_place(number: u8, f: Format, symbols: &[u16]) -> usize
     ensures { λ r. ⌜ r ≡ placeIf number f (now (symbols .entry)) ⌝ }
 {
     if is_window(f, symbols.len()) {
         let t = decoder::table::decoding_table();
         let p = span::format::shape_of(f);
-        let s = 2 * p.half;
+        let s = 2 * p.stream_pairs;
         let next = crate::holds::next_line(&t, p, symbols);
         let c = Sums {
             first: 0,
@@ -93,7 +93,17 @@ pub fn lowest_place(number: u8, f: Format, symbols: &[u16]) -> usize
             );
         }
         let from = s * (span::layout::ANCILLARY + p.ancillary);
-        return crate::holds::first_wrong(26, f, &t, p, symbols, next, c, from, from + 2 * p.fill);
+        return crate::holds::first_wrong(
+            26,
+            f,
+            &t,
+            p,
+            symbols,
+            next,
+            c,
+            from,
+            from + 2 * p.fill_pairs,
+        );
     }
     0
 }

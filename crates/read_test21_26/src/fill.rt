@@ -1,4 +1,4 @@
-// The fill words behind the streams (004, 7.1).
+// The fill words after the streams (004, 7.1).
 use span::format::Format;
 use span::format::Shape;
 ghost use mathlib.Core.Path.{_≡_};
@@ -12,8 +12,8 @@ fn is_right(t: &[u16; 1024], p: Shape, symbols: &[u16]) -> bool
     ensures { λ r. ⌜ r ≡ fillRight p (now (symbols .entry)) ⌝ }
 {
     let fill = span::blanking::fill_word();
-    let mut q = p.half * (span::layout::ANCILLARY + p.ancillary);
-    let end = q + p.fill;
+    let mut q = p.stream_pairs * (span::layout::ANCILLARY + p.ancillary);
+    let end = q + p.fill_pairs;
     while q < end {
         let w = crate::pairs::pair_from(t, symbols, 3 * q);
         if w.a != fill {

@@ -21,7 +21,7 @@ pub(crate) fn next_line(t: &[u16; 1024], p: Shape, symbols: &[u16]) -> StreamLin
     requires { ⌜ Given p (now t) (now symbols) ⌝ }
     ensures { λ r. ⌜ r .0 ≡ nextLine (streams p) (wordAt p (now (symbols .entry))) ⌝ }
 {
-    let s = 2 * p.half;
+    let s = 2 * p.stream_pairs;
     let ln0 = crate::words::word_at(t, p, symbols, span::layout::LINE_NUMBER * s);
     let ln1 = crate::words::word_at(t, p, symbols, span::layout::LN1 * s);
     match word::line_number::read_line_words(ln0, ln1) {
@@ -37,7 +37,7 @@ fn timing_holds(t: &[u16; 1024], p: Shape, symbols: &[u16], k: usize) -> bool
     requires { ⌜ k < 2 * pairsIn p ⌝ }
     ensures { λ r. ⌜ r ≡ placed (streams p) (holds21 (streams p) (wordAt p (now (symbols .entry)))) k ⌝ }
 {
-    let j = k / (2 * p.half);
+    let j = k / (2 * p.stream_pairs);
     let w = crate::words::word_at(t, p, symbols, k);
     if j < span::layout::PICTURE {
         return word::received::is_timing(false, j, w);
@@ -57,7 +57,7 @@ fn line_holds(t: &[u16; 1024], p: Shape, symbols: &[u16], next: StreamLine, k: u
     requires { ⌜ next .0 ≡ nextLine (streams p) (wordAt p (now symbols)) ⌝ }
     ensures { λ r. ⌜ r ≡ placed (streams p) (holds22 (streams p) (wordAt p (now (symbols .entry)))) k ⌝ }
 {
-    let s = 2 * p.half;
+    let s = 2 * p.stream_pairs;
     let j = k / s;
     if k == span::layout::LINE_NUMBER * s {
         return line::stream::number_of(next) != 0;
@@ -78,7 +78,7 @@ fn v_holds(t: &[u16; 1024], p: Shape, symbols: &[u16], next: StreamLine, k: usiz
     requires { ⌜ next .0 ≡ nextLine (streams p) (wordAt p (now symbols)) ⌝ }
     ensures { λ r. ⌜ r ≡ placed (streams p) (holds23 (streams p) (wordAt p (now (symbols .entry)))) k ⌝ }
 {
-    let j = k / (2 * p.half);
+    let j = k / (2 * p.stream_pairs);
     let w = crate::words::word_at(t, p, symbols, k);
     if j == span::layout::SAV_XYZ {
         return word::received::v_in(w) == line::stream::v_of(line::stream::line_before(next));
@@ -90,12 +90,12 @@ fn v_holds(t: &[u16; 1024], p: Shape, symbols: &[u16], next: StreamLine, k: usiz
 }
 
 // The CRC of stream i of which the picture leaves c: it runs on over the EAV, XYZ repaired, and the line number.
-fn crcc_behind(t: &[u16; 1024], p: Shape, symbols: &[u16], i: usize, c: u32) -> CrccWords
+fn crcc_after(t: &[u16; 1024], p: Shape, symbols: &[u16], i: usize, c: u32) -> CrccWords
     requires { ⌜ Given p (now t) (now symbols) ⌝ }
     requires { ⌜ i < streams p ⌝ }
     ensures { λ r. ⌜ r ≡ crccReceived p (now (symbols .entry)) i c ⌝ }
 {
-    let s = 2 * p.half;
+    let s = 2 * p.stream_pairs;
     let at = span::layout::EAV * s + i;
     let c1 = crcc::crcc::crc_word(c, crate::words::word_at(t, p, symbols, at));
     let c2 = crcc::crcc::crc_word(c1, crate::words::word_at(t, p, symbols, at + s));
@@ -131,12 +131,12 @@ fn crcc_holds(t: &[u16; 1024], p: Shape, symbols: &[u16], c: Sums, k: usize) -> 
     requires { ⌜ k < 2 * pairsIn p ⌝ }
     ensures { λ r. ⌜ r ≡ placed (streams p) (holds24By p (now (symbols .entry)) c) k ⌝ }
 {
-    let s = 2 * p.half;
+    let s = 2 * p.stream_pairs;
     let j = k / s;
     if span::layout::CRCC <= j {
         if j < span::layout::ANCILLARY {
             let w = crate::words::word_at(t, p, symbols, k);
-            let sent = crcc_behind(t, p, symbols, k % s, sum_of(c, k % s));
+            let sent = crcc_after(t, p, symbols, k % s, sum_of(c, k % s));
             if j == span::layout::CRCC {
                 return w == sent.crcc0;
             }
@@ -213,7 +213,7 @@ pub(crate) fn wrong_in_all(t: &[u16; 1024], p: Shape, symbols: &[u16]) -> u8
     requires { ⌜ Given p (now t) (now symbols) ⌝ }
     ensures { λ r. ⌜ r ≡ repairCount (streams p) (wordAt p (now (symbols .entry))) ⌝ }
 {
-    let s = 2 * p.half;
+    let s = 2 * p.stream_pairs;
     let mut sum = 0;
     let mut i = 0;
     while i < s {

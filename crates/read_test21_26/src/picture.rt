@@ -16,7 +16,7 @@ fn wrong_word(depth: u8, w: u16) -> u16
     1
 }
 
-// Whether all may. Each is looked at, so that the loop has one way out and takes many at a time.
+// Whether all may. Each is looked at, so that the loop has one exit and takes many at a time.
 fn each_allowed(depth: u8, rows: &[u16]) -> bool
     ensures { λ r. ⌜ r ≡ allAllowed depth (now (rows .entry)) ⌝ }
 {

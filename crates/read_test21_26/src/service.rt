@@ -33,7 +33,7 @@ fn judge_one(
     requires { ⌜ to ≤ ancillaryStart ⌝ }
     ensures { λ r. ⌜ r ≡ verdictOf number (wrongIn (holdsAt number f p (now (symbols .entry)) c) (streams p * from) (streams p * to)) passed ⌝ }
 {
-    let s = 2 * p.half;
+    let s = 2 * p.stream_pairs;
     let place = crate::holds::first_wrong(number, f, t, p, symbols, next, c, s * from, s * to);
     if place < s * to {
         return Verdict { number, place };

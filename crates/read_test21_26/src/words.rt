@@ -12,13 +12,13 @@ ghost use Rattle.window.specs.Inside.Given.{Given};
 
 // Byte i of a timing code that is replaced when it is sent: FF of the words FFF, and with two streams, where the third word is 000
 // already, 00 at the end.
-fn fixed_byte(half: usize, i: usize) -> u8
-    requires { ⌜ 1 ≤ half ⌝ }
-    requires { ⌜ half ≤ 2 ⌝ }
+fn fixed_byte(pairs: usize, i: usize) -> u8
+    requires { ⌜ 1 ≤ pairs ⌝ }
+    requires { ⌜ pairs ≤ 2 ⌝ }
     requires { ⌜ i < 4 ⌝ }
-    ensures { λ r. ⌜ r ≡ fixedByte (2 * half) i ⌝ }
+    ensures { λ r. ⌜ r ≡ fixedByte (2 * pairs) i ⌝ }
 {
-    if half == 1 {
+    if pairs == 1 {
         if i == 3 {
             return 0x00;
         }
@@ -32,15 +32,15 @@ fn byte_at(t: &[u16; 1024], p: Shape, symbols: &[u16], i: usize) -> u8
     requires { ⌜ i < length (now symbols) ⌝ }
     ensures { λ r. ⌜ r ≡ byteAt p (now (symbols .entry)) i ⌝ }
 {
-    let eav = span::layout::EAV_SYMBOL * p.half;
+    let eav = span::layout::EAV_SYMBOL * p.stream_pairs;
     if i < 4 {
-        return fixed_byte(p.half, i);
+        return fixed_byte(p.stream_pairs, i);
     }
     if i < eav {
         return decoder::table::byte_of(t, symbols[i]);
     }
     if i < eav + 4 {
-        return fixed_byte(p.half, i - eav);
+        return fixed_byte(p.stream_pairs, i - eav);
     }
     decoder::table::byte_of(t, symbols[i])
 }
@@ -64,12 +64,12 @@ pub(crate) fn word_at(t: &[u16; 1024], p: Shape, symbols: &[u16], k: usize) -> u
     w.b
 }
 
-// The content bytes behind the special characters of SAV and EAV.
+// The content bytes after the special characters of SAV and EAV.
 pub(crate) fn content_in(t: &[u16; 1024], p: Shape, symbols: &[u16]) -> ContentBytes
     requires { ⌜ Given p (now t) (now symbols) ⌝ }
     ensures { λ r. ⌜ r ≡ contentIn p (now (symbols .entry)) ⌝ }
 {
-    let eav = span::layout::EAV_SYMBOL * p.half;
+    let eav = span::layout::EAV_SYMBOL * p.stream_pairs;
     ContentBytes {
         sav1: decoder::table::byte_of(t, symbols[2]),
         sav2: decoder::table::byte_of(t, symbols[3]),

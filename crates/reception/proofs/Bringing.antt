@@ -54,7 +54,7 @@ module _ (words : List ℕ) (long : length words ≡ 7680) (t : ℕ) (few : t �
       ap (putMid at (at + 3840 - at) picture) is
       ∙ part-put picture (joinedRow t words) at (at + 3840) (omega (arith, length-row t words)) room
 
--- both rows, one behind the other
+-- both rows, one after the other
 rows-put : (words picture : List ℕ) (at : ℕ) {out : List ℕ} (between : List ℕ) → between ≡ sets picture at (joinedRow 0 words)
     → out ≡ sets between (at + 3840) (joinedRow 2 words) → out ≡ sets picture at (bothRows words)
 rows-put words picture at between e f =

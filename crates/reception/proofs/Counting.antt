@@ -13,7 +13,7 @@ use Rattle.ground.proofs.Reading.{next-left}
 use Rattle.ground.proofs.Searches.{is-hit, is-miss}
 use Rattle.reception.specs.Summary.{isLost, delivered, firstLost, lastOf}
 
--- ---- how many: those behind place i, and those before it
+-- ---- how many: those after place i, and those before it
 module _ (heard : List ℕ) where
   pub none-counted : delivered heard ≡ 0 + delivered (drop 0 heard)
   none-counted = omega arith

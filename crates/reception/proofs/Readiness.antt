@@ -48,7 +48,7 @@ module _ (first symbols heard picture : ℕ) where
   pub is-ready : Ready → receivable first symbols heard picture ≡ true
   is-ready r = by-rows (r .line) (r .short) (r .flags) ∙ eq-eqb picture 38400 (r .rows)
 
--- the call, where it was receivable and where it was not
+-- the call, where it was ready and where it was not
 module _ (first : ℕ) (symbols heard picture : List ℕ) where
   abbrev wasReady : Bool
   wasReady = receivable first (length symbols) (length heard) (length picture)

@@ -100,7 +100,7 @@ module _ (f : Format) (known : isKnown f ≡ true) (r : List ℕ) where
     ended WrongOutput x e = absurd (not-refused e)
     ended WrongStart x e = absurd (not-refused e)
 
--- the keys of a `match` that are left behind that of a delivery
+-- the keys of a `match` that are left after that of a delivery
 pub no-key : OneOf (1 ∷ 2 ∷ 3 ∷ 4 ∷ 5 ∷ []) 0 → ⊥
 no-key =
     ⊎-elim (λ z. omega arith)

@@ -85,7 +85,7 @@ module _ (f : Format) (known : isKnown f ≡ true) where
   abbrev n : ℕ
   n = symbolsIn (shapeOf f)
 
-  -- longer than what the quick look needs behind its last place
+  -- longer than what the quick look needs after its last place
   pub long : 66 + lookAhead + 3 ≤ n
   long = omega (arith, known-has-streams f known)
 

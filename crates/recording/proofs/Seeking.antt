@@ -128,7 +128,7 @@ pub some-answered : {x : Option (Found Reading)} {q : ℕ} {d : Delivery} {words
     → (some (record { place = q; delivery = d }) ≡ spanned x) × (rows ≡ wordsOr rows x)
 some-answered rows e is = (rw e, rw e is)
 
--- the keys of a `match` that are left behind that of a delivery
+-- the keys of a `match` that are left after that of a delivery
 pub no-key : OneOf (1 ∷ 2 ∷ 3 ∷ 4 ∷ 5 ∷ 6 ∷ 7 ∷ 8 ∷ 9 ∷ 10 ∷ []) 0 → ⊥
 no-key =
     ⊎-elim (λ z. omega arith)

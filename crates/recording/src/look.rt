@@ -7,7 +7,7 @@ ghost use Rattle.recording.specs.Inside.Look.{commaIn, gathered, commaAt
 // Symbols that are looked at together. The compiler knows the number, and makes the loop over them flat.
 const PIECE: usize = 64;
 
-// Symbols behind a start that are looked at before a span is read: starts close to each other do not cost a span each.
+// Symbols after a start that are looked at before a span is read: starts close to each other do not cost a span each.
 const NEAR: usize = 128;
 
 // 1 for K28.5 in either form, else 0.
@@ -23,7 +23,7 @@ fn comma(s: u16) -> u16
     0
 }
 
-// 0 only where none of so many symbols is K28.5. None is asked about by itself, so that the loop has one way out.
+// 0 only where none of so many symbols is K28.5. None is asked about by itself, so that the loop has one exit.
 pub(crate) fn commas(symbols: &[u16], from: usize, count: usize) -> u16
     requires { ⌜ from + count ≤ length (now symbols) ⌝ }
     ensures { λ r. ⌜ r ≡ gathered count (commaAt (now (symbols .entry)) from) ⌝ }
@@ -51,7 +51,7 @@ fn twice(symbols: &[u16], from: usize, count: usize) -> u16
     found
 }
 
-// Whether a span may begin at a place: K28.5 stands twice, and not again near behind. The third symbol is asked first, since the first of many
+// Whether a span may begin at a place: K28.5 stands twice, and not again near after. The third symbol is asked first, since the first of many
 // that are K28.5 is then soon passed over.
 fn may_begin(symbols: &[u16], i: usize) -> bool
     requires { ⌜ i + 2 + lookAhead ≤ length (now symbols) ⌝ }

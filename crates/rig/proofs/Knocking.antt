@@ -14,7 +14,7 @@ use Rattle.rig.specs.declared.knock.Knock.{Knock}
 use Rattle.rig.specs.Knock.{struck}
 use Rattle.rig.specs.Inside.Knock.{knocked}
 
--- 0 stands behind the end, struck or not
+-- 0 stands after the end, struck or not
 no-symbol : (b : Bool) → _≡_ {A = ℕ} 0 (cond b 0 0)
 no-symbol true = refl
 no-symbol false = refl

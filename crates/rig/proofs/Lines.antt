@@ -148,7 +148,7 @@ after-on d n (suc a) b =
     ∙ after-on e (suc n) a b
     ∙ ap₂ (λ (x : Disparity) (i : ℕ). afterFrom x i b) (sym (after-more d n a)) q
 
--- a loop over five lines: what is left, put behind what is there, is the whole
+-- a loop over five lines: what is left, put after what is there, is the whole
 module _ (first k : ℕ) (h : k < 5) (d : Disparity) {after : Disparity} (n : ℕ) (here : n ≡ first + k) (was : after ≡ spanAfter d link (requestOn n)) where
   is : after ≡ spanAfter d link (requestOn (first + k))
   is = was ∙ ap (λ (i : ℕ). spanAfter d link (requestOn i)) here

@@ -60,7 +60,7 @@ module _ (k : Knock) where
 at-twelve : IsFormat link
 at-twelve = (omega arith, omega arith, inr refl)
 
-four : shapeOf link .half ≡ 2
+four : shapeOf link .«stream_pairs» ≡ 2
 unfolding shapeOf
 four = refl
 

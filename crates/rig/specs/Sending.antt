@@ -9,7 +9,7 @@ use Rattle.send.specs.Send.{request}
 use Rattle.test_picture.specs.TestPicture.{testSamples}
 use Rattle.reception.specs.Link.{link}
 
--- what is request for on line n: its samples of the test picture, and no content bytes
+-- what is requested on line n: its samples of the test picture, and no content bytes
 abbrev pub requestOn : ℕ → Request
 requestOn n = request n NoneNamed (testSamples link n)
 

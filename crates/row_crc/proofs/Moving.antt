@@ -129,7 +129,7 @@ module _ (p x : ℕ) where
       (table-same p (only p x) (λ i. 0) (λ i h. ap (λ (t : Bool). cond t x 0) (ne-eqb i p (λ e. absurd (omega arith)))))
       ∙ zeros p
 
-  -- what it makes, and the zeros behind it
+  -- what it makes, and the zeros after it
   only-at : (k n : ℕ) → n ≡ p + 1 + k → crc 0 (table n (only p x)) ≡ ahead k (crcWord 0 x)
   unfolding ahead
   only-at zero n e =

@@ -46,7 +46,7 @@ fn send_words(
     ensures symbols { λ _. ⌜ now (out .exit) ≡ put (offsetOf d) (spanPut f d (l .0) content (now (words .entry))) 0 (now (out .entry)) ⌝ }
 {
     let symbols = encoder::tables::symbol_table();
-    let turns = encoder::tables::turn_table();
+    let turns = encoder::tables::flip_table();
     let p = span::format::shape_of(f);
     let c = span::content::content_of(f, content);
     let before = encoder::tables::offset_of(d);

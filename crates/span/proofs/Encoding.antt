@@ -10,7 +10,7 @@ use Rattle.symbol.specs.declared.disparity.Disparity.{Disparity}
 use Rattle.symbol.specs.Code.{symbolOf, afterOf}
 use Rattle.span.specs.Encoding.{symbolsFrom, afterRun}
 
--- a run and the run behind it
+-- a run and the run after it
 pub symbols-append :
     (d : Disparity) (xs ys : List ℕ) → symbolsFrom d (xs ++ ys) ≡ symbolsFrom d xs ++ symbolsFrom (afterRun d xs) ys
 unfolding symbolsFrom afterRun

@@ -77,7 +77,7 @@ no-row (suc (suc (suc zero))) a b c = absurd (c refl)
 no-row (suc (suc (suc (suc n)))) a b c = refl
 
 -- its pairs of words, the fill apart
-pub few-pairs : {p : Shape} → Small p → p .half * (1932 + p .ancillary) ≤ 5280
+pub few-pairs : {p : Shape} → Small p → p .«stream_pairs» * (1932 + p .ancillary) ≤ 5280
 few-pairs {p} s =
-    let m : (1932 + p .ancillary) * p .half ≤ (1932 + p .ancillary) * 2 = mul-le-mul-left (1932 + p .ancillary) (s .half) in
+    let m : (1932 + p .ancillary) * p .«stream_pairs» ≤ (1932 + p .ancillary) * 2 = mul-le-mul-left (1932 + p .ancillary) (s .half) in
     omega (arith, m, s .ancillary)

@@ -19,7 +19,7 @@ use Rattle.span.proofs.Signals.{signal-is, register-runs-on}
 known : (f : Format) → IsFormat f → Known f
 known f k = record { from = k .0; to = k .1; bits = k .2 }
 
-has-streams : (f : Format) → IsFormat f → 1 ≤ shapeOf f .half
+has-streams : (f : Format) → IsFormat f → 1 ≤ shapeOf f .«stream_pairs»
 has-streams f k = known-has-streams f (is-known f (known f k))
 
 pub span-laws : SpanLaws

@@ -33,8 +33,8 @@ table-of-formats depth = (refl, refl, refl)
 
 -- a known format has streams and fill
 record Some (p : Shape) : Type 0 where
-  half : 1 ≤ p .half
-  fill : 1 ≤ p .fill
+  half : 1 ≤ p .«stream_pairs»
+  fill : 1 ≤ p .«fill_pairs»
 
 -- formats 1 to 3 have, whatever the depth
 numbered : (n depth : ℕ) → 1 ≤ n → n ≤ 3 → Some (shapeOf (formatFrom n depth))
@@ -51,10 +51,10 @@ module _ (f : Format) (known : isKnown f ≡ true) where
       let t = both-left (within 1 3 (f .number)) (eqb (f .depth) 10 || eqb (f .depth) 12) known in
       numbered (f .number) (f .depth) (from-low 1 3 (f .number) t) (to-high 1 3 (f .number) t)
 
-  pub known-has-streams : 1 ≤ shapeOf f .half
+  pub known-has-streams : 1 ≤ shapeOf f .«stream_pairs»
   known-has-streams = some .half
 
-  pub known-has-fill : 1 ≤ shapeOf f .fill
+  pub known-has-fill : 1 ≤ shapeOf f .«fill_pairs»
   known-has-fill = some .fill
 
 -- words: any format
@@ -64,11 +64,11 @@ module _ (f : Format) (a : Request) where
   length-words-sav = length-interleaved (streams (shapeOf f)) 1924 (fromSav f a)
 
   pub length-words-eav :
-      length (wordsFromEav f a) ≡ streams (shapeOf f) * (8 + shapeOf f .ancillary) + 2 * shapeOf f .fill
+      length (wordsFromEav f a) ≡ streams (shapeOf f) * (8 + shapeOf f .ancillary) + 2 * shapeOf f .«fill_pairs»
   unfolding wordsFromEav
   length-words-eav =
       let n = 8 + shapeOf f .ancillary in
-      length-append (interleaved (streams (shapeOf f)) n (fromEav f a)) (replicate (2 * shapeOf f .fill) fillWord)
+      length-append (interleaved (streams (shapeOf f)) n (fromEav f a)) (replicate (2 * shapeOf f .«fill_pairs») fillWord)
       ∙ rw (length-interleaved (streams (shapeOf f)) n (fromEav f a), length-replicate)
 
   pub length-words : length (spanWords f a) ≡ 2 * pairsIn (shapeOf f)
@@ -78,16 +78,16 @@ module _ (f : Format) (a : Request) where
   -- their bytes
   pub length-bytes-sav : length (bytes (wordsFromSav f a)) ≡ eavAt (shapeOf f)
   length-bytes-sav =
-      length-bytes (shapeOf f .half * 1924) (wordsFromSav f a) (length-words-sav ∙ omega arith) ∙ omega arith
+      length-bytes (shapeOf f .«stream_pairs» * 1924) (wordsFromSav f a) (length-words-sav ∙ omega arith) ∙ omega arith
 
   pub length-bytes-eav :
-      length (bytes (wordsFromEav f a)) ≡ 3 * (shapeOf f .half * (8 + shapeOf f .ancillary) + shapeOf f .fill)
+      length (bytes (wordsFromEav f a)) ≡ 3 * (shapeOf f .«stream_pairs» * (8 + shapeOf f .ancillary) + shapeOf f .«fill_pairs»)
   length-bytes-eav =
-      length-bytes (shapeOf f .half * (8 + shapeOf f .ancillary) + shapeOf f .fill) (wordsFromEav f a)
+      length-bytes (shapeOf f .«stream_pairs» * (8 + shapeOf f .ancillary) + shapeOf f .«fill_pairs») (wordsFromEav f a)
       (length-words-eav ∙ omega arith)
 
 -- characters and symbols, where there are streams
-module _ (f : Format) (a : Request) (some : 1 ≤ shapeOf f .half) where
+module _ (f : Format) (a : Request) (some : 1 ≤ shapeOf f .«stream_pairs») where
   pub length-chars : length (spanChars f a) ≡ symbolsIn (shapeOf f)
   unfolding spanChars charsFromSav charsFromEav
   length-chars =

@@ -10,7 +10,7 @@ use Rattle.ground.proofs.Writing.{length-upto, getD-upto, length-table, is-tabl
 use Rattle.packing.specs.Bytes.{bytesOf}
 use Rattle.span.specs.Span.{across, interleaved, bytesListed, bytes}
 
--- an even number of words, and the words behind them
+-- an even number of words, and the words after them
 pub bytes-append : (k : ℕ) (xs ys : List ℕ) → length xs ≡ 2 * k → bytes (xs ++ ys) ≡ bytes xs ++ bytes ys
 unfolding bytes
 bytes-append k [] ys e = refl

@@ -40,12 +40,12 @@ module _ (half : ℕ) where
       let long : length (bytes words) ≡ 3 * (half * 4) = length-bytes (half * 4) words (length-interleaved (2 * half) 4 (λ _. code) ∙ omega arith) in
       ap (λ (l : List ℕ). numberOf k ∷ numberOf k ∷ c1 ∷ c2 ∷ l) (drop-append-le 4 (bytes words) rest (omega (arith, long)))
 
-module _ (f : Format) (a : Request) (some : 1 ≤ shapeOf f .half) where
+module _ (f : Format) (a : Request) (some : 1 ≤ shapeOf f .«stream_pairs») where
   abbrev s : ℕ
   s = streams (shapeOf f)
 
   abbrev half : ℕ
-  half = shapeOf f .half
+  half = shapeOf f .«stream_pairs»
 
   abbrev content : ContentBytes
   content = contentOf f (a .content)
@@ -57,12 +57,12 @@ module _ (f : Format) (a : Request) (some : 1 ≤ shapeOf f .half) where
       ap (synchronised «K28_5» (content .sav1) (content .sav2)) (first-part half 4 1920 (λ _. sav a) (picture f a) (λ t. refl))
       ∙ synchronised-first half some «K28_5» (content .sav1) (content .sav2) (sav a) (bytes (interleaved s 1920 (picture f a)))
 
-  -- what stands behind the EAV
+  -- what stands after the EAV
   abbrev behindEav : List ℕ
   behindEav =
       bytes (interleaved s 2 (λ _. lineNumber a))
       ++ (bytes (interleaved s 2 (crcc f a))
-      ++ (bytes (interleaved s (shapeOf f .ancillary) (ancillary f (a .line))) ++ bytes (replicate (2 * shapeOf f .fill) fillWord)))
+      ++ (bytes (interleaved s (shapeOf f .ancillary) (ancillary f (a .line))) ++ bytes (replicate (2 * shapeOf f .«fill_pairs») fillWord)))
 
   bytes-from-eav : bytes (wordsFromEav f a) ≡ bytes (interleaved s 4 (λ _. eav a)) ++ behindEav
   unfolding wordsFromEav
@@ -74,7 +74,7 @@ module _ (f : Format) (a : Request) (some : 1 ≤ shapeOf f .half) where
       let number = bytes (interleaved s 2 (λ _. lineNumber a)) in
       let sum = bytes (interleaved s 2 (crcc f a)) in
       let area = bytes (interleaved s n (ancillary f (a .line))) in
-      let fill = replicate (2 * shapeOf f .fill) fillWord in
+      let fill = replicate (2 * shapeOf f .«fill_pairs») fillWord in
       bytes-append (half * (8 + n)) whole fill (length-interleaved s (8 + n) (fromEav f a) ∙ omega arith)
       ∙ ap (λ (l : List ℕ). l ++ bytes fill)
       (ap (λ (k : ℕ). bytes (interleaved s k (fromEav f a))) count
@@ -96,10 +96,10 @@ module _ (f : Format) (a : Request) (some : 1 ≤ shapeOf f .half) where
 -- the ancillary area is blanking throughout
 pub blank-area : (f : Format) (n : ℕ)
     → bytes (interleaved (streams (shapeOf f)) (shapeOf f .ancillary) (ancillary f n))
-    ≡ upto (shapeOf f .half * shapeOf f .ancillary) (λ _. bytesListed (bytesOf (blankWord f) (blankWord f)))
+    ≡ upto (shapeOf f .«stream_pairs» * shapeOf f .ancillary) (λ _. bytesListed (bytesOf (blankWord f) (blankWord f)))
 unfolding ancillary
 blank-area f n =
-    let half : ℕ = shapeOf f .half in
+    let half : ℕ = shapeOf f .«stream_pairs» in
     let many : ℕ = shapeOf f .ancillary in
     bytes-interleaved half many (ancillary f n)
     ∙ upto-same many

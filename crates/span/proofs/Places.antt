@@ -44,24 +44,24 @@ pub inside : (s n j t : ℕ) → j < n → t < s → s * j + t < s * n
 inside s n j t h l = omega (arith, mul-le-mul-left s h)
 
 module _ (f : Format) (a : Request) where
-  -- behind what stands from the SAV on stands what stands from the EAV on
-  behind-sav : (i : ℕ) → getD (spanWords f a) (streams (shapeOf f) * 1924 + i) 0 ≡ getD (wordsFromEav f a) i 0
+  -- after what stands from the SAV on stands what stands from the EAV on
+  after-sav : (i : ℕ) → getD (spanWords f a) (streams (shapeOf f) * 1924 + i) 0 ≡ getD (wordsFromEav f a) i 0
   unfolding spanWords
-  behind-sav i = getD-second (wordsFromSav f a) (wordsFromEav f a) (streams (shapeOf f) * 1924) i 0 (length-words-sav f a)
+  after-sav i = getD-second (wordsFromSav f a) (wordsFromEav f a) (streams (shapeOf f) * 1924) i 0 (length-words-sav f a)
 
-  -- the fill stands behind all streams' words
+  -- the fill stands after all streams' words
   pub fill-word :
       (i : ℕ)
-      → i < 2 * shapeOf f .fill
+      → i < 2 * shapeOf f .«fill_pairs»
       → getD (spanWords f a) (streams (shapeOf f) * (1932 + shapeOf f .ancillary) + i) 0 ≡ fillWord
   unfolding wordsFromEav
   fill-word i h =
       let s = streams (shapeOf f) in
       let n = 8 + shapeOf f .ancillary in
-      let g = 2 * shapeOf f .fill in
+      let g = 2 * shapeOf f .«fill_pairs» in
       let e : s * (1932 + shapeOf f .ancillary) + i ≡ s * 1924 + (s * n + i) = omega arith in
       ap (λ (k : ℕ). getD (spanWords f a) k 0) e
-      ∙ behind-sav (s * n + i)
+      ∙ after-sav (s * n + i)
       ∙ getD-second (interleaved s n (fromEav f a)) (replicate g fillWord) (s * n) i 0 (length-interleaved s n (fromEav f a))
       ∙ getD-replicate g i fillWord 0 h
 
@@ -80,10 +80,10 @@ module _ (f : Format) (a : Request) where
     word-at-eav j h =
         let s = streams (shapeOf f) in
         let n = 8 + shapeOf f .ancillary in
-        let g = 2 * shapeOf f .fill in
+        let g = 2 * shapeOf f .«fill_pairs» in
         let e : s * (1924 + j) + t ≡ s * 1924 + (s * j + t) = omega arith in
         ap (λ (k : ℕ). getD (spanWords f a) k 0) e
-        ∙ behind-sav (s * j + t)
+        ∙ after-sav (s * j + t)
         ∙ getD-first (interleaved s n (fromEav f a)) (replicate g fillWord) (s * n) (s * j + t) 0
         (length-interleaved s n (fromEav f a)) (inside s n j t h l)
         ∙ interleaved-at s n (fromEav f a) j t h l
@@ -155,7 +155,7 @@ pub first-symbol : (d : Disparity) (f : Format) (a : Request) → getD (spanSymb
 unfolding spanSymbols spanChars charsFromSav symbolsFrom
 first-symbol d f a = refl
 
-module _ (f : Format) (a : Request) (some : 1 ≤ shapeOf f .half) where
+module _ (f : Format) (a : Request) (some : 1 ≤ shapeOf f .«stream_pairs») where
   abbrev content : ContentBytes
   content = contentOf f (a .content)
 
@@ -166,7 +166,7 @@ module _ (f : Format) (a : Request) (some : 1 ≤ shapeOf f .half) where
   abbrev eavBytes : List ℕ
   eavBytes = bytes (wordsFromEav f a)
 
-  -- the characters from the EAV on stand behind those from the SAV on
+  -- the characters from the EAV on stand after those from the SAV on
   behind-chars : (i : ℕ) → getD (spanChars f a) (eavAt (shapeOf f) + i) 0 ≡ getD (charsFromEav f a) i 0
   unfolding spanChars charsFromSav charsFromEav
   behind-chars = in-second content savBytes eavBytes (eavAt (shapeOf f)) (length-bytes-sav f a) (omega arith)
@@ -186,7 +186,7 @@ module _ (f : Format) (a : Request) (some : 1 ≤ shapeOf f .half) where
   bytes-parts : bytes (spanWords f a) ≡ savBytes ++ eavBytes
   unfolding spanWords
   bytes-parts =
-      bytes-append (shapeOf f .half * 1924) (wordsFromSav f a) (wordsFromEav f a) (length-words-sav f a ∙ omega arith)
+      bytes-append (shapeOf f .«stream_pairs» * 1924) (wordsFromSav f a) (wordsFromEav f a) (length-words-sav f a ∙ omega arith)
 
   -- every other character k is byte k of the words
   pub char-is-byte :
@@ -219,14 +219,14 @@ module _ (f : Format) (a : Request) (some : 1 ≤ shapeOf f .half) where
   span-symbol-at d i h = symbol-at d (spanChars f a) i (rw (length-chars f a some) h)
 
   -- the last character is the last byte of two fill words, and has two forms
-  module _ (filled : 1 ≤ shapeOf f .fill) where
+  module _ (filled : 1 ≤ shapeOf f .«fill_pairs») where
     -- the last word
     last-word : getD (spanWords f a) (2 * (pairsIn (shapeOf f) - 1) + 1) 0 ≡ fillWord
     last-word =
         let e :
         2 * (pairsIn (shapeOf f) - 1) + 1
-        ≡ streams (shapeOf f) * (1932 + shapeOf f .ancillary) + (2 * shapeOf f .fill - 1) = omega arith in
-        rw e (fill-word f a (2 * shapeOf f .fill - 1) (omega arith))
+        ≡ streams (shapeOf f) * (1932 + shapeOf f .ancillary) + (2 * shapeOf f .«fill_pairs» - 1) = omega arith in
+        rw e (fill-word f a (2 * shapeOf f .«fill_pairs» - 1) (omega arith))
 
     pub last-char : getD (spanChars f a) (symbolsIn (shapeOf f) - 1) 0 ≡ 0x10
     unfolding bytesOf

@@ -39,7 +39,7 @@ module _ (c : ContentBytes) (x y : List ℕ) (e : ℕ) (long : length x ≡ e) (
   pub length-both : 4 ≤ length y → length (first ++ second) ≡ e + length y
   length-both h = length-append first second ∙ omega (arith, length-first, length-drop 4 y)
 
-  -- the second stands behind the first
+  -- the second stands after the first
   pub in-second : (i : ℕ) → getD (first ++ second) (e + i) 0 ≡ getD second i 0
   in-second i = getD-second first second e i 0 length-first
 

@@ -18,10 +18,10 @@ formatFrom number depth = record { number = number; depth = depth }
 abbrev pub isKnown : Format → Bool
 isKnown f = within 1 3 (f .number) && (eqb (f .depth) 10 || eqb (f .depth) 12)
 
--- a tableRow of the table: s, the ancillary words per stream, the fill words. s and the fill are even, and half of each is kept, since the
--- link takes words two at a time.
+-- a row of the table: s, the ancillary words per stream, the fill words. s and the fill are even, and pairs are kept, since the link
+-- takes words two at a time.
 abbrev pub tableRow : ℕ → ℕ → ℕ → Shape
-tableRow s a g = record { half = s / 2; ancillary = a; fill = g / 2 }
+tableRow s a g = record { «stream_pairs» = s / 2; ancillary = a; «fill_pairs» = g / 2 }
 
 -- the table, from format 1 on; what is no format has no streams
 abbrev pub formats : List Shape
@@ -35,7 +35,7 @@ shapeOf f = numbered (f .number)
 
 -- the number s of streams
 abbrev pub streams : Shape → ℕ
-streams p = 2 * p .half
+streams p = 2 * p .«stream_pairs»
 
 -- the samples that a span carries: 1920 of each stream
 abbrev pub samplesIn : Shape → ℕ
@@ -47,7 +47,7 @@ wordsPerStream p = ancillaryStart + p .ancillary
 
 -- the pairs of words of a span
 abbrev pub pairsIn : Shape → ℕ
-pairsIn p = p .half * wordsPerStream p + p .fill
+pairsIn p = p .«stream_pairs» * wordsPerStream p + p .«fill_pairs»
 
 -- its symbols: two words give three
 abbrev pub symbolsIn : Shape → ℕ

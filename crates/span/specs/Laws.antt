@@ -40,7 +40,7 @@ format number depth = (formatFrom number depth)
 -- a row of document 01's table: s, the ancillary words per stream, the fill words, the symbols, the samples
 abbrev pub columns : Format → List ℕ
 columns f =
-    let p = shapeOf f in streams p ∷ p .ancillary ∷ 2 * p .fill ∷ symbolsIn p ∷ samplesIn p ∷ []
+    let p = shapeOf f in streams p ∷ p .ancillary ∷ 2 * p .«fill_pairs» ∷ symbolsIn p ∷ samplesIn p ∷ []
 
 -- the images of two streams, and of four
 abbrev two : Format → ℕ → List ℕ
@@ -117,7 +117,7 @@ pub record SpanLaws : Type 0 where
       → (wordOf f a 1930 t ≡ crccWords (register f a t) .crcc0) × (wordOf f a 1931 t ≡ crccWords (register f a t) .crcc1)
   pub registerRunsOn :
       (f : Format) (a : Request) (t : ℕ) → register f a t ≡ crc (crc 0 (picture f a t)) (eav a ++ lineNumber a)
-  -- the ancillary area, blanking throughout (6.8), and behind all streams the fill (7.1)
+  -- the ancillary area, blanking throughout (6.8), and after all streams the fill (7.1)
   pub ancillaryBlank :
       (f : Format) (a : Request) (t : ℕ)
       → t < streams (shapeOf f)
@@ -126,7 +126,7 @@ pub record SpanLaws : Type 0 where
       → wordOf f a (1932 + i) t ≡ blankWord f
   pub fillWords :
       (f : Format) (a : Request) (i : ℕ)
-      → i < 2 * shapeOf f .fill
+      → i < 2 * shapeOf f .«fill_pairs»
       → getD (spanWords f a) (streams (shapeOf f) * (1932 + shapeOf f .ancillary) + i) 0 ≡ 0x100
   -- the characters: K28.5 twice and two content bytes first, K29.7 twice and two content bytes at the EAV,
   pub savChars :

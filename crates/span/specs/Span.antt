@@ -34,11 +34,11 @@ fillWord = 0x100
 unfoldable pub wordsFromSav : Format → Request → List ℕ
 wordsFromSav f a = interleaved (streams (shapeOf f)) (4 + 1920) (fromSav f a)
 
--- those from the EAV on: EAV, line number, CRCC and ancillary area of all streams, and the fill behind them
+-- those from the EAV on: EAV, line number, CRCC and ancillary area of all streams, and the fill after them
 unfoldable pub wordsFromEav : Format → Request → List ℕ
 wordsFromEav f a =
     interleaved (streams (shapeOf f)) (4 + 2 + 2 + shapeOf f .ancillary) (fromEav f a)
-    ++ replicate (2 * shapeOf f .fill) fillWord
+    ++ replicate (2 * shapeOf f .«fill_pairs») fillWord
 
 unfoldable pub spanWords : Format → Request → List ℕ
 spanWords f a = wordsFromSav f a ++ wordsFromEav f a

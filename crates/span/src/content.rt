@@ -3,7 +3,7 @@ ghost use mathlib.Core.Path.{_≡_};
 ghost use Rattle.span.specs.Content.{contentOf};
 use crate::format::Format;
 
-// Content bytes 1 and 2 behind the SAV's special characters, and behind the EAV's.
+// Content bytes 1 and 2 after the SAV's special characters, and after the EAV's.
 #[repr(C)]
 pub struct ContentBytes {
     pub sav1: u8,

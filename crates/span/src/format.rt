@@ -8,11 +8,11 @@ pub struct Format {
     depth: u8,
 }
 
-// Half the streams, the ancillary words per stream, half the fill words.
+// The pairs of streams, the ancillary words per stream, the pairs of fill words.
 pub struct Shape {
-    pub half: usize,
+    pub stream_pairs: usize,
     pub ancillary: usize,
-    pub fill: usize,
+    pub fill_pairs: usize,
 }
 
 // The one place where a format is made.
@@ -48,28 +48,28 @@ pub fn shape_of(f: Format) -> Shape
 {
     if f.number == 1 {
         return Shape {
-            half: 1,
+            stream_pairs: 1,
             ancillary: 268,
-            fill: 440,
+            fill_pairs: 440,
         };
     }
     if f.number == 2 {
         return Shape {
-            half: 1,
+            stream_pairs: 1,
             ancillary: 708,
-            fill: 528,
+            fill_pairs: 528,
         };
     }
     if f.number == 3 {
         return Shape {
-            half: 2,
+            stream_pairs: 2,
             ancillary: 708,
-            fill: 1056,
+            fill_pairs: 1056,
         };
     }
     Shape {
-        half: 0,
+        stream_pairs: 0,
         ancillary: 0,
-        fill: 0,
+        fill_pairs: 0,
     }
 }

@@ -21,8 +21,8 @@ pub fn span_lengths(f: Format) -> SpanLengths
 {
     let p = crate::format::shape_of(f);
     SpanLengths {
-        samples: 3840 * p.half,
-        symbols: 3 * (p.half * (crate::layout::ANCILLARY + p.ancillary) + p.fill),
+        samples: 3840 * p.stream_pairs,
+        symbols: 3 * (p.stream_pairs * (crate::layout::ANCILLARY + p.ancillary) + p.fill_pairs),
     }
 }
 

@@ -15,11 +15,11 @@ pub fn before_fresh_signal() -> Disparity
     Disparity::Negative
 }
 
-// The opposite of d where it turns, else d.
-pub fn turned_if(turns: bool, d: Disparity) -> Disparity
-    ensures { λ r. ⌜ r ≡ flippedIf turns d ⌝ }
+// The opposite of d where it flips, else d.
+pub fn flipped_if(flips: bool, d: Disparity) -> Disparity
+    ensures { λ r. ⌜ r ≡ flippedIf flips d ⌝ }
 {
-    if turns {
+    if flips {
         return match d {
             Disparity::Negative => Disparity::Positive,
             Disparity::Positive => Disparity::Negative,

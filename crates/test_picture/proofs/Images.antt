@@ -26,7 +26,7 @@ use Rattle.span.specs.Format.{shapeOf, streams, samplesIn}
 use Rattle.span.specs.Image.{imageOf}
 use Rattle.test_picture.specs.TestPicture.{codeStep, sampleBy, rowInSteps, rowAt, imageRow, testSamples}
 
--- a row divided by the library's call, and its two parts put one behind the other
+-- a row divided by the library's call, and its two parts put one after the other
 module _ (whole first second : List ℕ) {row even odd : List ℕ} (is : row ≡ whole) (long : length whole ≡ 3840) (p : length first ≡ 1920)
     (q : length second ≡ 1920) (one : even ≡ splitFirst row first second) (other : odd ≡ splitSecond row first second) where
   first-part : even ≡ divided 0 1920 whole
@@ -97,7 +97,7 @@ module _ (n : ℕ) (active : isActive n ≡ true) where
 -- the link of the first images carries image t + 1 on stream t
 image-is : (f : Format) (t : ℕ) → imageOf f 1 t ≡ t + 1
 unfolding imageOf
-image-is f t = on-test (eqb (shapeOf f .half) 1) (λ b. simp b (omega arith)) (λ b. simp b)
+image-is f t = on-test (eqb (shapeOf f .«stream_pairs») 1) (λ b. simp b (omega arith)) (λ b. simp b)
 
 module _ (f : Format) (n : ℕ) where
   line-is : (t : ℕ) → lineFrom (imageOf f 1 t) (basicLineOf n) ≡ 2 * basicLineOf n - 1 + t / 2
@@ -144,7 +144,7 @@ module _ (f : Format) (l : ℕ) (p : 1 ≤ l) (q : l ≤ 1080) where
   abbrev of : ℕ → List ℕ
   of line = divided 0 1920 (rowAt f line) ++ divided 1 1920 (rowAt f line)
 
-  on-line : (half : ℕ) → shapeOf f .half ≡ half → testSamples f (l + 41) ≡ upto (2 * half) (carried (codeStep f) l)
+  on-line : (half : ℕ) → shapeOf f .«stream_pairs» ≡ half → testSamples f (l + 41) ≡ upto (2 * half) (carried (codeStep f) l)
   on-line half e =
       let active : isActive (l + 41) ≡ true = is-within 42 1121 (l + 41) (omega arith) (omega arith) in
       let basic : basicLineOf (l + 41) ≡ l = simp active (omega arith) in
@@ -154,10 +154,10 @@ module _ (f : Format) (l : ℕ) (p : 1 ≤ l) (q : l ≤ 1080) where
   unfolding upto
   one-row = sym (two-more (codeStep f) l 0) ∙ ap of (add-zero (2 * l - 1))
 
-  pub on-two : shapeOf f .half ≡ 1 → testSamples f (l + 41) ≡ of (2 * l - 1)
+  pub on-two : shapeOf f .«stream_pairs» ≡ 1 → testSamples f (l + 41) ≡ of (2 * l - 1)
   on-two e = on-line 1 e ∙ one-row
 
-  pub on-four : shapeOf f .half ≡ 2 → testSamples f (l + 41) ≡ of (2 * l - 1) ++ of (2 * l)
+  pub on-four : shapeOf f .«stream_pairs» ≡ 2 → testSamples f (l + 41) ≡ of (2 * l - 1) ++ of (2 * l)
   on-four e =
       let even : 2 * l - 1 + 1 ≡ 2 * l = omega arith in
       on-line 2 e ∙ sym (two-more (codeStep f) l 1) ∙ ap₂ (λ (a : List ℕ) (n : ℕ). a ++ of n) one-row even

@@ -61,7 +61,7 @@ module _ (f : Format) (n : ℕ) where
       let t = i / 1920 in
       let j = i % 1920 in
       let place : 1920 * t + j ≡ i = omega arith in
-      let few : t < 2 * shapeOf f .half = omega (arith, samples-long) in
+      let few : t < 2 * shapeOf f .«stream_pairs» = omega (arith, samples-long) in
       let u = imageOf f 1 t in
       let is = sample-is f n active t j few (omega arith) in
       subst (λ (k : ℕ). Inside (getD (testSamples f n) k 0)) place

@@ -46,12 +46,12 @@ pub record TestPictureLaws : Type 0 where
   pub rowMeets4 : (line : ℕ) (row : List ℕ) → 1 ≤ line → line ≤ 2160 → (length row ≡ 3840 → ⊥) → rowAnswer line row ≡ refused 4 0
   -- on stream line l + 41 two streams carry the images of picture line 2l - 1, and four those of lines 2l - 1 and 2l
   pub onTwo :
-      (f : Format) (l : ℕ) → 1 ≤ l → l ≤ 1080 → shapeOf f .half ≡ 1 → testSamples f (l + 41) ≡ images f (2 * l - 1)
+      (f : Format) (l : ℕ) → 1 ≤ l → l ≤ 1080 → shapeOf f .«stream_pairs» ≡ 1 → testSamples f (l + 41) ≡ images f (2 * l - 1)
   pub onFour :
       (f : Format) (l : ℕ)
       → 1 ≤ l
       → l ≤ 1080
-      → shapeOf f .half ≡ 2
+      → shapeOf f .«stream_pairs» ≡ 2
       → testSamples f (l + 41) ≡ images f (2 * l - 1) ++ images f (2 * l)
   -- sample j of stream t is the one that its image has there (document 01, "Dividing a picture"); a line that is not active carries blanking
   pub sampleIs :

@@ -76,7 +76,7 @@ fn put_picture(
 {
     let step = step_of(f);
     let basic = line::picture::basic_line_of(l);
-    let rows = span::format::shape_of(f).half;
+    let rows = span::format::shape_of(f).stream_pairs;
     let mut i = 0;
     while i < rows {
         let line = picture_line_of(basic, i);

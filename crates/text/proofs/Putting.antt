@@ -31,14 +31,14 @@ put-length {o} {p} {at} {end} {x} f = ap length (f .written) ∙ length-sets o a
 pub put-as : {o p : List ℕ} {at end : ℕ} {x y : List ℕ} → x ≡ y → Put o p at end x → Put o p at end y
 put-as {o} {p} {at} {end} e f = record { written = f .written ∙ ap (sets o at) e; ends = f .ends ∙ ap (λ (l : List ℕ). at + length l) e }
 
--- what a call that puts a text promises, where the text hasRoom
+-- what a call that puts a text promises, where the text has room
 pub put-told : {o p : List ℕ} {at end : ℕ} (x : List ℕ) → at + length x ≤ length o → end ≡ endOf (length o) at x → p ≡ putOf o at x
     → Put o p at end x
 put-told {o} {p} {at} {end} x h e w =
     let t : hasRoom (length o) at x ≡ true = le-leb (at + length x) (length o) h in
     record { written = simp t at w; ends = simp t at e }
 
--- the same behind what was put before it
+-- the same after what was put before it
 pub then-told : {o p q : List ℕ} {at mid end : ℕ} {x : List ℕ} (y : List ℕ) → Put o p at mid x → at + (length x + length y) ≤ length o
     → end ≡ endOf (length p) mid y → q ≡ putOf p mid y → Put o q at end (x ++ y)
 then-told {o} {p} {q} {at} {mid} {end} {x} y f h e w =

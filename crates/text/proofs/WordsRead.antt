@@ -15,7 +15,7 @@ pub none-read : (l bytes : List ℕ) → l ≡ sets l 0 (wordsInBytes 0 bytes)
 unfolding table upto
 none-read l bytes = refl
 
--- one word more behind the first i of them
+-- one word more after the first i of them
 pub one-word-more : (l bytes : List ℕ) (i w : ℕ) → w ≡ wordInBytes bytes i → set (sets l 0 (wordsInBytes i bytes)) i w ≡ sets l 0 (wordsInBytes (i + 1) bytes)
 unfolding table
 one-word-more l bytes i w e = rw e (sets-upto 1 (λ k. wordInBytes bytes k ∷ []) (λ m. refl) l 0 i i (omega arith))

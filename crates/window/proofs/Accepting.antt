@@ -1,4 +1,4 @@
--- When all spanTests of a window hold, and what its reading then answers.
+-- When all tests of a window hold, and what its reading then answers.
 -- Assumes nothing.
 use mathlib.Core.Path.{_≡_, refl, sym, ap, _∙_}
 use mathlib.Core.Bool.{Bool, true, false, not}
@@ -34,7 +34,7 @@ module _ (n : ℕ) (holds : ℕ → Bool) where
       is-hit (λ k. not (holds k)) n k
       (record { from = omega arith; below = h; holds = ap not e; least = λ j _ l. ap not (f j l) })
 
--- all spanTests hold
+-- all tests hold
 pub record Accepted (f : Format) (w : List ℕ) : Type 0 where
   pub scan : (i : ℕ) → i < symbolsIn (shapeOf f) → holds20 (shapeOf f) w i ≡ true
   pub words : Meets f (wordAt (shapeOf f) w)
@@ -95,7 +95,7 @@ module _ (f : Format) (w : List ℕ) where
             };
       }
 
--- words that meet spanTests 21 to 26 pass them
+-- words that meet tests 21 to 26 pass them
 pub meets-given : {A : Type 0} (f : Format) (word : ℕ → ℕ) → Meets f word → (a : A) → checked (wordTests f word) a ≡ given a
 meets-given f word m a =
     let s = streams (shapeOf f) in

@@ -50,7 +50,7 @@ module _ (p : Shape) (w : List ℕ) where
   unfolding byteAt
   byte-sav i h = rw (lt-ltb i 4 h)
 
-  pub byte-eav : 1 ≤ p .half → (i : ℕ) → i < 4 → byteAt p w (eavAt p + i) ≡ fixedByte (streams p) i
+  pub byte-eav : 1 ≤ p .«stream_pairs» → (i : ℕ) → i < 4 → byteAt p w (eavAt p + i) ≡ fixedByte (streams p) i
   unfolding byteAt
   byte-eav some i h =
       let far : 4 ≤ eavAt p + i = omega arith in

@@ -28,7 +28,7 @@ use Rattle.window.proofs.Symbols.{fits-sav, fits-eav, fits-byte}
 abbrev pub replacing : Special → ℕ → ℕ → List ℕ
 replacing k content1 content2 = numberOf k ∷ numberOf k ∷ content1 ∷ content2 ∷ []
 
-module _ (p : Shape) (some : 1 ≤ p .half) (c : ContentBytes) (words : List ℕ) (long : length words ≡ 2 * pairsIn p) where
+module _ (p : Shape) (some : 1 ≤ p .«stream_pairs») (c : ContentBytes) (words : List ℕ) (long : length words ≡ 2 * pairsIn p) where
   -- the words before the EAV, and those from it on
   abbrev before : List ℕ
   before = take (1924 * streams p) words
@@ -36,20 +36,20 @@ module _ (p : Shape) (some : 1 ≤ p .half) (c : ContentBytes) (words : List ℕ
   abbrev behind : List ℕ
   behind = drop (1924 * streams p) words
 
-  length-before : length before ≡ 2 * (p .half * 1924)
+  length-before : length before ≡ 2 * (p .«stream_pairs» * 1924)
   length-before = length-take-le (1924 * streams p) words (omega (arith, long)) ∙ omega arith
 
   -- their bytes
   bytes-before : length (bytes before) ≡ eavAt p
-  bytes-before = length-bytes (p .half * 1924) before length-before ∙ omega arith
+  bytes-before = length-bytes (p .«stream_pairs» * 1924) before length-before ∙ omega arith
 
-  bytes-behind : length (bytes behind) ≡ 3 * (p .half * (8 + p .ancillary) + p .fill)
+  bytes-behind : length (bytes behind) ≡ 3 * (p .«stream_pairs» * (8 + p .ancillary) + p .«fill_pairs»)
   bytes-behind =
-      length-bytes (p .half * (8 + p .ancillary) + p .fill) behind (length-drop (1924 * streams p) words ∙ omega (arith, long))
+      length-bytes (p .«stream_pairs» * (8 + p .ancillary) + p .«fill_pairs») behind (length-drop (1924 * streams p) words ∙ omega (arith, long))
 
   bytes-parts : bytes words ≡ bytes before ++ bytes behind
   bytes-parts =
-      ap bytes (sym (take-append-drop (1924 * streams p) words)) ∙ bytes-append (p .half * 1924) before behind length-before
+      ap bytes (sym (take-append-drop (1924 * streams p) words)) ∙ bytes-append (p .«stream_pairs» * 1924) before behind length-before
 
   -- as many characters as there are symbols in a span
   pub length-chars : length (charsOf p c words) ≡ symbolsIn p

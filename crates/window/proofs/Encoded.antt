@@ -85,7 +85,7 @@ module _ (f : Format) (known : isKnown f ≡ true) (w : List ℕ) (d : Disparity
   p = shapeOf f
 
   -- there are streams
-  some : 1 ≤ p .half
+  some : 1 ≤ p .«stream_pairs»
   some = known-has-streams f known
 
   -- its characters: as many as symbols, and each is one
@@ -136,7 +136,7 @@ module _ (f : Format) (known : isKnown f ≡ true) (w : List ℕ) (d : Disparity
       (byte-is (eavAt p + 2) (c .eav1) (omega (arith, some)) (eav 2 (omega arith)) (e .content .eav1))
       (byte-is (eavAt p + 3) (c .eav2) (omega (arith, some)) (eav 3 (omega arith)) (e .content .eav2))
 
-  -- word k has twelve bits, and is 0 behind the words
+  -- word k has twelve bits, and is 0 after the words
   twelve-bits : (k : ℕ) → wordIn words k < 4096
   twelve-bits k =
       on-test (ltb k (length words)) (λ t. e .small k (ltb-true k (length words) t))
@@ -203,7 +203,7 @@ module _ (f : Format) (known : isKnown f ≡ true) (w : List ℕ) (d : Disparity
         let odd : 2 * (k / 2) + 1 ≡ k = let n = eqb-false (k % 2) 0 t in omega arith in
         simp (t, encoded-pair, odd))
 
-    -- at every place, also behind the last word, where both are 0
+    -- at every place, also after the last word, where both are 0
     pub encoded-word : wordAt p w ≡ wordIn words
     encoded-word = fun-ext word-is
 
@@ -285,7 +285,7 @@ fixed-bytes half some v h i l =
 
 module _ (f : Format) (known : isKnown f ≡ true) (words : List ℕ) (long : length words ≡ 2 * pairsIn (shapeOf f)) where
   abbrev half : ℕ
-  half = shapeOf f .half
+  half = shapeOf f .«stream_pairs»
 
   abbrev s : ℕ
   s = streams (shapeOf f)
@@ -343,7 +343,7 @@ module _ (f : Format) (known : isKnown f ≡ true) (w : List ℕ) (d : Disparity
     unfolding pictureOf
     encoded-picture = ap (rows (streams (shapeOf f))) (encoded-word f known w d c words e r)
 
-  -- where the words meet the spanTests, all spanTests of the window hold
+  -- where the words meet the tests, all tests of the window hold
   pub meets-accepted : Meets f (wordIn words) → Accepted f w
   meets-accepted m =
       record {

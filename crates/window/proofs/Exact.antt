@@ -48,7 +48,7 @@ module _ (f : Format) (w : List ℕ) (known : isKnown f ≡ true) (long : length
   abbrev chars : List ℕ
   chars = charsOf p c words
 
-  some-streams : 1 ≤ p .half
+  some-streams : 1 ≤ p .«stream_pairs»
   some-streams = known-has-streams f known
 
   length-words : length words ≡ 2 * pairsIn p
@@ -130,7 +130,7 @@ module _ (f : Format) (w : List ℕ) (known : isKnown f ≡ true) (long : length
         eav = λ i h. byte-again p w (eavAt p + i) (omega (arith, some-streams)) ∙ byte-eav p w some-streams i h;
       }
 
-  -- so the list has the words that are read, at every place, also behind the window
+  -- so the list has the words that are read, at every place, also after the window
   pub words-again : wordIn (table (2 * pairsIn (shapeOf f)) (wordAt (shapeOf f) w)) ≡ wordAt (shapeOf f) w
   words-again = sym (encoded-word f known w (startOf w) c words accepted-encodes restored)
 

@@ -46,7 +46,7 @@ use Rattle.window.proofs.RoundTrip.{sent-chars}
 use Rattle.window.proofs.Specials.{symbol-read, byte-read, k28-5-at}
 use Rattle.window.proofs.Symbols.{meant-of, legal-told, running-on, running-start, starts, symbol-is}
 
--- ---- the running disparity behind an inverted bit
+-- ---- the running disparity after an inverted bit
 
 -- n symbols w as they are sent for the characters c, and v, the same but for bit k of symbol i, all of which are legal where they stand
 record OneBit (w v : List ℕ) (c : ℕ → ℕ) (n i k : ℕ) : Type 0 where
@@ -96,7 +96,7 @@ module _ (w v : List ℕ) (c : ℕ → ℕ) (n i k : ℕ) (x : OneBit w v c n i 
           let b : meant (symbolAt v i) ≡ t .0 = cc (heard, t .1) in
           running-on v i ∙ ap₂ afterOf here b ∙ t .2 ∙ ap opposite (sym (sent-on i (x .place)))
 
-  -- behind it the symbols are as sent
+  -- after it the symbols are as sent
   as-sent : (j : ℕ) → i < j → j < n → symbolAt v j ≡ symbolOf (runningAt w j) (c j)
   as-sent j l h = x .kept j (λ q. omega arith) ∙ x .sent j h
 
@@ -123,7 +123,7 @@ module _ (w v : List ℕ) (c : ℕ → ℕ) (n i k : ℕ) (x : OneBit w v c n i 
   stays-opposite zero h = rw add-zero turned
   stays-opposite (suc m) h = rw add-suc (passes (suc i + m) (omega arith) (omega arith) (stays-opposite m (omega arith)))
 
-  -- and there is no character with two forms behind it
+  -- and there is no character with two forms after it
   caught : (j : ℕ) → i < j → j < n → TwoForms (c j) → ⊥
   caught j l h =
       let e : j ≡ suc i + (j - suc i) = omega arith in
@@ -163,10 +163,10 @@ module _ (f : Format) (a : Request) (good : Sendable f a) (d : Disparity) (i k :
   arrived = set sent i (inverted k (symbolAt sent i))
 
   -- a known format has streams and fill
-  streamed : 1 ≤ shapeOf f .half
+  streamed : 1 ≤ shapeOf f .«stream_pairs»
   streamed = known-has-streams f (good .known)
 
-  filled : 1 ≤ shapeOf f .fill
+  filled : 1 ≤ shapeOf f .«fill_pairs»
   filled = known-has-fill f (good .known)
 
   -- every character is one of the 268

@@ -75,7 +75,7 @@ unfolding lineOf
 line-named a b t = hit (areWordsOf a b) 1126 (Option·getD (lineOf a b) 0) (some-told (lineOf a b) t) .holds
 
 module _ (f : Format) (word : ℕ → ℕ) (m : Meets f word) (l : 0 < streams (shapeOf f)) where
-  -- it areWordsOf a line, so its words are those of that line's number
+  -- it is of a line, so its words are those of that line's number
   next-named :
       areWordsOf (wordOf (streams (shapeOf f)) word 1928 0) (wordOf (streams (shapeOf f)) word 1929 0) (nextLine (streams (shapeOf f)) word)
       ≡ true
@@ -96,7 +96,7 @@ module _ (f : Format) (word : ℕ → ℕ) (m : Meets f word) (l : 0 < streams (
   unfolding lineRead
   next-follows = after-before _ (from-low 1 1125 _ next-is-line) (to-high 1 1125 _ next-is-line)
 
-  -- 26: behind all words of the streams is fill
+  -- 26: after all words of the streams is fill
   pub fill-told :
       (k : ℕ) → streams (shapeOf f) * (1932 + shapeOf f .ancillary) ≤ k → k < 2 * pairsIn (shapeOf f) → word k ≡ fillWord
   unfolding holds26

@@ -49,7 +49,7 @@ in-span p j t h l = omega (arith, inside (streams p) (1932 + p .ancillary) j t h
 
 -- ---- the first four of SAV and EAV
 
--- a place is before n, or so many behind it
+-- a place is before n, or so many after it
 pub split : {C : Type 0} (j n : ℕ) → (j < n → C) → ((i : ℕ) → j ≡ n + i → C) → C
 split j n f g =
     on-test (ltb j n) (λ t. f (ltb-true j n t)) (λ t. let h = ltb-false j n t in g (j - n) (omega arith))

@@ -28,33 +28,33 @@ pair-is w o e f g = rw (e, f, g)
 
 -- ---- which pairs are plain
 
--- pair q lies behind the replaced bytes of the SAV, and before those of the EAV or behind them
+-- pair q lies after the replaced bytes of the SAV, and before those of the EAV or after them
 pub record Behind (p : Shape) (q : ℕ) : Type 0 where
   pub sav : 2 ≤ q
   pub eav : eavAt p ≤ 3 * q + 2 → eavAt p + 4 ≤ 3 * q
 
 -- word j of streams 2u and 2u + 1, where it is none of a timing code
-module _ (p : Shape) (j u : ℕ) (h : u < p .half) where
-  pub in-pair : 4 ≤ j → (1924 ≤ j → 1928 ≤ j) → Behind p (p .half * j + u)
+module _ (p : Shape) (j u : ℕ) (h : u < p .«stream_pairs») where
+  pub in-pair : 4 ≤ j → (1924 ≤ j → 1928 ≤ j) → Behind p (p .«stream_pairs» * j + u)
   in-pair behind apart =
-      let m : p .half * 4 ≤ p .half * j = mul-le-mul-left (p .half) behind in
+      let m : p .«stream_pairs» * 4 ≤ p .«stream_pairs» * j = mul-le-mul-left (p .«stream_pairs») behind in
       record { sav = omega arith; eav = λ a. on-test (ltb j 1924) (before a) after }
     where
-      before : eavAt p ≤ 3 * (p .half * j + u) + 2 → ltb j 1924 ≡ true → eavAt p + 4 ≤ 3 * (p .half * j + u)
+      before : eavAt p ≤ 3 * (p .«stream_pairs» * j + u) + 2 → ltb j 1924 ≡ true → eavAt p + 4 ≤ 3 * (p .«stream_pairs» * j + u)
       before a t =
           let b : j ≤ 1923 = omega (arith, ltb-true j 1924 t) in
-          let m : p .half * j ≤ p .half * 1923 = mul-le-mul-left (p .half) b in
+          let m : p .«stream_pairs» * j ≤ p .«stream_pairs» * 1923 = mul-le-mul-left (p .«stream_pairs») b in
           omega arith
 
-      after : ltb j 1924 ≡ false → eavAt p + 4 ≤ 3 * (p .half * j + u)
+      after : ltb j 1924 ≡ false → eavAt p + 4 ≤ 3 * (p .«stream_pairs» * j + u)
       after t =
-          let m : p .half * 1928 ≤ p .half * j = mul-le-mul-left (p .half) (apart (ltb-false j 1924 t)) in
+          let m : p .«stream_pairs» * 1928 ≤ p .«stream_pairs» * j = mul-le-mul-left (p .«stream_pairs») (apart (ltb-false j 1924 t)) in
           omega arith
 
 -- its three symbols are symbols of the window
-pub in-window : {p : Shape} {t w : List ℕ} → Given p t w → (j u : ℕ) → u < p .half → j < 1932 + p .ancillary → 3 * (p .half * j + u) + 3 ≤ length w
+pub in-window : {p : Shape} {t w : List ℕ} → Given p t w → (j u : ℕ) → u < p .«stream_pairs» → j < 1932 + p .ancillary → 3 * (p .«stream_pairs» * j + u) + 3 ≤ length w
 in-window {p} g j u h l =
-    let m : p .half * (j + 1) ≤ p .half * (1932 + p .ancillary) = mul-le-mul-left (p .half) (omega arith) in
+    let m : p .«stream_pairs» * (j + 1) ≤ p .«stream_pairs» * (1932 + p .ancillary) = mul-le-mul-left (p .«stream_pairs») (omega arith) in
     omega (arith, g .long)
 
 -- ---- what they are
@@ -89,13 +89,13 @@ module _ (p : Shape) (w : List ℕ) where
         rw (odd, same) (ap (λ (l : TwoWords). l .b) same-pair)
 
   -- word j of streams 2u and 2u + 1
-  module _ {x : TwoWords} (j u : ℕ) (is : x ≡ plainPair w (3 * (p .half * j + u))) (b : Behind p (p .half * j + u)) where
+  module _ {x : TwoWords} (j u : ℕ) (is : x ≡ plainPair w (3 * (p .«stream_pairs» * j + u))) (b : Behind p (p .«stream_pairs» * j + u)) where
     pub stream-a : x .a ≡ wordAt p w (streams p * j + 2 * u)
     stream-a =
-        let e : 2 * (p .half * j + u) ≡ streams p * j + 2 * u = omega arith in
-        word-a (p .half * j + u) is b ∙ ap (wordAt p w) e
+        let e : 2 * (p .«stream_pairs» * j + u) ≡ streams p * j + 2 * u = omega arith in
+        word-a (p .«stream_pairs» * j + u) is b ∙ ap (wordAt p w) e
 
     pub stream-b : x .b ≡ wordAt p w (streams p * j + (2 * u + 1))
     stream-b =
-        let e : 2 * (p .half * j + u) + 1 ≡ streams p * j + (2 * u + 1) = omega arith in
-        word-b (p .half * j + u) is b ∙ ap (wordAt p w) e
+        let e : 2 * (p .«stream_pairs» * j + u) + 1 ≡ streams p * j + (2 * u + 1) = omega arith in
+        word-b (p .«stream_pairs» * j + u) is b ∙ ap (wordAt p w) e

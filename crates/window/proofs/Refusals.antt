@@ -45,7 +45,7 @@ module _ (f : Format) (w : List ℕ) where
   abbrev word : ℕ → ℕ
   word = wordAt p w
 
-  -- spanTests 21 to 26, and what is answered where all hold
+  -- tests 21 to 26, and what is answered where all hold
   abbrev rows : List Row
   rows = wordTests f word
 

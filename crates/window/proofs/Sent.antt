@@ -131,9 +131,9 @@ module _ (f : Format) (a : Request) (good : Sendable f a) where
   sent-twelve-bits =
       both-twelve (wordsFromSav f a) (wordsFromEav f a)
       (interleaved-twelve s 1924 (fromSav f a) from-sav-twelve)
-      (both-twelve (interleaved s (8 + shapeOf f .ancillary) (fromEav f a)) (replicate (2 * shapeOf f .fill) fillWord)
+      (both-twelve (interleaved s (8 + shapeOf f .ancillary) (fromEav f a)) (replicate (2 * shapeOf f .«fill_pairs») fillWord)
       (interleaved-twelve s (8 + shapeOf f .ancillary) (fromEav f a) from-eav-twelve)
-      (again-twelve (2 * shapeOf f .fill) fillWord (omega arith)))
+      (again-twelve (2 * shapeOf f .«fill_pairs») fillWord (omega arith)))
 
   -- a picture word may be received
   pub may-bring : (t i : ℕ) → t < s → i < 1920 → mayBring f (a .line) t (sampleWord f (a .line) t (sample t i)) ≡ true

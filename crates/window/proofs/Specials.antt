@@ -68,7 +68,7 @@ module _ (f : Format) (w : List ℕ) (known : isKnown f ≡ true) (acc : Accepte
   abbrev p : Shape
   p = shapeOf f
 
-  some : 1 ≤ p .half
+  some : 1 ≤ p .«stream_pairs»
   some = known-has-streams f known
 
   -- the first two symbols stand for K28.5, the first two of the EAV for K29.7, and every other for a byte

@@ -1,4 +1,4 @@
--- Reading a span: its spanTests in the order tried, the answer, and the rows afterwards (document 01, "Receiving and finding" and its table of
+-- Reading a span: its tests in the order tried, the answer, and the rows afterwards (document 01, "Receiving and finding" and its table of
 -- refusals).
 -- Assumes nothing.
 use Prim.Native.Nat.{ℕ, _+_, _*_, _/_, _%_}
@@ -26,7 +26,7 @@ lowest number n holds = record { number = number; fails = firstBelow n (λ k. no
 abbrev pub placed : ℕ → (ℕ → ℕ → Bool) → ℕ → Bool
 placed s holds k = holds (k / s) (k % s)
 
--- spanTests 21 to 26 over the words of a span
+-- tests 21 to 26 over the words of a span
 abbrev pub wordTests : Format → (ℕ → ℕ) → List Row
 wordTests f word =
     let s = streams (shapeOf f) in
@@ -39,11 +39,11 @@ wordTests f word =
     ∷ lowest 26 n (placed s (holds26 s word f))
     ∷ []
 
--- all spanTests of a window, each over the whole of it
+-- all tests of a window, each over the whole of it
 abbrev pub spanTests : Format → List ℕ → List Row
 spanTests f w = lowest 20 (symbolsIn (shapeOf f)) (holds20 (shapeOf f) w) ∷ wordTests f (wordAt (shapeOf f) w)
 
--- the content bytes: the two behind the special characters of SAV and EAV
+-- the content bytes: the two after the special characters of SAV and EAV
 abbrev pub contentIn : Shape → List ℕ → ContentBytes
 contentIn p w =
     record {
@@ -57,7 +57,7 @@ contentIn p w =
 abbrev pub repairsOf : ℕ → Repairs
 repairsOf count = record { count = count }
 
--- what is answered where all spanTests hold
+-- what is answered where all tests hold
 unfoldable pub deliveryOf : Format → List ℕ → Delivery
 deliveryOf f w =
     let p = shapeOf f in

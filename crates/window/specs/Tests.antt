@@ -86,7 +86,7 @@ module _ (s : ℕ) (word : ℕ → ℕ) where
   unfoldable pub holds25 : Format → ℕ → ℕ → Bool
   holds25 f j t = cond (within pictureStart (eavStart - 1) j) (mayBring f lineRead t (wordOf j t)) true
 
-  -- 26: the fill, behind all words of the streams
+  -- 26: the fill, after all words of the streams
   unfoldable pub holds26 : Format → ℕ → ℕ → Bool
   holds26 f j t = cond (ltb j (ancillaryStart + shapeOf f .ancillary)) true (eqb (wordOf j t) fillWord)
 

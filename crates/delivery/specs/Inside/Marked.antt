@@ -1,5 +1,5 @@
--- What is asked of a reading of windows so that none of them can begin inside another: what only the code behind the calls and its proofs
--- speak of. What the contracts and the demands say stands in specs/Marked.
+-- What is asked of a reading of windows so that none of them can begin inside another: what loops and proofs keep for themselves. The
+-- rest stands in specs/Marked.
 -- Assumes nothing.
 use Prim.Native.Nat.{ℕ, _≤_, _<_}
 use mathlib.Core.Path.{_≡_}

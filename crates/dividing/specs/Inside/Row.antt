@@ -1,5 +1,5 @@
--- Dividing a row of a picture into the rows of two images, and joining them: what only the code behind the calls and its proofs speak of.
--- What the contracts and the demands say stands in specs/Row.
+-- Dividing a row of a picture into the rows of two images, and joining them: what loops and proofs keep for themselves. The rest
+-- stands in specs/Row.
 -- Assumes nothing.
 use Prim.Native.Nat.{ℕ, zero, suc}
 use mathlib.Core.List.{List}

@@ -1,5 +1,4 @@
--- What is asked of the test generator: what only the code behind the calls and its proofs speak of. What the contracts and the demands say
--- stands in specs/Parameters.
+-- What is asked of the test generator: what loops and proofs keep for themselves. The rest stands in specs/Parameters.
 -- Assumes nothing.
 use Rattle.ground.specs.Answer.{Answer, refused, given}
 use Rattle.generate.specs.declared.parameters.Parameters.{Parameters}

@@ -1,5 +1,4 @@
--- What is written, piece by piece: what only the code behind the calls and its proofs speak of. What the contracts and the demands say
--- stands in specs/Pieces.
+-- What is written, piece by piece: what loops and proofs keep for themselves. The rest stands in specs/Pieces.
 -- Assumes nothing.
 use Prim.Native.Nat.{ℕ, _-_}
 use mathlib.Core.List.{List}
@@ -14,7 +13,7 @@ use Rattle.generate.specs.Generated.{spanOn, spansFrom, lowFirst}
 unfoldable pub restOf : Left → List ℕ
 restOf s = lowFirst (signalFrom (s .disparity) (s .format) (spansFrom (s .format) (s .line .0) (s .count)))
 
--- the bytes of the next span, and what is left behind it
+-- the bytes of the next span, and what is left after it
 unfoldable pub spanBytes : Left → List ℕ
 spanBytes s = lowFirst (spanSymbols (s .disparity) (s .format) (spanOn (s .format) (s .line .0)))
 

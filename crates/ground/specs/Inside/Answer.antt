@@ -1,5 +1,5 @@
--- What a call answers in the paper's terms, and how its refusals are tried: what only the code behind the calls and its proofs speak of.
--- What the contracts and the demands say stands in specs/Answer.
+-- What a call answers in the paper's terms, and how its refusals are tried: what loops and proofs keep for themselves. The rest stands
+-- in specs/Answer.
 -- Assumes nothing.
 use mathlib.Core.Path.{_≡_}
 

@@ -24,8 +24,8 @@ blankBy m =
 pub record Repeats (w : List ℕ) (from to : ℕ) : Type 0 where
   pub again : (i : ℕ) → from ≤ i → i + 3 < to → symbolAt w (i + 3) ≡ symbolAt w i
 
--- three by three they are the symbols of two blanking words, at the disparity at which turns has been gathered
-pub record AreBlank (w : List ℕ) (from to turns : ℕ) : Type 0 where
-  pub first : (q : ℕ) → from + 3 * q < to → symbolAt w (from + 3 * q) ≡ blankBy (maskBy turns) .first
-  pub second : (q : ℕ) → from + 3 * q + 1 < to → symbolAt w (from + 3 * q + 1) ≡ blankBy (maskBy turns) .second
-  pub third : (q : ℕ) → from + 3 * q + 2 < to → symbolAt w (from + 3 * q + 2) ≡ blankBy (maskBy turns) .third
+-- three by three they are the symbols of two blanking words, at the disparity at which flips has been gathered
+pub record AreBlank (w : List ℕ) (from to flips : ℕ) : Type 0 where
+  pub first : (q : ℕ) → from + 3 * q < to → symbolAt w (from + 3 * q) ≡ blankBy (maskBy flips) .first
+  pub second : (q : ℕ) → from + 3 * q + 1 < to → symbolAt w (from + 3 * q + 1) ≡ blankBy (maskBy flips) .second
+  pub third : (q : ℕ) → from + 3 * q + 2 < to → symbolAt w (from + 3 * q + 2) ≡ blankBy (maskBy flips) .third

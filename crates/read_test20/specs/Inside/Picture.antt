@@ -16,26 +16,26 @@ use Rattle.read_test20.specs.Inside.See.{seenThree, seenSix, GatherInv, 
 
 -- word i of the picture, of streams 2u and 2u + 1 of so many pairs
 abbrev pub pairIn : ℕ → List ℕ → ℕ → ℕ → TwoWords
-pairIn half w u i = plainPair w (3 * (half * (4 + i) + u))
+pairIn pairs w u i = plainPair w (3 * (pairs * (4 + i) + u))
 
 -- two words put into the rows of two streams
 abbrev pub putPair : TwoWords → ℕ → List ℕ → List ℕ
 putPair x at rows = set (set rows at (x .a)) (1920 + at) (x .b)
 
--- behind word j of two streams, and the rows with it
+-- after word j of two streams, and the rows with it
 abbrev pub placeTwo : List ℕ → ℕ → Passed → Passed
 placeTwo w j v =
-    let x = seenThree w (12 + 3 * j) (v .good) (v .turns) in
-    record { good = x .good; turns = x .turns }
+    let x = seenThree w (12 + 3 * j) (v .good) (v .flips) in
+    record { good = x .good; flips = x .flips }
 
 abbrev pub rowsTwo : List ℕ → ℕ → List ℕ → List ℕ
 rowsTwo w j rows = putPair (plainPair w (12 + 3 * j)) j rows
 
--- behind word j of four
+-- after word j of four
 abbrev pub placeFour : List ℕ → ℕ → Passed → Passed
 placeFour w j v =
-    let x = seenSix w (24 + 6 * j) (v .good) (v .turns) in
-    record { good = x .good; turns = x .turns }
+    let x = seenSix w (24 + 6 * j) (v .good) (v .flips) in
+    record { good = x .good; flips = x .flips }
 
 abbrev pub rowsFour : List ℕ → ℕ → List ℕ → List ℕ
 rowsFour w j rows = putPair (plainPair w (24 + 6 * j + 3)) (3840 + j) (putPair (plainPair w (24 + 6 * j)) j rows)
@@ -48,22 +48,22 @@ pub record TwoRowsInv (A B : ℕ → ℕ) (count low high : ℕ) (old : List ℕ
 
 -- the first j words of streams 2u and 2u + 1 have been put into a buffer, from place `low` on
 abbrev pub PutPairs : ℕ → List ℕ → ℕ → ℕ → List ℕ → ℕ → List ℕ → Type 0
-PutPairs half w u low old j rows =
-    TwoRowsInv (λ i. pairIn half w u i .a) (λ i. pairIn half w u i .b) 1920 low (low + 1920) old j rows
+PutPairs pairs w u low old j rows =
+    TwoRowsInv (λ i. pairIn pairs w u i .a) (λ i. pairIn pairs w u i .b) 1920 low (low + 1920) old j rows
 
 -- the first j words of all streams have been taken: those of two into a buffer, and those of the other two, where there are four, into the
 -- buffer with these
-pub record RowsInv (half : ℕ) (w old : List ℕ) (j : ℕ) (v : Passed) (rows : List ℕ) : Type 0 where
-  pub clean : GatherInv w (12 * half) (12 * half + 3 * half * j) (v .good) (v .turns)
+pub record RowsInv (pairs : ℕ) (w old : List ℕ) (j : ℕ) (v : Passed) (rows : List ℕ) : Type 0 where
+  pub clean : GatherInv w (12 * pairs) (12 * pairs + 3 * pairs * j) (v .good) (v .flips)
   pub low-rows : List ℕ
-  pub low : PutPairs half w 0 0 old j low-rows
-  pub two : half ≡ 1 → rows ≡ low-rows
-  pub four : half ≡ 2 → PutPairs half w 1 3840 low-rows j rows
+  pub low : PutPairs pairs w 0 0 old j low-rows
+  pub two : pairs ≡ 1 → rows ≡ low-rows
+  pub four : pairs ≡ 2 → PutPairs pairs w 1 3840 low-rows j rows
 
--- so many words of each stream are as they should be, and behind them this has been gathered
-pub record Come (half : ℕ) (w : List ℕ) (j turns : ℕ) : Type 0 where
+-- so many words of each stream are as they should be, and after them this has been gathered
+pub record Come (pairs : ℕ) (w : List ℕ) (j flips : ℕ) : Type 0 where
   pub some : j ≤ 1920
-  pub going : RunInv w 0 255 (12 * half) (12 * half + 3 * half * j) (maskBy turns)
+  pub going : RunInv w 0 255 (12 * pairs) (12 * pairs + 3 * pairs * j) (maskBy flips)
 
 -- the rows of these two streams put into a buffer of rows of so many words
 abbrev pub putTwo : Shape → List ℕ → ℕ → ℕ → ℕ → List ℕ → List ℕ

@@ -1,4 +1,4 @@
--- What is gathered of symbols without a way out. That it says what it should is the law `see-turn`.
+-- What is gathered of symbols without an early exit. That it says what it should is the law `see-turn`.
 -- Assumes nothing.
 use mathlib.Core.Path.{_≡_}
 use Prim.Native.Nat.{ℕ, _+_, _-_, _*_, _/_, _%_, _≤_, _<_}
@@ -19,26 +19,26 @@ use Rattle.read_test20.specs.Inside.Run.{suits, RunInv}
 pub record TenBits (w : List ℕ) : Type 0 where
   pub below : (i : ℕ) → i < length w → getD w i 0 < 1024
 
--- the entry of a symbol, and what is gathered behind it
+-- the entry of a symbol, and what is gathered after it
 abbrev pub seen : ℕ → ℕ → ℕ → Seen
-seen s good turns =
-    record { entry = entryOf s; good = bitAnd good (bitOr (entryOf s) (turns / 4)); turns = bitXor turns (entryOf s) }
+seen s good flips =
+    record { entry = entryOf s; good = bitAnd good (bitOr (entryOf s) (flips / 4)); flips = bitXor flips (entryOf s) }
 
 -- three symbols from o on, and their words
 unfoldable pub seenThree : List ℕ → ℕ → ℕ → ℕ → Three
-seenThree w o good turns =
-    let x = seen (symbolAt w o) good turns in
-    let y = seen (symbolAt w (o + 1)) (x .good) (x .turns) in
-    let z = seen (symbolAt w (o + 2)) (y .good) (y .turns) in
-    record { good = z .good; turns = z .turns; words = plainPair w o }
+seenThree w o good flips =
+    let x = seen (symbolAt w o) good flips in
+    let y = seen (symbolAt w (o + 1)) (x .good) (x .flips) in
+    let z = seen (symbolAt w (o + 2)) (y .good) (y .flips) in
+    record { good = z .good; flips = z .flips; words = plainPair w o }
 
 -- six symbols from o on, and the words of four streams
 unfoldable pub seenSix : List ℕ → ℕ → ℕ → ℕ → Six
 unfolding seenThree
-seenSix w o good turns =
-    let x = seenThree w o good turns in
-    let y = seenThree w (o + 3) (x .good) (x .turns) in
-    record { good = y .good; turns = y .turns; low = x .words; high = y .words }
+seenSix w o good flips =
+    let x = seenThree w o good flips in
+    let y = seenThree w (o + 3) (x .good) (x .flips) in
+    record { good = y .good; flips = y .flips; low = x .words; high = y .words }
 
 -- bits 9, 10 and 13 are set
 abbrev pub passesBy : ℕ → Bool
@@ -46,15 +46,15 @@ passesBy good = eqb (good / 512 % 4) 3 && eqb (good / 8192 % 2) 1
 
 -- the bit of the running disparity, where bits 11 and 12 have that of the other
 abbrev pub maskBy : ℕ → ℕ
-maskBy turns = 1536 - turns / 2048 % 4 * 512
+maskBy flips = 1536 - flips / 2048 % 4 * 512
 
 -- all symbols from one place to another are bytes that are legal where they stand
 pub record AreBytes (w : List ℕ) (from to : ℕ) : Type 0 where
   pub each : (j : ℕ) → from ≤ j → j < to → suits w 0 255 j ≡ true
 
 -- nothing is missing just where all symbols up to i are such bytes
-pub record GatherInv (w : List ℕ) (from i good turns : ℕ) : Type 0 where
+pub record GatherInv (w : List ℕ) (from i good flips : ℕ) : Type 0 where
   pub come : from ≤ i
-  pub fits : turns < 16384
-  pub clean : passesBy good ≡ true → RunInv w 0 255 from i (maskBy turns)
+  pub fits : flips < 16384
+  pub clean : passesBy good ≡ true → RunInv w 0 255 from i (maskBy flips)
   pub kept : AreBytes w from i → passesBy good ≡ true

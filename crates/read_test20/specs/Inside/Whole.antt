@@ -19,7 +19,7 @@ use Rattle.read_test20.specs.declared.whole.Taken.{Taken}
 use Rattle.read_test20.specs.Inside.Run.{suits, RunInv, place20, scannedOf}
 use Rattle.read_test20.specs.Inside.See.{maskBy}
 
--- a special character at a place and behind it, legal there
+-- a special character at a place and after it, legal there
 pub record Twice (w : List ℕ) (c at : ℕ) : Type 0 where
   pub first : suits w c c at ≡ true
   pub second : suits w c c (at + 1) ≡ true
@@ -37,29 +37,29 @@ abbrev pub placeIf20 : Format → List ℕ → ℕ → ℕ
 placeIf20 f w room = cond (ready f (length w) room) (place20 (shapeOf f) w) 0
 
 -- what is gathered before symbol i tells the running disparity there
-pub record Tied (w : List ℕ) (i turns : ℕ) : Type 0 where
-  pub fits : turns < 16384
-  pub bit : maskBy turns ≡ maskOf (runningAt w i)
+pub record Tied (w : List ℕ) (i flips : ℕ) : Type 0 where
+  pub fits : flips < 16384
+  pub bit : maskBy flips ≡ maskOf (runningAt w i)
 
 -- K28.5 twice at the beginning
-pub record Begun (w : List ℕ) (turns : ℕ) : Type 0 where
-  pub fits : turns < 16384
-  pub start : startOf w ≡ ofMask (maskBy turns)
-  pub going : RunInv w 261 261 0 2 (maskBy turns)
+pub record Begun (w : List ℕ) (flips : ℕ) : Type 0 where
+  pub fits : flips < 16384
+  pub start : startOf w ≡ ofMask (maskBy flips)
+  pub going : RunInv w 261 261 0 2 (maskBy flips)
 
 -- K29.7 twice
-pub record EavHolds (w : List ℕ) (at turns : ℕ) : Type 0 where
-  pub going : maskBy turns ≡ maskOf (runningAt w at) → RunInv w 266 266 at (at + 2) (maskBy turns)
+pub record EavHolds (w : List ℕ) (at flips : ℕ) : Type 0 where
+  pub going : maskBy flips ≡ maskOf (runningAt w at) → RunInv w 266 266 at (at + 2) (maskBy flips)
 
 -- bytes from one place to another, and what has been gathered then
-pub record RunTo (w : List ℕ) (from to turns : ℕ) : Type 0 where
-  pub fits : turns < 16384
-  pub going : RunInv w 0 255 from to (maskBy turns)
+pub record RunTo (w : List ℕ) (from to flips : ℕ) : Type 0 where
+  pub fits : flips < 16384
+  pub going : RunInv w 0 255 from to (maskBy flips)
 
--- all that stands behind the picture
-pub record Ending (p : Shape) (w : List ℕ) (turns after : ℕ) : Type 0 where
-  pub eav : RunInv w 266 266 (5772 * p .half) (5772 * p .half + 2) (maskBy turns)
-  pub bytes : RunInv w 0 255 (5772 * p .half + 2) (length w) (maskBy after)
+-- all that stands after the picture
+pub record Ending (p : Shape) (w : List ℕ) (flips after : ℕ) : Type 0 where
+  pub eav : RunInv w 266 266 (5772 * p .«stream_pairs») (5772 * p .«stream_pairs» + 2) (maskBy flips)
+  pub bytes : RunInv w 0 255 (5772 * p .«stream_pairs» + 2) (length w) (maskBy after)
 
 -- a window for which test 20 holds: its disparities, the CRC of each stream over its picture words, and these words stream by stream
 pub record Wholly (p : Shape) (w : List ℕ) (r : Taken) (rows : List ℕ) : Type 0 where

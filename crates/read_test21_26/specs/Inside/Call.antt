@@ -51,7 +51,7 @@ unfoldable pub place26 : Format → List ℕ → ℕ
 place26 f w =
     let s = streams (shapeOf f) in
     let from = s * (1932 + shapeOf f .ancillary) in
-    firstWrong (placed s (fill26 s (wordAt (shapeOf f) w))) from (from + 2 * shapeOf f .fill)
+    firstWrong (placed s (fill26 s (wordAt (shapeOf f) w))) from (from + 2 * shapeOf f .«fill_pairs»)
 
 abbrev pub placeIf : ℕ → Format → List ℕ → ℕ
 placeIf number f w = cond (isWindow f (length w)) (cond (eqb number 25) (place25 f w) (place26 f w)) 0

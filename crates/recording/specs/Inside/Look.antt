@@ -27,7 +27,7 @@ unfoldable pub gathered : ℕ → (ℕ → ℕ) → ℕ
 gathered zero mark = 0
 gathered (suc n) mark = bitOr (gathered n mark) (mark n)
 
--- the mark of the symbol k behind a place: 1 where it is K28.5
+-- the mark of the symbol k after a place: 1 where it is K28.5
 abbrev pub commaAt : List ℕ → ℕ → ℕ → ℕ
 commaAt r from k = commaIn (getD r (from + k) 0)
 
@@ -37,11 +37,11 @@ commaPair r from k = bitAnd (commaAt r from k) (commaIn (getD r (from + k + 1) 0
 
 -- ---- where a span may begin
 
--- the symbols behind its first two that are looked at
+-- the symbols after its first two that are looked at
 abbrev pub lookAhead : ℕ
 lookAhead = 128
 
--- it may begin at q: K28.5 stands there twice, and not again lookAhead behind
+-- it may begin at q: K28.5 stands there twice, and not again lookAhead after
 abbrev pub mayBegin : List ℕ → ℕ → Bool
 mayBegin r q = isComma (getD r q 0) && (isComma (getD r (q + 1) 0) && eqb (gathered lookAhead (commaAt r (q + 2))) 0)
 

@@ -1,5 +1,4 @@
--- A plug that is knocked: what only the code behind the calls and its proofs speak of. What the contracts and the demands say stands in
--- specs/Knock.
+-- A plug that is knocked: what loops and proofs keep for themselves. The rest stands in specs/Knock.
 -- Assumes nothing.
 use Prim.Native.Nat.{ℕ, suc}
 use mathlib.Core.Bool.{cond}

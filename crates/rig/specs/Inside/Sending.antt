@@ -1,5 +1,4 @@
--- What the rig sends: what only the code behind the calls and its proofs speak of. What the contracts and the demands say stands in
--- specs/Sending.
+-- What the rig sends: what loops and proofs keep for themselves. The rest stands in specs/Sending.
 -- Assumes nothing.
 use Prim.Native.Nat.{ℕ, zero, suc}
 use mathlib.Core.List.{List, [], _∷_}

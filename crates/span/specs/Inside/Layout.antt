@@ -1,5 +1,4 @@
--- Where the parts of a span begin: what only the code behind the calls and its proofs speak of. What the contracts and the demands say
--- stands in specs/Layout.
+-- Where the parts of a span begin: what loops and proofs keep for themselves. The rest stands in specs/Layout.
 -- Assumes nothing.
 use Prim.Native.Nat.{ℕ}
 

@@ -1,5 +1,5 @@
--- Which samples a stream may carry on a line, and the words sent for them: what only the code behind the calls and its proofs speak of.
--- What the contracts and the demands say stands in specs/Sample.
+-- Which samples a stream may carry on a line, and the words sent for them: what loops and proofs keep for themselves. The rest stands
+-- in specs/Sample.
 -- Assumes nothing.
 use Prim.Native.Nat.{ℕ}
 use mathlib.Core.Bool.{cond}

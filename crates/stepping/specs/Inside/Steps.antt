@@ -1,5 +1,4 @@
--- Steps through a recording: what only the code behind the calls and its proofs speak of. What the contracts and the demands say stands in
--- specs/Steps.
+-- Steps through a recording: what loops and proofs keep for themselves. The rest stands in specs/Steps.
 -- Assumes nothing.
 use Prim.Native.Nat.{ℕ}
 use mathlib.Core.List.{List}

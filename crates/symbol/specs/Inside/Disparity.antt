@@ -1,5 +1,4 @@
--- The running disparity: what only the code behind the calls and its proofs speak of. What the contracts and the demands say stands in
--- specs/Disparity.
+-- The running disparity: what loops and proofs keep for themselves. The rest stands in specs/Disparity.
 -- Assumes nothing.
 use mathlib.Core.Bool.{Bool, cond}
 use Rattle.symbol.specs.declared.disparity.Disparity.{Disparity}
@@ -9,6 +8,6 @@ abbrev pub opposite : Disparity → Disparity
 opposite Negative = Positive
 opposite Positive = Negative
 
--- the opposite of d where it turns, else d
+-- the opposite of d where it flips, else d
 abbrev pub flippedIf : Bool → Disparity → Disparity
-flippedIf turns d = cond turns (opposite d) d
+flippedIf flips d = cond flips (opposite d) d

@@ -21,6 +21,6 @@ sumsOf p w =
     record {
       first = crc 0 (columnOf p w 4 1920 0);
       second = crc 0 (columnOf p w 4 1920 1);
-      third = cond (eqb (p .half) 1) 0 (crc 0 (columnOf p w 4 1920 2));
-      fourth = cond (eqb (p .half) 1) 0 (crc 0 (columnOf p w 4 1920 3));
+      third = cond (eqb (p .«stream_pairs») 1) 0 (crc 0 (columnOf p w 4 1920 2));
+      fourth = cond (eqb (p .«stream_pairs») 1) 0 (crc 0 (columnOf p w 4 1920 3));
     }

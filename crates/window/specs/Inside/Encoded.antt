@@ -1,5 +1,4 @@
--- A window as the encoding of words and content bytes: what only the code behind the calls and its proofs speak of. What the contracts and
--- the demands say stands in specs/Encoded.
+-- A window as the encoding of words and content bytes: what loops and proofs keep for themselves. The rest stands in specs/Encoded.
 -- Assumes nothing.
 use Prim.Native.Nat.{ℕ, _+_, _/_, _%_, _<_}
 use mathlib.Core.Path.{_≡_}

@@ -13,4 +13,4 @@ use Rattle.window.specs.Words.{wordAt}
 -- no fill word is another
 unfoldable pub fillRight : Shape → List ℕ → Bool
 fillRight p w =
-    not (isSome (firstFrom (streams p * (1932 + p .ancillary)) (2 * p .fill) (λ k. not (eqb (wordAt p w k) fillWord))))
+    not (isSome (firstFrom (streams p * (1932 + p .ancillary)) (2 * p .«fill_pairs») (λ k. not (eqb (wordAt p w k) fillWord))))

@@ -14,7 +14,7 @@ use Rattle.window.specs.Scan.{symbolAt, byteOf}
 
 pub record Given (p : Shape) (t w : List ℕ) : Type 0 where
   pub table : t ≡ decodingTable
-  pub half : 1 ≤ p .half
+  pub half : 1 ≤ p .«stream_pairs»
   pub small : Small p
   pub long : length w ≡ symbolsIn p
 

@@ -4,7 +4,7 @@ use mathlib.Core.Path.{ap, ap₂, _∙_}
 use Rattle.decoder.specs.Decode.{decodeOf}
 use Rattle.boundary.specs.Numbers.{disparityFrom}
 use Rattle.character_answers.specs.Characters.{decodeAnswerOf}
-use Rattle.adapter.proofs.Whole.{decode-whole}
+use Rattle.adapter.proofs.Clamped.{decode-clamped}
 use borrow.Author.Needs.{needs}
 use Rattle.adapter.proofs.codes.brazulint_decode.Statement.{statement}
 use Rattle.adapter.proofs.codes.brazulint_decode.Tie as tie
@@ -27,7 +27,7 @@ returns c =
     let d = c .before .before .before .disparity-from .ensures in
     let s = c .before .before .at-most-65535 .ensures in
     c .decode-answer .ensures
-    ∙ ap decodeAnswerOf (c .before .decode .ensures ∙ ap₂ decodeOf d s ∙ decode-whole (disparityFrom (a .positive)) (a .symbol))
+    ∙ ap decodeAnswerOf (c .before .decode .ensures ∙ ap₂ decodeOf d s ∙ decode-clamped (disparityFrom (a .positive)) (a .symbol))
 
 pub brazulint-decode-spec : {M : Type 1} → statement M
 brazulint-decode-spec =

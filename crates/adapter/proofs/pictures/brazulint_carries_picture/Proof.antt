@@ -2,7 +2,7 @@
 -- Assumes nothing.
 use mathlib.Core.Path.{ap, _∙_}
 use Rattle.line.specs.Stream.{isActive}
-use Rattle.adapter.proofs.Whole.{row-whole}
+use Rattle.adapter.proofs.Clamped.{row-clamped}
 use borrow.Author.Needs.{needs}
 use Rattle.adapter.proofs.pictures.brazulint_carries_picture.Statement.{statement}
 use Rattle.adapter.proofs.pictures.brazulint_carries_picture.Tie as tie
@@ -15,7 +15,7 @@ is-active-requires c κs = search needs
 
 returns : tie.Need-returns
 returns c =
-    c .is-active .ensures ∙ ap isActive (c .before .stream-line-from .ensures) ∙ row-whole (c .before .before .args .line)
+    c .is-active .ensures ∙ ap isActive (c .before .stream-line-from .ensures) ∙ row-clamped (c .before .before .args .line)
 
 pub brazulint-carries-picture-spec : {M : Type 1} → statement M
 brazulint-carries-picture-spec =

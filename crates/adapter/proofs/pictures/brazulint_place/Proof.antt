@@ -3,7 +3,7 @@
 use mathlib.Core.Path.{ap, ap₂, _∙_}
 use Rattle.picture.specs.Place.{placedOf}
 use Rattle.picture_answers.specs.Pictures.{placeAnswerOf}
-use Rattle.adapter.proofs.Whole.{placed-whole}
+use Rattle.adapter.proofs.Clamped.{placed-clamped}
 use borrow.Author.Needs.{needs}
 use Rattle.adapter.proofs.pictures.brazulint_place.Statement.{statement}
 use Rattle.adapter.proofs.pictures.brazulint_place.Tie as tie
@@ -26,7 +26,7 @@ returns c =
     let l = c .before .before .before .picture-line-from .ensures in
     let j = c .before .before .at-most-65535 .ensures in
     c .place-answer .ensures
-    ∙ ap placeAnswerOf (c .before .place-of .ensures ∙ ap₂ placedOf l j ∙ placed-whole (a .line) (a .sample))
+    ∙ ap placeAnswerOf (c .before .place-of .ensures ∙ ap₂ placedOf l j ∙ placed-clamped (a .line) (a .sample))
 
 pub brazulint-place-spec : {M : Type 1} → statement M
 brazulint-place-spec =

@@ -4,7 +4,7 @@ use mathlib.Core.Path.{ap, _∙_}
 use Rattle.span.specs.declared.format.Format.{Format}
 use Rattle.recording.specs.Call.{findOf}
 use Rattle.recording_answers.specs.Recordings.{findAnswerOf}
-use Rattle.adapter.proofs.Whole.{find-whole}
+use Rattle.adapter.proofs.Clamped.{find-clamped}
 use borrow.Author.Needs.{needs}
 use Rattle.adapter.proofs.recordings.brazulint_find.Statement.{statement}
 use Rattle.adapter.proofs.recordings.brazulint_find.Tie as tie
@@ -26,7 +26,7 @@ returns c =
     ∙ ap findAnswerOf
     (c .before .find .ensures
     ∙ ap (λ (g : Format). findOf g (a .symbols .now) (a .start)) f
-    ∙ find-whole (a .format) (a .depth) (a .symbols .now) (a .start))
+    ∙ find-clamped (a .format) (a .depth) (a .symbols .now) (a .start))
 
 pub brazulint-find-spec : {M : Type 1} → statement M
 brazulint-find-spec =

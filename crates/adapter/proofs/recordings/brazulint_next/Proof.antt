@@ -5,7 +5,7 @@ use lib.ListN.{length}
 use Rattle.span.specs.declared.format.Format.{Format}
 use Rattle.recording.specs.Call.{nextOf, afterNext, rowsNext}
 use Rattle.recording_answers.specs.Recordings.{nextAnswerOf}
-use Rattle.adapter.proofs.Whole.{next-whole, after-whole, next-rows-whole}
+use Rattle.adapter.proofs.Clamped.{next-clamped, after-clamped, next-rows-clamped}
 use borrow.Author.Needs.{needs}
 use Rattle.adapter.proofs.recordings.brazulint_next.Statement.{statement}
 use Rattle.adapter.proofs.recordings.brazulint_next.Tie as tie
@@ -32,13 +32,13 @@ returns c =
           ∙ ap₂ nextAnswerOf
           (e .0
           ∙ ap (λ (g : Format). nextOf g (a .symbols .now) (a .start) room) f
-          ∙ next-whole (a .format) (a .depth) (a .symbols .now) (a .start) room)
+          ∙ next-clamped (a .format) (a .depth) (a .symbols .now) (a .start) room)
           (e .1 .0
           ∙ ap (λ (g : Format). afterNext g (a .symbols .now) (a .start) room) f
-          ∙ after-whole (a .format) (a .depth) (a .symbols .now) (a .start) room),
+          ∙ after-clamped (a .format) (a .depth) (a .symbols .now) (a .start) room),
       e .1 .1
           ∙ ap (λ (g : Format). rowsNext g (a .symbols .now) (a .start) (a .rows .now)) f
-          ∙ next-rows-whole (a .format) (a .depth) (a .symbols .now) (a .start) (a .rows .now),
+          ∙ next-rows-clamped (a .format) (a .depth) (a .symbols .now) (a .start) (a .rows .now),
     )
 
 pub brazulint-next-spec : {M : Type 1} → statement M

@@ -4,7 +4,7 @@ use mathlib.Core.Path.{ap, _∙_}
 use Rattle.span.specs.declared.format.Format.{Format}
 use Rattle.span.specs.Blanking.{fillOf, filledRow}
 use Rattle.boundary.specs.Numbers.{numberIn}
-use Rattle.adapter.proofs.Whole.{fill-whole, filled-whole}
+use Rattle.adapter.proofs.Clamped.{fill-clamped, filled-clamped}
 use borrow.Author.Needs.{needs}
 use Rattle.adapter.proofs.spans.brazulint_fill_blanking.Statement.{statement}
 use Rattle.adapter.proofs.spans.brazulint_fill_blanking.Tie as tie
@@ -27,8 +27,8 @@ returns c =
     let f = c .before .before .before .before .before .format-from .ensures in
     let e = c .before .before .before .fill-blanking .ensures in (
       c .filled-number .ensures
-          ∙ ap numberIn (e .0 ∙ ap (λ (g : Format). fillOf g (a .row .now)) f ∙ fill-whole (a .format) (a .depth) (a .row .now)),
-      e .1 ∙ ap (λ (g : Format). filledRow g (a .row .now)) f ∙ filled-whole (a .format) (a .depth) (a .row .now),
+          ∙ ap numberIn (e .0 ∙ ap (λ (g : Format). fillOf g (a .row .now)) f ∙ fill-clamped (a .format) (a .depth) (a .row .now)),
+      e .1 ∙ ap (λ (g : Format). filledRow g (a .row .now)) f ∙ filled-clamped (a .format) (a .depth) (a .row .now),
     )
 
 pub brazulint-fill-blanking-spec : {M : Type 1} → statement M

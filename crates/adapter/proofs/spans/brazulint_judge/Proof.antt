@@ -4,7 +4,7 @@ use mathlib.Core.Path.{ap, _∙_}
 use Rattle.span.specs.declared.format.Format.{Format}
 use Rattle.window.specs.Read.{judgeOf}
 use Rattle.span_answers.specs.Spans.{readAnswerOf}
-use Rattle.adapter.proofs.Whole.{judge-whole}
+use Rattle.adapter.proofs.Clamped.{judge-clamped}
 use borrow.Author.Needs.{needs}
 use Rattle.adapter.proofs.spans.brazulint_judge.Statement.{statement}
 use Rattle.adapter.proofs.spans.brazulint_judge.Tie as tie
@@ -24,7 +24,7 @@ returns c =
     let f = c .before .before .format-from .ensures in
     c .read-answer .ensures
     ∙ ap readAnswerOf
-    (c .before .judge .ensures ∙ ap (λ (g : Format). judgeOf g (a .symbols .now)) f ∙ judge-whole (a .format) (a .depth) (a .symbols .now))
+    (c .before .judge .ensures ∙ ap (λ (g : Format). judgeOf g (a .symbols .now)) f ∙ judge-clamped (a .format) (a .depth) (a .symbols .now))
 
 pub brazulint-judge-spec : {M : Type 1} → statement M
 brazulint-judge-spec =

@@ -3,7 +3,7 @@
 use mathlib.Core.Path.{ap, _∙_}
 use Rattle.span.specs.Length.{lengthsOf}
 use Rattle.span_answers.specs.Spans.{lengthsAnswerOf}
-use Rattle.adapter.proofs.Whole.{lengths-whole}
+use Rattle.adapter.proofs.Clamped.{lengths-clamped}
 use borrow.Author.Needs.{needs}
 use Rattle.adapter.proofs.spans.brazulint_lengths.Statement.{statement}
 use Rattle.adapter.proofs.spans.brazulint_lengths.Tie as tie
@@ -22,7 +22,7 @@ returns c =
     let a = c .before .before .before .args in
     let f = c .before .before .format-from .ensures in
     c .lengths-answer .ensures
-    ∙ ap lengthsAnswerOf (c .before .lengths-of .ensures ∙ ap lengthsOf f ∙ lengths-whole (a .format) (a .depth))
+    ∙ ap lengthsAnswerOf (c .before .lengths-of .ensures ∙ ap lengthsOf f ∙ lengths-clamped (a .format) (a .depth))
 
 pub brazulint-lengths-spec : {M : Type 1} → statement M
 brazulint-lengths-spec =

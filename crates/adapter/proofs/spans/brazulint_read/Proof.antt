@@ -5,7 +5,7 @@ use lib.ListN.{length}
 use Rattle.span.specs.declared.format.Format.{Format}
 use Rattle.window.specs.Read.{readOf, rowsRead}
 use Rattle.span_answers.specs.Spans.{readAnswerOf}
-use Rattle.adapter.proofs.Whole.{read-whole, rows-whole}
+use Rattle.adapter.proofs.Clamped.{read-clamped, rows-clamped}
 use borrow.Author.Needs.{needs}
 use Rattle.adapter.proofs.spans.brazulint_read.Statement.{statement}
 use Rattle.adapter.proofs.spans.brazulint_read.Tie as tie
@@ -31,10 +31,10 @@ returns c =
           ∙ ap readAnswerOf
           (e .0
           ∙ ap (λ (g : Format). readOf g (a .symbols .now) (length (a .rows .now))) f
-          ∙ read-whole (a .format) (a .depth) (a .symbols .now) (length (a .rows .now))),
+          ∙ read-clamped (a .format) (a .depth) (a .symbols .now) (length (a .rows .now))),
       e .1
           ∙ ap (λ (g : Format). rowsRead g (a .symbols .now) (a .rows .now)) f
-          ∙ rows-whole (a .format) (a .depth) (a .symbols .now) (a .rows .now),
+          ∙ rows-clamped (a .format) (a .depth) (a .symbols .now) (a .rows .now),
     )
 
 pub brazulint-read-spec : {M : Type 1} → statement M

@@ -5,7 +5,7 @@ use lib.ListN.{length}
 use Rattle.boundary.specs.Numbers.{disparityFrom}
 use Rattle.span_answers.specs.Spans.{sendAnswerOf}
 use Rattle.adapter.proofs.Asking.{same-answer, same-buffer}
-use Rattle.adapter.proofs.Whole.{send-whole, sent-whole}
+use Rattle.adapter.proofs.Clamped.{send-clamped, sent-clamped}
 use borrow.Author.Needs.{needs}
 use Rattle.adapter.proofs.spans.send_content.Statement.{statement}
 use Rattle.adapter.proofs.spans.send_content.Tie as tie
@@ -39,10 +39,10 @@ returns c =
           ∙ ap sendAnswerOf
           (e .0
           ∙ same-answer (a .content) (a .samples .now) d f l (length (a .symbols .now))
-          ∙ send-whole (disparityFrom (a .positive)) (a .content) (a .samples .now) (a .format) (a .depth) (a .line) (length (a .symbols .now))),
+          ∙ send-clamped (disparityFrom (a .positive)) (a .content) (a .samples .now) (a .format) (a .depth) (a .line) (length (a .symbols .now))),
       e .1
           ∙ same-buffer (a .content) (a .samples .now) d f l (a .symbols .now)
-          ∙ sent-whole (disparityFrom (a .positive)) (a .content) (a .samples .now) (a .format) (a .depth) (a .line) (a .symbols .now),
+          ∙ sent-clamped (disparityFrom (a .positive)) (a .content) (a .samples .now) (a .format) (a .depth) (a .line) (a .symbols .now),
     )
 
 pub send-content-spec : {M : Type 1} → statement M

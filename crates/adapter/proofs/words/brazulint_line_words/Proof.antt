@@ -3,7 +3,7 @@
 use mathlib.Core.Path.{ap, _∙_}
 use Rattle.word.specs.LineNumber.{numberedOf}
 use Rattle.word_answers.specs.Words.{lineWordsAnswerOf}
-use Rattle.adapter.proofs.Whole.{numbered-whole}
+use Rattle.adapter.proofs.Clamped.{numbered-clamped}
 use borrow.Author.Needs.{needs}
 use Rattle.adapter.proofs.words.brazulint_line_words.Statement.{statement}
 use Rattle.adapter.proofs.words.brazulint_line_words.Tie as tie
@@ -21,7 +21,7 @@ returns : tie.Need-returns
 returns c =
     let l = c .before .before .stream-line-from .ensures in
     c .line-words-answer .ensures
-    ∙ ap lineWordsAnswerOf (c .before .line-words .ensures ∙ ap numberedOf l ∙ numbered-whole (c .before .before .before .args .line))
+    ∙ ap lineWordsAnswerOf (c .before .line-words .ensures ∙ ap numberedOf l ∙ numbered-clamped (c .before .before .before .args .line))
 
 pub brazulint-line-words-spec : {M : Type 1} → statement M
 brazulint-line-words-spec =

@@ -3,7 +3,7 @@
 use mathlib.Core.Path.{ap, ap₂, _∙_}
 use Rattle.word.specs.LineNumber.{namedOf}
 use Rattle.word_answers.specs.Words.{readLineWordsAnswerOf}
-use Rattle.adapter.proofs.Whole.{named-whole}
+use Rattle.adapter.proofs.Clamped.{named-clamped}
 use borrow.Author.Needs.{needs}
 use Rattle.adapter.proofs.words.brazulint_read_line_words.Statement.{statement}
 use Rattle.adapter.proofs.words.brazulint_read_line_words.Tie as tie
@@ -26,7 +26,7 @@ returns c =
     let x = c .before .before .before .at-most-65535 .ensures in
     let y = c .before .before .at-most-655352 .ensures in
     c .read-line-words-answer .ensures
-    ∙ ap readLineWordsAnswerOf (c .before .read-line-words .ensures ∙ ap₂ namedOf x y ∙ named-whole (a .ln0) (a .ln1))
+    ∙ ap readLineWordsAnswerOf (c .before .read-line-words .ensures ∙ ap₂ namedOf x y ∙ named-clamped (a .ln0) (a .ln1))
 
 pub brazulint-read-line-words-spec : {M : Type 1} → statement M
 brazulint-read-line-words-spec =

@@ -3,7 +3,7 @@
 use mathlib.Core.Path.{ap, _∙_}
 use Rattle.word.specs.Repair.{repairOf}
 use Rattle.word_answers.specs.Words.{repairAnswerOf}
-use Rattle.adapter.proofs.Whole.{repair-whole}
+use Rattle.adapter.proofs.Clamped.{repair-clamped}
 use borrow.Author.Needs.{needs}
 use Rattle.adapter.proofs.words.brazulint_repair.Statement.{statement}
 use Rattle.adapter.proofs.words.brazulint_repair.Tie as tie
@@ -21,7 +21,7 @@ returns : tie.Need-returns
 returns c =
     let w = c .before .before .at-most-65535 .ensures in
     c .repair-answer .ensures
-    ∙ ap repairAnswerOf (c .before .repair-timing-word .ensures ∙ ap repairOf w ∙ repair-whole (c .before .before .before .args .word))
+    ∙ ap repairAnswerOf (c .before .repair-timing-word .ensures ∙ ap repairOf w ∙ repair-clamped (c .before .before .before .args .word))
 
 pub brazulint-repair-spec : {M : Type 1} → statement M
 brazulint-repair-spec =

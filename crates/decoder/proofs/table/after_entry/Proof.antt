@@ -4,11 +4,11 @@ use borrow.Author.Needs.{needs}
 use Rattle.decoder.proofs.table.after_entry.Statement.{statement}
 use Rattle.decoder.proofs.table.after_entry.Tie as tie
 
-turned-if-requires : tie.Need-turned-if-requires
-turned-if-requires c κs = search needs
+flipped-if-requires : tie.Need-flipped-if-requires
+flipped-if-requires c κs = search needs
 
 returns : tie.Need-returns
-returns c = c .turned-if .ensures
+returns c = c .flipped-if .ensures
 
 pub after-entry-spec : {M : Type 1} → statement M
-after-entry-spec = tie.close (tie.spec turned-if-requires returns)
+after-entry-spec = tie.close (tie.spec flipped-if-requires returns)

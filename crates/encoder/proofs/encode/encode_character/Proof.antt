@@ -15,8 +15,8 @@ use Rattle.encoder.proofs.encode.encode_character.Tie as tie
 symbol-table-requires : tie.Need-symbol-table-requires
 symbol-table-requires c κs = search needs
 
-turn-table-requires : tie.Need-turn-table-requires
-turn-table-requires c κs = search needs
+flip-table-requires : tie.Need-flip-table-requires
+flip-table-requires c κs = search needs
 
 offset-of-requires : tie.Need-offset-of-requires
 offset-of-requires c κs = search needs
@@ -37,7 +37,7 @@ array-read-turn : tie.Need-array-read-turn
 array-read-turn c = search needs
 
 cast-turn : tie.Need-cast-turn
-cast-turn c = rw (c .before .turn-table .ensures) (omega (arith, turn-below (c .before .before .before .args .c) (omega arith)))
+cast-turn c = rw (c .before .flip-table .ensures) (omega (arith, turn-below (c .before .before .before .args .c) (omega arith)))
 
 disparity-at-requires : tie.Need-disparity-at-requires
 disparity-at-requires c κs = search needs
@@ -47,7 +47,7 @@ returns c =
     let a = c .before .before .before .before .args in
     let h : a .c < 268 = omega arith in
     let o = c .before .offset-of in
-    let t = c .before .before .turn-table in
+    let t = c .before .before .flip-table in
     let k : bitXor (o .result) (getD (t .result) (a .c) 0) ≡ offsetOf (afterOf (a .d) (a .c)) =
     rw (o .ensures, t .ensures) (after-at (a .d) (a .c) h) in
     encoded-is (a .d) (a .c) h (c .before .before .before .symbol-table .ensures) (omega (arith, o .ensures)) (c .disparity-at .ensures) (omega (arith, k))
@@ -57,7 +57,7 @@ encode-character-spec =
     tie.close
     (tie.spec
     symbol-table-requires
-    turn-table-requires
+    flip-table-requires
     offset-of-requires
     add-at
     mul-symbol

@@ -1,4 +1,4 @@
--- `loopback::file::put_words` meets its contract: the bytes that are left, put behind what is there, give the whole.
+-- `loopback::file::put_words` meets its contract: the bytes that are left, put after what is there, give the whole.
 -- Assumes nothing.
 use mathlib.Core.Path.{_≡_, refl, _∙_}
 use Prim.Native.Nat.{_+_, _-_, _*_, _≤_, _<_}

@@ -1,4 +1,4 @@
--- `read::read::judge_words` meets its contract: tests 21 to 24, and behind them 25 and 26.
+-- `read::read::judge_words` meets its contract: tests 21 to 24, and after them 25 and 26.
 -- Assumes nothing.
 use mathlib.Core.Path.{_≡_, refl, sym, ap, _∙_}
 use native.Mathlib.Omega.{arith}

@@ -26,7 +26,7 @@ repeats-requires c κs = search needs
 returns-2 : tie.Need-returns-2
 returns-2 c =
     let a = c .before .before .before .before .before .args in
-    λ t. all-blank (a .symbols .now) (a .from) (a .turns) (a .to) (c .repeats .ensures t) (c .before .before .begins-blank .ensures (c .before .if2 .taken))
+    λ t. all-blank (a .symbols .now) (a .from) (a .flips) (a .to) (c .repeats .ensures t) (c .before .before .begins-blank .ensures (c .before .if2 .taken))
 
 returns-3 : tie.Need-returns-3
 returns-3 c = λ t. absurd (true≢false (sym t))

@@ -35,7 +35,7 @@ shared-slice-read-third : tie.Need-shared-slice-read-third
 shared-slice-read-third c = search needs
 
 returns : tie.Need-returns
-returns c = λ t. let a = c .before .before .before .before .before .before .args in negative-blank (a .symbols .now) (a .from) (a .turns) (c .before .before .if1 .taken) (c .before .if2 .taken) (c .if3 .taken) (eqb-true _ _ t)
+returns c = λ t. let a = c .before .before .before .before .before .before .args in negative-blank (a .symbols .now) (a .from) (a .flips) (c .before .before .if1 .taken) (c .before .if2 .taken) (c .if3 .taken) (eqb-true _ _ t)
 
 returns-2 : tie.Need-returns-2
 returns-2 c = λ t. absurd (true≢false (sym t))
@@ -44,7 +44,7 @@ returns-3 : tie.Need-returns-3
 returns-3 c = λ t. absurd (true≢false (sym t))
 
 returns-4 : tie.Need-returns-4
-returns-4 c = λ t. let a = c .before .before .before .before .before .before .args in positive-blank (a .symbols .now) (a .from) (a .turns) (c .before .before .if1 .left) (c .before .if4 .taken) (c .if5 .taken) (eqb-true _ _ t)
+returns-4 c = λ t. let a = c .before .before .before .before .before .before .args in positive-blank (a .symbols .now) (a .from) (a .flips) (c .before .before .if1 .left) (c .before .if4 .taken) (c .if5 .taken) (eqb-true _ _ t)
 
 returns-5 : tie.Need-returns-5
 returns-5 c = λ t. absurd (true≢false (sym t))

@@ -1,4 +1,4 @@
--- `read_test20::blank::repeats` meets its contract: where nothing other was met, each symbol before i is met again three behind it.
+-- `read_test20::blank::repeats` meets its contract: where nothing other was met, each symbol before i is met again three after it.
 -- Assumes nothing.
 use mathlib.Core.Path.{_≡_}
 use Prim.Native.Nat.{ℕ, _+_, _-_, _≤_, _<_}

@@ -19,16 +19,16 @@ use Rattle.read_test20.proofs.picture.take_piece.Reads as take-piece-re
 use Rattle.read_test20.proofs.see.passes.Reads as passes-reads
 
 abbrev Inv-loop : tie.InvT-loop
-Inv-loop t half symbols turns rows₀ p₀ j₀ rows p j =
+Inv-loop t half symbols flips rows₀ p₀ j₀ rows p j =
     (j ≤ 1920) × (j % 120 ≡ 0) × (length rows ≡ 3840 * half) × RowsInv half symbols rows₀ j p rows × (passesBy (p .good) ≡ true)
 
 abbrev μ-loop : tie.MeasureT-loop
-μ-loop t half symbols turns rows₀ p₀ j₀ rows p j = 1920 - j
+μ-loop t half symbols flips rows₀ p₀ j₀ rows p j = 1920 - j
 
 loop-holds : tie.Need-loop-holds Inv-loop μ-loop
 loop-holds c =
     let s = c .before .before in
-    (omega arith, refl, s .pre .1 .1 .1 .1 .1 .0, got-begin (s .args .half) (s .args .turns) (s .args .symbols .now) (s .args .rows .now) (s .pre .1 .1 .1 .1 .1 .1), refl)
+    (omega arith, refl, s .pre .1 .1 .1 .1 .1 .0, got-begin (s .args .pairs) (s .args .flips) (s .args .symbols .now) (s .args .rows .now) (s .pre .1 .1 .1 .1 .1 .1), refl)
 
 add-take-piece : tie.Need-add-take-piece Inv-loop μ-loop
 add-take-piece c = search needs
@@ -67,7 +67,7 @@ returns c =
     let e = c .before .before .before .before .take-piece .ensures in
     let t = c .before .before .before .before .before .before .loop-test .taken in
     let few : v .j + 120 ≤ 1920 = omega (arith, v .inv .1, t) in
-    let most : 3 * s .args .half * (v .j + 120) ≤ 3 * s .args .half * 1920 = mul-le-mul-left (3 * s .args .half) few in
+    let most : 3 * s .args .pairs * (v .j + 120) ≤ 3 * s .args .pairs * 1920 = mul-le-mul-left (3 * s .args .pairs) few in
     let come : Come _ _ _ _ = record { some = v .inv .0; going = v .inv .3 .clean .clean (v .inv .4) } in
     (e .0, (λ t. absurd (true≢false (sym t ∙ sym (c .before .passes .ensures) ∙ c .if1 .left)), (come, λ all. e .1 (s .args .rows .now) (v .inv .3) .clean .kept (bytes-in all (omega arith) (omega (arith, most))))))
 
@@ -80,7 +80,7 @@ returns-2 c =
     let end : v .j ≡ 1920 = omega (arith, v .inv .0, c .loop-test .left) in
     let got = rw end at (v .inv .3) in
     let a = c .before .before .before .before .args in
-    let come : Come (a .half) (a .symbols .now) 1920 (v .p .turns) = record { some = omega arith; going = got .clean .clean (v .inv .4) } in
+    let come : Come (a .pairs) (a .symbols .now) 1920 (v .p .flips) = record { some = omega arith; going = got .clean .clean (v .inv .4) } in
     (v .inv .2, (λ _. got, (come, λ all. got .clean .kept (bytes-in all (omega arith) (omega arith)))))
 
 pub take-picture-spec : {M : Type 1} → statement M

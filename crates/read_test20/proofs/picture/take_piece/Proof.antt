@@ -13,7 +13,7 @@ use Rattle.read_test20.proofs.picture.take_two.Reads as take-two-reads
 take-two-requires : tie.Need-take-two-requires
 take-two-requires c κs =
     let s = c .before .before .before .before in
-    let one : s .args .half ≡ 1 = c .before .if1 .taken in
+    let one : s .args .pairs ≡ 1 = c .before .if1 .taken in
     (s .pre .0, (s .pre .1 .0, (s .pre .1 .1 .1 .1 .0, (s .pre .1 .1 .1 .1 .1 .0, (s .pre .1 .1 .1 .1 .1 .1 .0, (omega arith, omega arith))))))
 
 same-length : tie.Need-same-length
@@ -21,14 +21,14 @@ same-length c = search needs
 
 returns : tie.Need-returns
 returns c =
-    let one : c .before .before .before .before .before .before .before .args .half ≡ 1 = c .before .before .before .before .if1 .taken in
+    let one : c .before .before .before .before .before .before .before .args .pairs ≡ 1 = c .before .before .before .before .if1 .taken in
     let e = c .before .before .take-two .ensures in
     (omega (arith, e .0), λ old g. rw one (e .1 old (rw one at g)))
 
 take-four-requires : tie.Need-take-four-requires
 take-four-requires c κs =
     let s = c .before .before .before .before in
-    let two : s .args .half ≡ 2 = omega (arith, s .pre .1 .1 .0, s .pre .1 .1 .1 .0, c .before .if1 .left) in
+    let two : s .args .pairs ≡ 2 = omega (arith, s .pre .1 .1 .0, s .pre .1 .1 .1 .0, c .before .if1 .left) in
     (s .pre .0, (s .pre .1 .0, (s .pre .1 .1 .1 .1 .0, (s .pre .1 .1 .1 .1 .1 .0, (s .pre .1 .1 .1 .1 .1 .1 .0, (omega arith, omega arith))))))
 
 same-length-2 : tie.Need-same-length-2
@@ -37,7 +37,7 @@ same-length-2 c = search needs
 returns-2 : tie.Need-returns-2
 returns-2 c =
     let s = c .before .before .before .before .before .before .before in
-    let two : s .args .half ≡ 2 = omega (arith, s .pre .1 .1 .0, s .pre .1 .1 .1 .0, c .before .before .before .before .if1 .left) in
+    let two : s .args .pairs ≡ 2 = omega (arith, s .pre .1 .1 .0, s .pre .1 .1 .1 .0, c .before .before .before .before .if1 .left) in
     let e = c .before .before .take-four .ensures in
     (omega (arith, e .0), λ old g. rw two (e .1 old (rw two at g)))
 

@@ -13,10 +13,10 @@ use Rattle.read_test20.proofs.see.see_run.Lts as lts
 use Rattle.read_test20.proofs.see.see.Reads as see-reads
 
 abbrev Inv-loop : tie.InvT-loop
-Inv-loop t symbols from to turns k₀ i₀ k i = (i ≤ to) × GatherInv symbols from i (k .good) (k .turns)
+Inv-loop t symbols from to flips k₀ i₀ k i = (i ≤ to) × GatherInv symbols from i (k .good) (k .flips)
 
 abbrev μ-loop : tie.MeasureT-loop
-μ-loop t symbols from to turns k₀ i₀ k i = to - i
+μ-loop t symbols from to flips k₀ i₀ k i = to - i
 
 loop-holds : tie.Need-loop-holds Inv-loop μ-loop
 loop-holds c = (c .before .pre .1 .1 .0, c .before .pre .1 .1 .1 .1)

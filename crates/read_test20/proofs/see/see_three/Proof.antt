@@ -58,7 +58,7 @@ unpack-requires c κs = search needs
 returns : tie.Need-returns
 returns c =
     let a = c .before .before .before .before .before .before .before .before .before .before .before .args in
-    three-is (a .symbols .now) (a .o) (a .good) (a .turns) (c .before .before .before .before .before .before .before .before .see .ensures) (c .before .before .before .before .before .before .see2 .ensures) (c .before .before .before .before .see3 .ensures) (c .unpack .ensures)
+    three-is (a .symbols .now) (a .o) (a .good) (a .flips) (c .before .before .before .before .before .before .before .before .see .ensures) (c .before .before .before .before .before .before .see2 .ensures) (c .before .before .before .before .see3 .ensures) (c .unpack .ensures)
 
 pub see-three-spec : {M : Type 1} → statement M
 see-three-spec =

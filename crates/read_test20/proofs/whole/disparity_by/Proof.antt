@@ -7,10 +7,10 @@ use Rattle.read_test20.proofs.whole.disparity_by.Reads as reads
 use Rattle.read_test20.proofs.whole.disparity_by.Lts as lts
 
 returns : tie.Need-returns
-returns c = by-negative (c .before .args .turns) (c .if1 .taken)
+returns c = by-negative (c .before .args .flips) (c .if1 .taken)
 
 returns-2 : tie.Need-returns-2
-returns-2 c = by-positive (c .before .args .turns) (c .if1 .left)
+returns-2 c = by-positive (c .before .args .flips) (c .if1 .left)
 
 pub disparity-by-spec : {M : Type 1} → statement M
 disparity-by-spec = tie.close (tie.spec returns returns-2)

@@ -54,7 +54,7 @@ see-run-requires c κs =
     let s = c .before .before .before .before .before in
     let w = s .args .symbols .now in
     let eav = c .before .is-eav .ensures .0 (not-false _ (c .if1 .left)) .going (s .pre .1 .1 .bit) in
-    let tie : Tied w _ (s .args .turns) = record { fits = s .pre .1 .1 .fits; bit = eav .bit } in
+    let tie : Tied w _ (s .args .flips) = record { fits = s .pre .1 .1 .fits; bit = eav .bit } in
     (s .pre .0 .table, (s .pre .1 .0, (omega (arith, s .pre .0 .half), (omega (arith, s .pre .0 .long), goes-on (s .args .p) w tie))))
 
 passes-requires : tie.Need-passes-requires
@@ -85,7 +85,7 @@ returns-3 c =
     let s = c .before .before .before .before .before .before .before .before .before in
     let w = s .args .symbols .now in
     let right = sym (c .before .before .passes .ensures) ∙ not-false _ (c .before .if2 .left) in
-    let at : 5772 * s .args .p .half + 24 * s .args .p .half ≡ 5796 * s .args .p .half = omega arith in
+    let at : 5772 * s .args .p .«stream_pairs» + 24 * s .args .p .«stream_pairs» ≡ 5796 * s .args .p .«stream_pairs» = omega arith in
     let e = c .tail-of .ensures in (
       λ t.
           record {

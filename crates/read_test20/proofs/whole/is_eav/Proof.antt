@@ -30,12 +30,12 @@ returns : tie.Need-returns
 returns c =
     let a = c .before .before .before .before .args in
     let d = c .before .before .before .if1 .taken in
-    (λ t. stays-negative (a .symbols .now) (a .at) (a .turns) d (c .before .if2 .taken) (eqb-true _ _ t), λ m t. eq-eqb _ _ (eav-negative (a .symbols .now) (a .at) (a .turns) m t d .1))
+    (λ t. stays-negative (a .symbols .now) (a .at) (a .flips) d (c .before .if2 .taken) (eqb-true _ _ t), λ m t. eq-eqb _ _ (eav-negative (a .symbols .now) (a .at) (a .flips) m t d .1))
 
 returns-2 : tie.Need-returns-2
 returns-2 c =
     let a = c .before .before .before .args in
-    (λ t. absurd (true≢false (sym t)), λ m t. absurd (c .if2 .left (eav-negative (a .symbols .now) (a .at) (a .turns) m t (c .before .before .if1 .taken) .0)))
+    (λ t. absurd (true≢false (sym t)), λ m t. absurd (c .if2 .left (eav-negative (a .symbols .now) (a .at) (a .flips) m t (c .before .before .if1 .taken) .0)))
 
 mul-if3 : tie.Need-mul-if3
 mul-if3 c = search needs
@@ -56,12 +56,12 @@ returns-3 : tie.Need-returns-3
 returns-3 c =
     let a = c .before .before .before .before .args in
     let d = c .before .before .before .if1 .left in
-    (λ t. stays-positive (a .symbols .now) (a .at) (a .turns) d (c .before .if3 .taken) (eqb-true _ _ t), λ m t. eq-eqb _ _ (eav-positive (a .symbols .now) (a .at) (a .turns) m t d .1))
+    (λ t. stays-positive (a .symbols .now) (a .at) (a .flips) d (c .before .if3 .taken) (eqb-true _ _ t), λ m t. eq-eqb _ _ (eav-positive (a .symbols .now) (a .at) (a .flips) m t d .1))
 
 returns-4 : tie.Need-returns-4
 returns-4 c =
     let a = c .before .before .before .args in
-    (λ t. absurd (true≢false (sym t)), λ m t. absurd (c .if3 .left (eav-positive (a .symbols .now) (a .at) (a .turns) m t (c .before .before .if1 .left) .0)))
+    (λ t. absurd (true≢false (sym t)), λ m t. absurd (c .if3 .left (eav-positive (a .symbols .now) (a .at) (a .flips) m t (c .before .before .if1 .left) .0)))
 
 pub is-eav-spec : {M : Type 1} → statement M
 is-eav-spec =

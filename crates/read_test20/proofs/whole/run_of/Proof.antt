@@ -23,7 +23,7 @@ returns c =
     let tied = s .pre .1 .1 .1 .1 .1 in
     let b = c .before .are-blank .ensures (c .if1 .taken) in
     let more : a .to ≡ a .from + 3 * ((a .to - a .from) / 3) = omega (arith, s .pre .1 .1 .0, s .pre .1 .1 .1 .1 .0) in (
-      λ _. record { fits = tied .fits; going = blank-going w _ (a .turns) _ b _ (begin w 0 255 (a .from) (maskBy (a .turns)) (tied .bit)) _ more },
+      λ _. record { fits = tied .fits; going = blank-going w _ (a .flips) _ b _ (begin w 0 255 (a .from) (maskBy (a .flips)) (tied .bit)) _ more },
       (λ _. b, λ _. refl),
     )
 

@@ -20,15 +20,15 @@ use Rattle.read_test20.proofs.whole.take.Tie as tie
 is-ready-requires : tie.Need-is-ready-requires
 is-ready-requires c κs = search needs
 
-wanting-requires : tie.Need-wanting-requires
-wanting-requires c κs = search needs
+fault-requires : tie.Need-fault-requires
+fault-requires c κs = search needs
 
 returns : tie.Need-returns
 returns c =
     let a = c .before .before .before .before .before .args in
     let w = a .symbols .now in
     let no = sym (c .before .before .is-ready .ensures) ∙ not-true _ (c .before .if1 .taken) in
-    let e = c .wanting .ensures in (
+    let e = c .fault .ensures in (
       refl,
       (
         λ t. absurd (true≢false (sym t ∙ e .0)),
@@ -51,15 +51,15 @@ shape-of-requires c κs = search needs
 are-ten-bits-requires : tie.Need-are-ten-bits-requires
 are-ten-bits-requires c κs = search needs
 
-wanting-somewhere-requires : tie.Need-wanting-somewhere-requires
-wanting-somewhere-requires c κs = (c .before .before .before .before .decoding-table .ensures, small _ (c .before .before .before .shape-of .ensures) .half)
+fault-somewhere-requires : tie.Need-fault-somewhere-requires
+fault-somewhere-requires c κs = (c .before .before .before .before .decoding-table .ensures, small _ (c .before .before .before .shape-of .ensures) .half)
 
 returns-2 : tie.Need-returns-2
 returns-2 c =
     let a = c .before .before .before .before .before .before .before .before .before .before .args in
     let w = a .symbols .now in
     let yes = sym (c .before .before .before .before .before .before .before .is-ready .ensures) ∙ not-false _ (c .before .before .before .before .before .before .if1 .left) in
-    let e = c .wanting-somewhere .ensures in (
+    let e = c .fault-somewhere .ensures in (
       refl,
       (
         λ t. absurd (true≢false (sym t ∙ e .0)),
@@ -111,12 +111,12 @@ take-spec =
     tie.close
     (tie.spec
     is-ready-requires
-    wanting-requires
+    fault-requires
     returns
     decoding-table-requires
     shape-of-requires
     are-ten-bits-requires
-    wanting-somewhere-requires
+    fault-somewhere-requires
     returns-2
     take-window-requires
     same-length

@@ -16,24 +16,24 @@ use Rattle.read_test20.proofs.whole.take_window.Lts as lts
 use Rattle.read_test20.proofs.picture.take_picture.Reads as take-picture-reads
 use Rattle.read_test20.proofs.see.passes.Reads as passes-reads
 use Rattle.read_test20.proofs.see.see_run.Reads as see-run-reads
-use Rattle.read_test20.proofs.whole.behind_sav.Reads as behind-sav-reads
+use Rattle.read_test20.proofs.whole.after_sav.Reads as after-sav-reads
 use Rattle.read_test20.proofs.whole.disparity_by.Reads as disparity-by-reads
 use Rattle.read_test20.proofs.whole.end_of.Reads as end-of-reads
-use Rattle.read_test20.proofs.whole.wanting_behind.Reads as wanting-behind-reads
-use Rattle.read_test20.proofs.whole.wanting_somewhere.Reads as wanting-somewhere-reads
+use Rattle.read_test20.proofs.whole.fault_after.Reads as fault-after-reads
+use Rattle.read_test20.proofs.whole.fault_somewhere.Reads as fault-somewhere-reads
 use Rattle.row_crc.proofs.sums.sums_of_rows.Reads as sums-of-rows-reads
 use Rattle.read_test20.specs.Inside.Whole.{Tied}
 
-behind-sav-requires : tie.Need-behind-sav-requires
-behind-sav-requires c κs = search needs
+after-sav-requires : tie.Need-after-sav-requires
+after-sav-requires c κs = search needs
 
-wanting-somewhere-requires : tie.Need-wanting-somewhere-requires
-wanting-somewhere-requires c κs = let s = c .before .before .before .before in (s .pre .0 .table, s .pre .0 .small .half)
+fault-somewhere-requires : tie.Need-fault-somewhere-requires
+fault-somewhere-requires c κs = let s = c .before .before .before .before in (s .pre .0 .table, s .pre .0 .small .half)
 
 returns : tie.Need-returns
 returns c =
     let s = c .before .before .before .before .before in
-    let e = c .wanting-somewhere .ensures in (
+    let e = c .fault-somewhere .ensures in (
       s .pre .1 .1,
       (
         λ t. absurd (true≢false (sym t ∙ e .0)),
@@ -41,7 +41,7 @@ returns c =
           λ t. absurd (true≢false (sym t ∙ e .1)),
           (
             e .2,
-            λ all. absurd (c .before .before .behind-sav .ensures .1 (sav-stands (s .args .p) (s .args .symbols .now) all (omega (arith, s .pre .0 .half, s .pre .0 .long))) (c .before .if1 .taken)),
+            λ all. absurd (c .before .before .after-sav .ensures .1 (sav-stands (s .args .p) (s .args .symbols .now) all (omega (arith, s .pre .0 .half, s .pre .0 .long))) (c .before .if1 .taken)),
           ),
         ),
       ),
@@ -54,21 +54,21 @@ see-run-requires : tie.Need-see-run-requires
 see-run-requires c κs =
     let s = c .before .before .before .before .before in
     let w = s .args .symbols .now in
-    let sav = c .before .before .behind-sav .ensures .0 (c .before .if1 .left) in
+    let sav = c .before .before .after-sav .ensures .0 (c .before .if1 .left) in
     let tie : Tied w 2 _ = record { fits = sav .fits; bit = sav .going .bit } in
     (s .pre .0 .table, (s .pre .1 .0, (omega (arith, s .pre .0 .half), (omega (arith, s .pre .0 .long), goes-on (s .args .p) w tie))))
 
 passes-requires : tie.Need-passes-requires
 passes-requires c κs = search needs
 
-wanting-somewhere-requires-2 : tie.Need-wanting-somewhere-requires-2
-wanting-somewhere-requires-2 c κs = let s = c .before .before .before .before .before .before .before .before in (s .pre .0 .table, s .pre .0 .small .half)
+fault-somewhere-requires-2 : tie.Need-fault-somewhere-requires-2
+fault-somewhere-requires-2 c κs = let s = c .before .before .before .before .before .before .before .before in (s .pre .0 .table, s .pre .0 .small .half)
 
 returns-2 : tie.Need-returns-2
 returns-2 c =
     let s = c .before .before .before .before .before .before .before .before .before in
     let h = s .pre .0 .half in
-    let e = c .wanting-somewhere2 .ensures in (
+    let e = c .fault-somewhere2 .ensures in (
       s .pre .1 .1,
       (
         λ t. absurd (true≢false (sym t ∙ e .0)),
@@ -93,12 +93,12 @@ take-picture-requires c κs =
 passes-requires-2 : tie.Need-passes-requires-2
 passes-requires-2 c κs = search needs
 
-wanting-behind-requires : tie.Need-wanting-behind-requires
-wanting-behind-requires c κs =
+fault-after-requires : tie.Need-fault-after-requires
+fault-after-requires c κs =
     let s = c .before .before .before .before .before .before .before .before .before .before .before .before .before .before in
     let right = sym (c .before .before .before .before .before .before .before .passes .ensures) ∙ not-false _ (c .before .before .before .before .before .before .if2 .left) in
     let come = c .before .before .before .before .take-picture .ensures .1 .1 .0 in
-    (s .pre .0 .table, (s .pre .0 .small .half, (come .some, reached-behind (s .args .p) (s .args .symbols .now) (c .before .before .before .before .before .before .before .before .before .before .before .behind-sav .ensures .0 (c .before .before .before .before .before .before .before .before .before .before .if1 .left)) (c .before .before .before .before .before .before .before .before .see-run .ensures) right come (s .pre .0 .long))))
+    (s .pre .0 .table, (s .pre .0 .small .half, (come .some, reached-behind (s .args .p) (s .args .symbols .now) (c .before .before .before .before .before .before .before .before .before .before .before .after-sav .ensures .0 (c .before .before .before .before .before .before .before .before .before .before .if1 .left)) (c .before .before .before .before .before .before .before .before .see-run .ensures) right come (s .pre .0 .long))))
 
 same-length : tie.Need-same-length
 same-length c = search needs
@@ -107,7 +107,7 @@ returns-3 : tie.Need-returns-3
 returns-3 c =
     let s = c .before .before .before .before .before .before .before .before .before .before .before .before .before .before .before in
     let e = c .before .before .before .before .before .take-picture .ensures in
-    let r = c .wanting-behind .ensures in (
+    let r = c .fault-after .ensures in (
       omega (arith, e .0),
       (
         λ t. absurd (true≢false (sym t ∙ r .0)),
@@ -128,19 +128,19 @@ end-of-requires c κs =
     let got = c .before .before .before .before .take-picture .ensures .1 .0 rights in
     (s .pre .0, (s .pre .1 .0, tied (s .args .p) (s .args .symbols .now) (got .clean) rights (omega arith)))
 
-wanting-behind-requires-2 : tie.Need-wanting-behind-requires-2
-wanting-behind-requires-2 c κs =
+fault-after-requires-2 : tie.Need-fault-after-requires-2
+fault-after-requires-2 c κs =
     let s = c .before .before .before .before .before .before .before .before .before .before .before .before .before .before .before .before .before in
     let right = sym (c .before .before .before .before .before .before .before .before .before .before .passes .ensures) ∙ not-false _ (c .before .before .before .before .before .before .before .before .before .if2 .left) in
     let come = c .before .before .before .before .before .before .before .take-picture .ensures .1 .1 .0 in
-    (s .pre .0 .table, (s .pre .0 .small .half, (come .some, reached-behind (s .args .p) (s .args .symbols .now) (c .before .before .before .before .before .before .before .before .before .before .before .before .before .before .behind-sav .ensures .0 (c .before .before .before .before .before .before .before .before .before .before .before .before .before .if1 .left)) (c .before .before .before .before .before .before .before .before .before .before .before .see-run .ensures) right come (s .pre .0 .long))))
+    (s .pre .0 .table, (s .pre .0 .small .half, (come .some, reached-behind (s .args .p) (s .args .symbols .now) (c .before .before .before .before .before .before .before .before .before .before .before .before .before .before .after-sav .ensures .0 (c .before .before .before .before .before .before .before .before .before .before .before .before .before .if1 .left)) (c .before .before .before .before .before .before .before .before .before .before .before .see-run .ensures) right come (s .pre .0 .long))))
 
 same-length-2 : tie.Need-same-length-2
 same-length-2 c = search needs
 
 returns-4 : tie.Need-returns-4
 returns-4 c =
-    let r = c .wanting-behind2 .ensures in (
+    let r = c .fault-after2 .ensures in (
       omega (arith, c .before .before .before .before .before .before .before .before .take-picture .ensures .0),
       (
         λ t. absurd (true≢false (sym t ∙ r .0)),
@@ -172,7 +172,7 @@ returns-5 c =
     let got = c .before .before .before .before .before .before .before .before .before .before .before .take-picture .ensures .1 .0 rights in
     let picture = picture-is (s .args .p) w (s .pre .0 .small .half) (s .pre .0 .half) (s .pre .1 .1) got in
     let e = c .before .before .before .before .before .before .end-of .ensures in
-    let scanned = scanned-whole (s .args .p) w (c .before .before .before .before .before .before .before .before .before .before .before .before .before .before .before .before .before .before .behind-sav .ensures .0 (c .before .before .before .before .before .before .before .before .before .before .before .before .before .before .before .before .before .if1 .left)) (c .before .before .before .before .before .before .before .before .before .before .before .before .before .before .before .see-run .ensures) right (got .clean) rights (e .0 (not-false _ (c .before .before .before .before .if4 .left))) in (
+    let scanned = scanned-whole (s .args .p) w (c .before .before .before .before .before .before .before .before .before .before .before .before .before .before .before .before .before .before .after-sav .ensures .0 (c .before .before .before .before .before .before .before .before .before .before .before .before .before .before .before .before .before .if1 .left)) (c .before .before .before .before .before .before .before .before .before .before .before .before .before .before .before .see-run .ensures) right (got .clean) rights (e .0 (not-false _ (c .before .before .before .before .if4 .left))) in (
       omega (arith, c .before .before .before .before .before .before .before .before .before .before .before .take-picture .ensures .0),
       (
         λ t.
@@ -189,21 +189,21 @@ pub take-window-spec : {M : Type 1} → statement M
 take-window-spec =
     tie.close
     (tie.spec
-    behind-sav-requires
-    wanting-somewhere-requires
+    after-sav-requires
+    fault-somewhere-requires
     returns
     mul-see-run
     see-run-requires
     passes-requires
-    wanting-somewhere-requires-2
+    fault-somewhere-requires-2
     returns-2
     take-picture-requires
     passes-requires-2
-    wanting-behind-requires
+    fault-after-requires
     same-length
     returns-3
     end-of-requires
-    wanting-behind-requires-2
+    fault-after-requires-2
     same-length-2
     returns-4
     sums-of-rows-requires

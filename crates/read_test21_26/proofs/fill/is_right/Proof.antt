@@ -67,7 +67,7 @@ returns-3 : tie.Need-returns-3 Inv-loop μ-loop
 returns-3 c =
     let s = c .before .before .before .before .before .before .before in
     let v = c .before .loop in
-    let end : v .q ≡ s .args .p .half * (1932 + s .args .p .ancillary) + s .args .p .fill = omega (arith, v .inv .0, c .loop-test .left) in
+    let end : v .q ≡ s .args .p .«stream_pairs» * (1932 + s .args .p .ancillary) + s .args .p .«fill_pairs» = omega (arith, v .inv .0, c .loop-test .left) in
     sym (all-right (s .args .p) (s .args .symbols .now) (s .pre .half) (rw end at (v .inv .1)))
 
 pub is-right-spec : {M : Type 1} → statement M

@@ -23,8 +23,8 @@ div-j c = search needs
 word-at-requires : tie.Need-word-at-requires
 word-at-requires c κs = search needs
 
-rem-crcc-behind : tie.Need-rem-crcc-behind
-rem-crcc-behind c = search needs
+rem-crcc-after : tie.Need-rem-crcc-after
+rem-crcc-after c = search needs
 
 rem-sum-of : tie.Need-rem-sum-of
 rem-sum-of c = search needs
@@ -32,8 +32,8 @@ rem-sum-of c = search needs
 sum-of-requires : tie.Need-sum-of-requires
 sum-of-requires c κs = search needs
 
-crcc-behind-requires : tie.Need-crcc-behind-requires
-crcc-behind-requires c κs =
+crcc-after-requires : tie.Need-crcc-after-requires
+crcc-after-requires c κs =
     let s = c .before .before .before .before .before .before in
     let a = s .args in
     let some-streams : 1 ≤ streams (a .p) = omega (arith, s .pre .0 .half) in
@@ -45,7 +45,7 @@ returns c =
     let a = s .args in
     let word = here (a .p) (a .symbols .now) (a .k) (s .pre .0 .half) (c .before .before .before .before .word-at .ensures .0) in
     let sent =
-    c .before .before .crcc-behind .ensures
+    c .before .before .crcc-after .ensures
     ∙ ap (λ (x : ℕ). crccReceived (a .p) (a .symbols .now) (a .k % streams (a .p)) x) (c .before .before .before .sum-of .ensures) in
     ap₂ eqb word (ap (λ (x : CrccWords). x .crcc0) sent)
     ∙ sym (first-24 (a .p) (a .symbols .now) (a .c) (a .k / streams (a .p)) (a .k % streams (a .p)) (c .before .if3 .taken))
@@ -57,7 +57,7 @@ returns-2 c =
     let a = s .args in
     let word = here (a .p) (a .symbols .now) (a .k) (s .pre .0 .half) (c .before .before .before .before .word-at .ensures .0) in
     let sent =
-    c .before .before .crcc-behind .ensures
+    c .before .before .crcc-after .ensures
     ∙ ap (λ (x : ℕ). crccReceived (a .p) (a .symbols .now) (a .k % streams (a .p)) x) (c .before .before .before .sum-of .ensures) in
     ap₂ eqb word (ap (λ (x : CrccWords). x .crcc1) sent)
     ∙ sym (second-24 (a .p) (a .symbols .now) (a .c) (a .k / streams (a .p)) (a .k % streams (a .p)) next)
@@ -79,10 +79,10 @@ crcc-holds-spec =
     mul-s
     div-j
     word-at-requires
-    rem-crcc-behind
+    rem-crcc-after
     rem-sum-of
     sum-of-requires
-    crcc-behind-requires
+    crcc-after-requires
     returns
     returns-2
     returns-3

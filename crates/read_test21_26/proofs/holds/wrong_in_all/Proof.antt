@@ -74,8 +74,8 @@ loop-again c =
     let v = c .before .before .before .before .before .loop in
     let first = c .before .before .before .word-at .ensures in
     let second = c .before .word-at2 .ensures in
-    let k3 : 3 * (2 * a .p .half) + v .i ≡ streams (a .p) * 3 + v .i = omega (arith, v .inv .0) in
-    let k1927 : 1927 * (2 * a .p .half) + v .i ≡ streams (a .p) * 1927 + v .i = omega (arith, v .inv .0) in
+    let k3 : 3 * (2 * a .p .«stream_pairs») + v .i ≡ streams (a .p) * 3 + v .i = omega (arith, v .inv .0) in
+    let k1927 : 1927 * (2 * a .p .«stream_pairs») + v .i ≡ streams (a .p) * 1927 + v .i = omega (arith, v .inv .0) in
     let x =
     c .before .before .wrong-bits .ensures .0
     ∙ ap (λ (n : ℕ). wrongBits n) (mod-eq-of-lt (first .1) ∙ first .0 ∙ ap (wordAt (a .p) (a .symbols .now)) k3) in

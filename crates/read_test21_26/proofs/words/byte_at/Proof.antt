@@ -49,7 +49,7 @@ returns-3 : tie.Need-returns-3
 returns-3 c =
     let s = c .before .before .before .before .before .before in
     let a = s .args in
-    let i = a .i - 5772 * a .p .half in
+    let i = a .i - 5772 * a .p .«stream_pairs» in
     let h : i < 4 = omega arith in
     let back : eavAt (a .p) + i ≡ a .i = omega arith in
     c .fixed-byte2 .ensures

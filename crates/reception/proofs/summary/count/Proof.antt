@@ -1,4 +1,4 @@
--- `crate::summary::count` meets its contract: those counted, and those behind them, are all.
+-- `crate::summary::count` meets its contract: those counted, and those after them, are all.
 -- Assumes nothing.
 use mathlib.Core.Path.{_≡_}
 use mathlib.Core.Logic.{⊎-elim}

@@ -1,4 +1,4 @@
--- `rig::transmit::send_piece` meets its contract: the lines that are left, put behind what is there, give the whole.
+-- `rig::transmit::send_piece` meets its contract: the lines that are left, put after what is there, give the whole.
 -- Assumes nothing.
 use mathlib.Core.Path.{_≡_, sym, ap, _∙_}
 use Prim.Native.Nat.{ℕ, _+_, _-_, _*_, _≤_, _<_}

@@ -43,8 +43,8 @@ returns c =
     (c .before .before .before .before .crc-word3 .ensures
     ∙ ap (λ (x : ℕ). crcWord x 0x000) (c .before .before .before .before .before .crc-word2 .ensures ∙ ap (λ (x : ℕ). crcWord x 0x000) (c .before .before .before .before .before .before .crc-word .ensures))))))
 
-pub crcc-behind-spec : {M : Type 1} → statement M
-crcc-behind-spec =
+pub crcc-after-spec : {M : Type 1} → statement M
+crcc-after-spec =
     tie.close
     (tie.spec
     crc-word-requires

@@ -10,17 +10,17 @@ use borrow.Author.Needs.{needs}
 use Rattle.send.proofs.parts.put_crcc.Statement.{statement}
 use Rattle.send.proofs.parts.put_crcc.Tie as tie
 
-crcc-behind-requires : tie.Need-crcc-behind-requires
-crcc-behind-requires c κs = search needs
+crcc-after-requires : tie.Need-crcc-after-requires
+crcc-after-requires c κs = search needs
 
-crcc-behind-requires-2 : tie.Need-crcc-behind-requires-2
-crcc-behind-requires-2 c κs = search needs
+crcc-after-requires-2 : tie.Need-crcc-after-requires-2
+crcc-after-requires-2 c κs = search needs
 
-crcc-behind-requires-3 : tie.Need-crcc-behind-requires-3
-crcc-behind-requires-3 c κs = search needs
+crcc-after-requires-3 : tie.Need-crcc-after-requires-3
+crcc-after-requires-3 c κs = search needs
 
-crcc-behind-requires-4 : tie.Need-crcc-behind-requires-4
-crcc-behind-requires-4 c κs = search needs
+crcc-after-requires-4 : tie.Need-crcc-after-requires-4
+crcc-after-requires-4 c κs = search needs
 
 put-four-requires : tie.Need-put-four-requires
 put-four-requires c κs =
@@ -48,14 +48,14 @@ unfolding crccChars
 returns c =
     let s = c .before .before .before .before .before .before .before .before .before .before .before .before .before in
     let a = s .args in
-    let x = c .before .before .before .before .before .before .before .before .before .before .before .crcc-behind .result in
-    let y = c .before .before .before .before .before .before .before .before .before .before .crcc-behind2 .result in
-    let z = c .before .before .before .before .before .before .before .before .before .crcc-behind3 .result in
-    let v = c .before .before .before .before .before .before .before .before .crcc-behind4 .result in
-    let ex = c .before .before .before .before .before .before .before .before .before .before .before .crcc-behind .ensures in
-    let ey = c .before .before .before .before .before .before .before .before .before .before .crcc-behind2 .ensures in
-    let ez = c .before .before .before .before .before .before .before .before .before .crcc-behind3 .ensures in
-    let ev = c .before .before .before .before .before .before .before .before .crcc-behind4 .ensures in
+    let x = c .before .before .before .before .before .before .before .before .before .before .before .crcc-after .result in
+    let y = c .before .before .before .before .before .before .before .before .before .before .crcc-after2 .result in
+    let z = c .before .before .before .before .before .before .before .before .before .crcc-after3 .result in
+    let v = c .before .before .before .before .before .before .before .before .crcc-after4 .result in
+    let ex = c .before .before .before .before .before .before .before .before .before .before .before .crcc-after .ensures in
+    let ey = c .before .before .before .before .before .before .before .before .before .before .crcc-after2 .ensures in
+    let ez = c .before .before .before .before .before .before .before .before .before .crcc-after3 .ensures in
+    let ev = c .before .before .before .before .before .before .before .before .crcc-after4 .ensures in
     let p = renamed
     (same-four (a .half) (s .pre .1 .1 .1 .0) (λ t. crccBehind (sumIn (a .p) t) (a .xyz) (a .n) .crcc0) (wordIn (record { a = x .crcc0; b = y .crcc0; c = z .crcc0; e = v .crcc0 }))
     (ap (λ (q : CrccWords). q .crcc0) (sym ex)) (ap (λ (q : CrccWords). q .crcc0) (sym ey)) (ap (λ (q : CrccWords). q .crcc0) (sym ez)) (ap (λ (q : CrccWords). q .crcc0) (sym ev)))
@@ -71,10 +71,10 @@ pub put-crcc-spec : {M : Type 1} → statement M
 put-crcc-spec =
     tie.close
     (tie.spec
-    crcc-behind-requires
-    crcc-behind-requires-2
-    crcc-behind-requires-3
-    crcc-behind-requires-4
+    crcc-after-requires
+    crcc-after-requires-2
+    crcc-after-requires-3
+    crcc-after-requires-4
     put-four-requires
     mul-put-four
     add-put-four

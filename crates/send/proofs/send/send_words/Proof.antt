@@ -14,8 +14,8 @@ use Rattle.send.proofs.send.send_words.Tie as tie
 symbol-table-requires : tie.Need-symbol-table-requires
 symbol-table-requires c κs = search needs
 
-turn-table-requires : tie.Need-turn-table-requires
-turn-table-requires c κs = search needs
+flip-table-requires : tie.Need-flip-table-requires
+flip-table-requires c κs = search needs
 
 shape-of-requires : tie.Need-shape-of-requires
 shape-of-requires c κs = search needs
@@ -34,7 +34,7 @@ put-span-requires c κs =
     let o = c .before .before .before .offset-of .ensures in (
       c .before .before .before .before .before .before .before .symbol-table .ensures,
       (
-        c .before .before .before .before .before .before .turn-table .ensures,
+        c .before .before .before .before .before .before .flip-table .ensures,
         (
           streams-there (a .f) p (s .pre .0),
           (
@@ -69,7 +69,7 @@ send-words-spec =
     tie.close
     (tie.spec
     symbol-table-requires
-    turn-table-requires
+    flip-table-requires
     shape-of-requires
     content-of-requires
     offset-of-requires

@@ -12,9 +12,9 @@ use Rattle.span.proofs.length.span_lengths.Statement.{statement}
 use Rattle.span.proofs.length.span_lengths.Tie as tie
 
 -- the sums as the code makes them, and as the definitions do
-lengths-are : {p q : Shape} → p ≡ q → _≡_ {A = SpanLengths} (record { samples = 3840 * p .half; symbols = 3 * (p .half * (1932 + p .ancillary) + p .fill) }) (record { samples = samplesIn q; symbols = symbolsIn q })
+lengths-are : {p q : Shape} → p ≡ q → _≡_ {A = SpanLengths} (record { samples = 3840 * p .«stream_pairs»; symbols = 3 * (p .«stream_pairs» * (1932 + p .ancillary) + p .«fill_pairs») }) (record { samples = samplesIn q; symbols = symbolsIn q })
 lengths-are {p} {q} e =
-    let samples : 3840 * p .half ≡ samplesIn p = omega arith in
+    let samples : 3840 * p .«stream_pairs» ≡ samplesIn p = omega arith in
     ap (λ (n : ℕ). record { samples = n; symbols = symbolsIn p }) samples ∙ ap (λ (x : Shape). record { samples = samplesIn x; symbols = symbolsIn x }) e
 
 shape-of-requires : tie.Need-shape-of-requires

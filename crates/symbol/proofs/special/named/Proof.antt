@@ -1,4 +1,4 @@
--- `symbol::special::named` meets its contract: the specialNames stand in the order of the numbers.
+-- `symbol::special::named` meets its contract: the names stand in the order of the numbers.
 -- Assumes nothing.
 use Rattle.symbol.specs.declared.special.Special.the-variants.{«K28_0»}
 use Rattle.symbol.specs.Character.{specialNames, nth}

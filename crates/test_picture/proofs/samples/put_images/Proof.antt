@@ -1,4 +1,4 @@
--- `test_picture::samples::put_images` meets its contract: the library's call divides the row, and its two parts are copied one behind the other.
+-- `test_picture::samples::put_images` meets its contract: the library's call divides the row, and its two parts are copied one after the other.
 -- Assumes nothing.
 use Rattle.test_picture.specs.TestPicture.{rowInSteps}
 use Rattle.test_picture.proofs.Images.{both-put}

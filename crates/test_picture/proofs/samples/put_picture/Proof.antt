@@ -70,7 +70,7 @@ put-images-requires c κs =
     let pre = start .pre in
     let v = at .loop in
     let f = start .args .f in
-    let rows : k .shape-of .result .half ≡ shapeOf f .half = ap (λ (p : Shape). p .half) (k .shape-of .ensures) in
+    let rows : k .shape-of .result .half ≡ shapeOf f .«stream_pairs» = ap (λ (p : Shape). p .«stream_pairs») (k .shape-of .ensures) in
     let less : v .i < k .shape-of .result .half = c .before .before .before .before .before .loop-test .taken in
     let long : length (v .samples) ≡ 1920 * streams (shapeOf f) = v .inv .4 ∙ pre .1 .1 .1 .1 in
     let room : 3840 * v .i + 3840 ≤ length (v .samples) = omega (arith, rows, less, long) in (
@@ -126,7 +126,7 @@ returns c =
     let o = start .args .samples .now in
     let s = streams (shapeOf f) in
     let active = start .pre .0 in
-    let end : 2 * v .i ≡ s = omega (arith, ap (λ (p : Shape). p .half) (k .shape-of .ensures)) in
+    let end : 2 * v .i ≡ s = omega (arith, ap (λ (p : Shape). p .«stream_pairs») (k .shape-of .ensures)) in
     v .inv .5
     ∙ ap (λ (m : ℕ). sets o 0 (upto m (carried (k .before .before .step-of .result) (k .before .basic-line-of .result .0)))) end
     ∙ ap₂ (λ (step l : ℕ). sets o 0 (upto s (carried step l))) (k .before .before .step-of .ensures) (k .before .basic-line-of .ensures)

@@ -1,13 +1,13 @@
--- `read_test20::picture::turn_two` meets its contract: what is seen and put is what four words more give.
+-- `read_test20::picture::step_two` meets its contract: what is seen and put is what four words more give.
 -- Assumes nothing.
 use mathlib.Core.Path.{_∙_}
 use native.Mathlib.Omega.{arith}
 use borrow.Author.Needs.{needs}
 use Rattle.read_test20.proofs.Getting.{after-two, put-two, words-seen, four-of-two}
-use Rattle.read_test20.proofs.picture.turn_two.Statement.{statement}
-use Rattle.read_test20.proofs.picture.turn_two.Tie as tie
-use Rattle.read_test20.proofs.picture.turn_two.Reads as reads
-use Rattle.read_test20.proofs.picture.turn_two.Lts as lts
+use Rattle.read_test20.proofs.picture.step_two.Statement.{statement}
+use Rattle.read_test20.proofs.picture.step_two.Tie as tie
+use Rattle.read_test20.proofs.picture.step_two.Reads as reads
+use Rattle.read_test20.proofs.picture.step_two.Lts as lts
 use Rattle.read_test20.proofs.picture.put_pair.Reads as put-pair-reads
 use Rattle.read_test20.proofs.see.see_three.Reads as see-three-reads
 
@@ -105,8 +105,8 @@ returns c =
     (c .before .before .before .before .before .before .before .before .before .before .before .before .before .before .put-pair .ensures .1) (c .before .before .before .before .before .before .before .before .before .before .put-pair2 .ensures .1) (c .before .before .before .before .before .before .put-pair3 .ensures .1) (c .before .before .put-pair4 .ensures .1) in
     (c .before .before .put-pair4 .ensures .0 ∙ (c .before .before .before .before .before .before .put-pair3 .ensures .0 ∙ (c .before .before .before .before .before .before .before .before .before .before .put-pair2 .ensures .0 ∙ (c .before .before .before .before .before .before .before .before .before .before .before .before .before .before .put-pair .ensures .0 ∙ (s .pre .1 .1 .1 .1)))), λ old g. rw (r, q) (four-of-two w (s .pre .1 .1 .0) g))
 
-pub turn-two-spec : {M : Type 1} → statement M
-turn-two-spec =
+pub step-two-spec : {M : Type 1} → statement M
+step-two-spec =
     tie.close
     (tie.spec
     mul-see-three

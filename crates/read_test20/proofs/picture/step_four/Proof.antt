@@ -1,12 +1,12 @@
--- `read_test20::picture::turn_four` meets its contract: what is seen and put is what four words more give.
+-- `read_test20::picture::step_four` meets its contract: what is seen and put is what four words more give.
 -- Assumes nothing.
 use native.Mathlib.Omega.{arith}
 use borrow.Author.Needs.{needs}
 use Rattle.read_test20.proofs.Getting.{after-four, put-four, low-seen, high-seen, four-of-four}
-use Rattle.read_test20.proofs.picture.turn_four.Statement.{statement}
-use Rattle.read_test20.proofs.picture.turn_four.Tie as tie
-use Rattle.read_test20.proofs.picture.turn_four.Reads as reads
-use Rattle.read_test20.proofs.picture.turn_four.Lts as lts
+use Rattle.read_test20.proofs.picture.step_four.Statement.{statement}
+use Rattle.read_test20.proofs.picture.step_four.Tie as tie
+use Rattle.read_test20.proofs.picture.step_four.Reads as reads
+use Rattle.read_test20.proofs.picture.step_four.Lts as lts
 use Rattle.read_test20.proofs.picture.put_six.Reads as put-six-reads
 use Rattle.read_test20.proofs.see.see_six.Reads as see-six-reads
 
@@ -96,8 +96,8 @@ returns c =
     (c .before .before .put-six4 .ensures .1) in
     (c .before .before .put-six4 .ensures .0, λ old g. rw (r, q) (four-of-four w (s .pre .1 .1 .0) g))
 
-pub turn-four-spec : {M : Type 1} → statement M
-turn-four-spec =
+pub step-four-spec : {M : Type 1} → statement M
+step-four-spec =
     tie.close
     (tie.spec
     mul-see-six

@@ -1,4 +1,4 @@
--- `read_test21_26::holds::crcc_behind` meets its contract: six words more.
+-- `read_test21_26::holds::crcc_after` meets its contract: six words more.
 -- Assumes nothing.
 use mathlib.Core.Path.{_≡_, ap, ap₂, _∙_}
 use Prim.Native.Nat.{ℕ, _+_, _*_, _%_}
@@ -9,8 +9,8 @@ use Rattle.word.specs.Received.{repaired}
 use Rattle.window.specs.Words.{wordAt}
 use Rattle.read_test21_26.proofs.Reading.{six}
 use borrow.Author.Needs.{needs}
-use Rattle.read_test21_26.proofs.holds.crcc_behind.Statement.{statement}
-use Rattle.read_test21_26.proofs.holds.crcc_behind.Tie as tie
+use Rattle.read_test21_26.proofs.holds.crcc_after.Statement.{statement}
+use Rattle.read_test21_26.proofs.holds.crcc_after.Tie as tie
 
 mul-s : tie.Need-mul-s
 mul-s c = search needs
@@ -93,17 +93,17 @@ crcc-words-requires c κs = search needs
 returns : tie.Need-returns
 returns c =
     let a = c .before .before .before .before .before .before .before .before .before .before .before .before .before .before .before .before .args in
-    let k0 : 1924 * (2 * a .p .half) + a .i ≡ streams (a .p) * 1924 + a .i = omega arith in
+    let k0 : 1924 * (2 * a .p .«stream_pairs») + a .i ≡ streams (a .p) * 1924 + a .i = omega arith in
     let x0 = c .before .before .before .before .before .before .before .before .before .before .before .before .before .word-at .ensures .0 ∙ ap (wordAt (a .p) (a .symbols .now)) k0 in
-    let k1 : 1924 * (2 * a .p .half) + a .i + 2 * a .p .half ≡ streams (a .p) * 1925 + a .i = omega arith in
+    let k1 : 1924 * (2 * a .p .«stream_pairs») + a .i + 2 * a .p .«stream_pairs» ≡ streams (a .p) * 1925 + a .i = omega arith in
     let x1 = c .before .before .before .before .before .before .before .before .before .before .before .word-at2 .ensures .0 ∙ ap (wordAt (a .p) (a .symbols .now)) k1 in
-    let k2 : 1924 * (2 * a .p .half) + a .i + 2 * (2 * a .p .half) ≡ streams (a .p) * 1926 + a .i = omega arith in
+    let k2 : 1924 * (2 * a .p .«stream_pairs») + a .i + 2 * (2 * a .p .«stream_pairs») ≡ streams (a .p) * 1926 + a .i = omega arith in
     let x2 = c .before .before .before .before .before .before .before .before .before .word-at3 .ensures .0 ∙ ap (wordAt (a .p) (a .symbols .now)) k2 in
-    let k3 : 1924 * (2 * a .p .half) + a .i + 3 * (2 * a .p .half) ≡ streams (a .p) * 1927 + a .i = omega arith in
+    let k3 : 1924 * (2 * a .p .«stream_pairs») + a .i + 3 * (2 * a .p .«stream_pairs») ≡ streams (a .p) * 1927 + a .i = omega arith in
     let x3 = c .before .before .before .before .before .before .before .word-at4 .ensures .0 ∙ ap (wordAt (a .p) (a .symbols .now)) k3 in
-    let k4 : 1924 * (2 * a .p .half) + a .i + 4 * (2 * a .p .half) ≡ streams (a .p) * 1928 + a .i = omega arith in
+    let k4 : 1924 * (2 * a .p .«stream_pairs») + a .i + 4 * (2 * a .p .«stream_pairs») ≡ streams (a .p) * 1928 + a .i = omega arith in
     let x4 = c .before .before .before .before .word-at5 .ensures .0 ∙ ap (wordAt (a .p) (a .symbols .now)) k4 in
-    let k5 : 1924 * (2 * a .p .half) + a .i + 5 * (2 * a .p .half) ≡ streams (a .p) * 1929 + a .i = omega arith in
+    let k5 : 1924 * (2 * a .p .«stream_pairs») + a .i + 5 * (2 * a .p .«stream_pairs») ≡ streams (a .p) * 1929 + a .i = omega arith in
     let x5 = c .before .before .word-at6 .ensures .0 ∙ ap (wordAt (a .p) (a .symbols .now)) k5 in
     let low : c .before .before .before .before .before .before .before .word-at4 .result % 4096 ≡ c .before .before .before .before .before .before .before .word-at4 .result = omega (arith, c .before .before .before .before .before .before .before .word-at4 .ensures .1) in
     let xyz = c .before .before .before .before .before .before .repaired-word .ensures ∙ ap (λ (x : ℕ). repaired x) (low ∙ x3) in
@@ -120,8 +120,8 @@ returns c =
     (c .before .before .before .before .before .before .before .before .before .before .crc-word2 .ensures ∙ ap₂ crcWord (c .before .before .before .before .before .before .before .before .before .before .before .before .crc-word .ensures ∙ ap (λ (x : ℕ). crcWord (a .c) x) x0) x1) x2) xyz) x4) x5)
     ∙ six (a .p) (a .symbols .now) (a .i) (a .c)
 
-pub crcc-behind-spec : {M : Type 1} → statement M
-crcc-behind-spec =
+pub crcc-after-spec : {M : Type 1} → statement M
+crcc-after-spec =
     tie.close
     (tie.spec
     mul-s

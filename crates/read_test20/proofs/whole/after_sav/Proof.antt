@@ -1,4 +1,4 @@
--- `read_test20::whole::behind_sav` meets its contract.
+-- `read_test20::whole::after_sav` meets its contract.
 -- Assumes nothing.
 use mathlib.Core.Path.{_≡_, refl, sym, _∙_}
 use mathlib.Core.Logic.{⊎-elim}
@@ -6,10 +6,10 @@ use native.Mathlib.Omega.{arith}
 use Rattle.read_test20.proofs.Kept.{sav-told}
 use Rattle.read_test20.proofs.Wholes.{begun-negative, begun-positive}
 use borrow.Author.Needs.{needs}
-use Rattle.read_test20.proofs.whole.behind_sav.Statement.{statement}
-use Rattle.read_test20.proofs.whole.behind_sav.Tie as tie
-use Rattle.read_test20.proofs.whole.behind_sav.Reads as reads
-use Rattle.read_test20.proofs.whole.behind_sav.Lts as lts
+use Rattle.read_test20.proofs.whole.after_sav.Statement.{statement}
+use Rattle.read_test20.proofs.whole.after_sav.Tie as tie
+use Rattle.read_test20.proofs.whole.after_sav.Reads as reads
+use Rattle.read_test20.proofs.whole.after_sav.Lts as lts
 
 shared-slice-read-if1 : tie.Need-shared-slice-read-if1
 shared-slice-read-if1 c = search needs
@@ -38,8 +38,8 @@ returns-4 c = (λ n. absurd (n refl), λ t _. ⊎-elim (λ q. absurd (let z : 0x
 returns-5 : tie.Need-returns-5
 returns-5 c = (λ n. absurd (n refl), λ t _. ⊎-elim (λ q. c .before .before .if1 .left (q .0)) (λ q. c .if3 .left (q .0)) (sav-told (c .before .before .before .before .args .symbols .now) t))
 
-pub behind-sav-spec : {M : Type 1} → statement M
-behind-sav-spec =
+pub after-sav-spec : {M : Type 1} → statement M
+after-sav-spec =
     tie.close
     (tie.spec
     shared-slice-read-if1

@@ -1,0 +1,172 @@
+-- Numbers are clamped: the library is called with the largest number that it has room for where a caller's is larger, and each of these
+-- laws says that a call answers the same for both, and leaves the same in lent memory.
+-- Assumes nothing.
+use mathlib.Core.Path.{_≡_, refl, sym, ap, _∙_}
+use mathlib.Core.Bool.{Bool, true, false, cond}
+use mathlib.Core.List.{List}
+use Prim.Native.Nat.{ℕ, _≤_, min}
+use native.Mathlib.Nat.{min-eq-left, min-eq-right}
+use native.Mathlib.Omega.{arith}
+use lib.Dec.{leb, eqb}
+use borrow.Author.Tests.{leb-true, leb-false, le-ltb, lt-leb, ne-eqb}
+use Rattle.ground.specs.Answer.{refused}
+use Rattle.ground.specs.Range.{within}
+use Rattle.ground.proofs.Cases.{on-test}
+use Rattle.ground.proofs.Ranges.{is-above}
+use Rattle.symbol.specs.declared.disparity.Disparity.{Disparity}
+use Rattle.decoder.specs.Decode.{decodeOf}
+use Rattle.line.specs.Stream.{isLine, isActive}
+use Rattle.word.specs.LineNumber.{numberedOf, namedOf}
+use Rattle.word.specs.Repair.{repairOf}
+use Rattle.word.specs.Word.{isWord}
+use Rattle.picture.specs.Choice.{rowOn}
+use Rattle.picture.specs.Place.{placedOf}
+use Rattle.span.specs.declared.content.Content.{Content}
+use Rattle.span.specs.declared.format.Format.{Format}
+use Rattle.span.specs.Format.{isKnown, formatFrom}
+use Rattle.span.specs.Length.{lengthsOf}
+use Rattle.span.specs.Blanking.{fillOf, filledRow}
+use Rattle.send.specs.Send.{request, sendOf, sentBuffer}
+use Rattle.window.specs.Read.{judgeOf, readOf, rowsRead}
+use Rattle.recording.specs.Call.{findOf, nextOf, afterNext, rowsNext}
+
+-- what is the same for all numbers from a top on is the same for a number and the smaller of it and the top
+pub clamped : {A : Type 0} (g : ℕ → A) (top n : ℕ) → ((m : ℕ) → top ≤ m → g m ≡ g top) → g (min n top) ≡ g n
+clamped g top n same = on-test (leb n top) below above
+  where
+    below : leb n top ≡ true → g (min n top) ≡ g n
+    below t = ap g (min-eq-left (leb-true n top t))
+
+    above : leb n top ≡ false → g (min n top) ≡ g n
+    above t =
+        let h : top ≤ n = omega (arith, leb-false n top t) in ap g (min-eq-right h) ∙ sym (same n h)
+
+-- the same where all of them are sent to one value
+pub clamped-to : {A : Type 0} (g : ℕ → A) (top n : ℕ) (x : A) → ((m : ℕ) → top ≤ m → g m ≡ x) → g (min n top) ≡ g n
+clamped-to g top n x is = clamped g top n (λ m h. is m h ∙ sym (is top (omega arith)))
+
+-- ---- symbols, words, lines and samples
+
+pub decode-clamped : (d : Disparity) (s : ℕ) → decodeOf d (min s 65535) ≡ decodeOf d s
+decode-clamped d s = clamped-to (decodeOf d) 65535 s (refused 7 0) (λ m h. simp (le-ltb m 1024 (omega arith)))
+
+pub repair-clamped : (w : ℕ) → repairOf (min w 65535) ≡ repairOf w
+repair-clamped w = clamped-to repairOf 65535 w (refused 7 0) (λ m h. simp (le-ltb m 4096 (omega arith)))
+
+pub named-clamped : (a b : ℕ) → namedOf (min a 65535) (min b 65535) ≡ namedOf a b
+named-clamped a b = clamped-to (λ m. namedOf m (min b 65535)) 65535 a (refused 7 0) first ∙ clamped-to (namedOf a) 65535 b (refused 7 0) second
+  where
+    first : (m : ℕ) → 65535 ≤ m → namedOf m (min b 65535) ≡ refused 7 0
+    first m h = simp (le-ltb m 4096 (omega arith))
+
+    second : (m : ℕ) → 65535 ≤ m → namedOf a m ≡ refused 7 0
+    second m h = on-test (isWord a) (λ t. simp (t, le-ltb m 4096 (omega arith))) (λ t. simp t)
+
+no-line : (m : ℕ) → 65535 ≤ m → isLine m ≡ false
+no-line m h = is-above 1 1125 m (omega arith) (omega arith)
+
+pub numbered-clamped : (n : ℕ) → numberedOf (min n 65535) ≡ numberedOf n
+numbered-clamped n = clamped-to numberedOf 65535 n (refused 2 0) (λ m h. simp (no-line m h))
+
+pub placed-clamped : (l j : ℕ) → placedOf (min l 65535) (min j 65535) ≡ placedOf l j
+placed-clamped l j = clamped-to (λ m. placedOf m (min j 65535)) 65535 l (refused 2 0) line ∙ clamped-to (placedOf l) 65535 j (refused 2 0) sample
+  where
+    line : (m : ℕ) → 65535 ≤ m → placedOf m (min j 65535) ≡ refused 2 0
+    line m h = simp (is-above 1 2160 m (omega arith) (omega arith))
+
+    sample : (m : ℕ) → 65535 ≤ m → placedOf l m ≡ refused 2 0
+    sample m h = on-test (within 1 2160 l) (λ t. simp (t, lt-leb m 3839 (omega arith))) (λ t. simp t)
+
+pub row-clamped : (n : ℕ) → isActive (min n 65535) ≡ rowOn n true false
+row-clamped n = clamped-to isActive 65535 n false (λ m h. is-above 42 1121 m (omega arith) (omega arith)) ∙ is-test (isActive n)
+  where
+    is-test : (t : Bool) → t ≡ cond t true false
+    is-test true = refl
+    is-test false = refl
+
+-- ---- formats
+
+unknown-number : (m depth : ℕ) → 255 ≤ m → isKnown (formatFrom m depth) ≡ false
+unknown-number m depth h = simp (is-above 1 3 m (omega arith) (omega arith))
+
+unknown-depth : (number m : ℕ) → 255 ≤ m → isKnown (formatFrom number m) ≡ false
+unknown-depth number m h = on-test (within 1 3 number) (λ t. simp (t, ten, twelve)) (λ t. simp t)
+  where
+    ten : eqb m 10 ≡ false
+    ten = ne-eqb m 10 (λ e. omega arith)
+
+    twelve : eqb m 12 ≡ false
+    twelve = ne-eqb m 12 (λ e. omega arith)
+
+-- what is the same for all unknown formats
+pub format-clamped : {A : Type 0} (g : Format → A) (x : A) → ((f : Format) → isKnown f ≡ false → g f ≡ x) → (number depth : ℕ)
+    → g (formatFrom (min number 255) (min depth 255)) ≡ g (formatFrom number depth)
+format-clamped g x is number depth =
+    clamped-to (λ m. g (formatFrom m (min depth 255))) 255 number x (λ m h. is (formatFrom m (min depth 255)) (unknown-number m (min depth 255) h))
+    ∙ clamped-to (λ m. g (formatFrom number m)) 255 depth x (λ m h. is (formatFrom number m) (unknown-depth number m h))
+
+module _ (number depth : ℕ) where
+  abbrev clipped : Format
+  clipped = formatFrom (min number 255) (min depth 255)
+
+  abbrev asGiven : Format
+  asGiven = formatFrom number depth
+
+  pub lengths-clamped : lengthsOf clipped ≡ lengthsOf asGiven
+  lengths-clamped = format-clamped lengthsOf (refused 1 0) (λ f t. simp t) number depth
+
+  module _ (row : List ℕ) where
+    pub fill-clamped : fillOf clipped row ≡ fillOf asGiven row
+    fill-clamped = format-clamped (λ f. fillOf f row) (refused 1 0) (λ f t. simp t) number depth
+
+    pub filled-clamped : filledRow clipped row ≡ filledRow asGiven row
+    filled-clamped = format-clamped (λ f. filledRow f row) row (λ f t. simp t) number depth
+
+  module _ (symbols : List ℕ) where
+    pub judge-clamped : judgeOf clipped symbols ≡ judgeOf asGiven symbols
+    judge-clamped = format-clamped (λ f. judgeOf f symbols) (refused 1 0) (λ f t. simp t) number depth
+
+    pub read-clamped : (room : ℕ) → readOf clipped symbols room ≡ readOf asGiven symbols room
+    read-clamped room = format-clamped (λ f. readOf f symbols room) (refused 1 0) (λ f t. simp t) number depth
+
+    pub rows-clamped : (rows : List ℕ) → rowsRead clipped symbols rows ≡ rowsRead asGiven symbols rows
+    rows-clamped rows = format-clamped (λ f. rowsRead f symbols rows) rows (λ f t. simp t) number depth
+
+    module _ (start : ℕ) where
+      pub find-clamped : findOf clipped symbols start ≡ findOf asGiven symbols start
+      find-clamped = format-clamped (λ f. findOf f symbols start) (refused 1 0) (λ f t. simp t) number depth
+
+      pub next-clamped : (room : ℕ) → nextOf clipped symbols start room ≡ nextOf asGiven symbols start room
+      next-clamped room = format-clamped (λ f. nextOf f symbols start room) (refused 1 0) (λ f t. simp t) number depth
+
+      pub after-clamped : (room : ℕ) → afterNext clipped symbols start room ≡ afterNext asGiven symbols start room
+      after-clamped room = format-clamped (λ f. afterNext f symbols start room) start (λ f t. simp t) number depth
+
+      pub next-rows-clamped : (rows : List ℕ) → rowsNext clipped symbols start rows ≡ rowsNext asGiven symbols start rows
+      next-rows-clamped rows = format-clamped (λ f. rowsNext f symbols start rows) rows (λ f t. simp t) number depth
+
+-- ---- sending: a format and a line
+
+module _ (d : Disparity) (content : Content) (samples : List ℕ) where
+  -- where there is no such line, what is answered and left does not depend on its number
+  lineless : (f : Format) (room m : ℕ) → 65535 ≤ m → sendOf d f (request m content samples) room ≡ cond (isKnown f) (refused 2 0) (refused 1 0)
+  lineless f room m h = on-test (isKnown f) (λ t. simp (t, no-line m h)) (λ t. simp t)
+
+  untouched : (f : Format) (symbols : List ℕ) (m : ℕ) → 65535 ≤ m → sentBuffer d f (request m content samples) symbols ≡ symbols
+  untouched f symbols m h = on-test (isKnown f) (λ t. simp (t, no-line m h)) (λ t. simp t)
+
+  module _ (number depth line : ℕ) where
+    pub send-clamped : (room : ℕ)
+        → sendOf d (clipped number depth) (request (min line 65535) content samples) room
+        ≡ sendOf d (asGiven number depth) (request line content samples) room
+    send-clamped room =
+        format-clamped (λ f. sendOf d f (request (min line 65535) content samples) room) (refused 1 0) (λ f t. simp t) number depth
+        ∙ clamped-to (λ n. sendOf d (asGiven number depth) (request n content samples) room) 65535 line _ (lineless (asGiven number depth) room)
+
+    pub sent-clamped : (symbols : List ℕ)
+        → sentBuffer d (clipped number depth) (request (min line 65535) content samples) symbols
+        ≡ sentBuffer d (asGiven number depth) (request line content samples) symbols
+    sent-clamped symbols =
+        format-clamped (λ f. sentBuffer d f (request (min line 65535) content samples) symbols) symbols (λ f t. simp t) number depth
+        ∙ clamped-to (λ n. sentBuffer d (asGiven number depth) (request n content samples) symbols) 65535 line symbols
+        (untouched (asGiven number depth) symbols)
