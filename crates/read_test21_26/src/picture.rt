@@ -1,7 +1,4 @@
-// The picture words of a window, taken out of its interleaved pairs stream by stream while the CRC of each stream runs over them.
-use crcc::sums::Sums;
-use span::format::Format;
-use span::format::Shape;
+// Test 25: whether the words of a picture may be those of samples.
 ghost use mathlib.Core.Path.{_≡_};
 ghost use Prim.Native.Nat.{_+_, _<_};
 ghost use Rattle.read_test21_26.specs.Inside.Picture.{allAllowed, wrongFlag};
