@@ -9,7 +9,8 @@ use native.Mathlib.Omega.{arith}
 use lib.Dec.{eqb, ltb}
 use lib.ListN.{length, getD}
 use borrow.Author.Tests.{eqb-true, eqb-false, eq-eqb, ne-eqb, not-false, ltb-true, ltb-false}
-use Rattle.ground.specs.Answer.{Answer, refused, given}
+use Rattle.ground.specs.Answer.{Answer, refused}
+use Rattle.read_test21_26.specs.Inside.Holds.{given}
 use Rattle.ground.specs.Range.{within}
 use Rattle.ground.proofs.Cases.{on-test}
 use Rattle.ground.proofs.Ranges.{is-within, not-within, from-low, to-high, outside}
@@ -17,9 +18,9 @@ use Rattle.line.specs.Stream.{isLine, isActive}
 use Rattle.symbol.specs.declared.disparity.Disparity.{Disparity}
 use Rattle.span.specs.declared.format.Format.{Format}
 use Rattle.span.specs.Format.{isKnown, numbered, shapeOf, samplesIn, symbolsIn}
+use Rattle.span.specs.Inside.Sample.{boundsOf}
 use Rattle.span.specs.Span.{spanAfter}
 use Rattle.span.specs.Stream.{Request}
-use Rattle.span.specs.Inside.Sample.{boundsOf}
 use Rattle.span.proofs.Formats.{is-known, known-told}
 use Rattle.send.specs.Check.{firstOutside}
 use Rattle.send.specs.Send.{Good, sendOf}

@@ -1,83 +1,123 @@
--- The picture words put word by word.
+-- The picture words put pair by pair.
 -- Assumes nothing.
 use mathlib.Core.Path.{_≡_, refl, sym, ap, ap₂, _∙_}
-use mathlib.Core.List.{List, _++_}
-use Prim.Native.Nat.{ℕ, zero, suc, _+_, _*_, _≤_}
+use mathlib.Core.List.{List, [], _∷_, _++_}
+use Prim.Native.Nat.{ℕ, zero, suc, _+_, _*_, _/_, _%_, _≤_, _<_}
+use native.Mathlib.Nat.{mul-zero, mul-suc}
 use native.Mathlib.Omega.{arith}
 use lib.ListN.{length, getD}
 use borrow.Author.Tests.{eq-eqb, ne-eqb}
 use Rattle.ground.specs.Written.{upto}
-use Rattle.ground.proofs.Writing.{upto-more, length-upto}
+use Rattle.ground.proofs.Writing.{upto-more, upto-split, upto-same, length-upto}
 use Rattle.encoder.specs.Inside.Tables.{offsetOf, ofOffset}
 use Rattle.span.specs.Encoding.{symbolsFrom, afterRun}
 use Rattle.crcc.specs.Crcc.{crc}
-use Rattle.crcc.specs.declared.sums.Sums.{Sums}
+use Rattle.crcc.specs.Inside.Sums.{sumIn}
+use Rattle.row_crc.specs.Inside.Sums.{streamRow}
 use Rattle.row_crc.specs.Inside.Sums.{sumsIn}
-use Rattle.send.specs.declared.picture.Passed.{Passed}
-use Rattle.send.specs.Put.{behind, put, pairChars, groupChars, wordAt, pairAt, pictureChars, passedAt}
-use Rattle.send.proofs.Putting.{Put, made, renamed, then, length-group, group-of-two, group-of-four}
+use Rattle.send.specs.Put.{offsetAfter, put, pairChars, groupChars, pictureWord, pairCharsAt, pictureChars}
+use Rattle.send.proofs.Putting.{Put, made, renamed, then, length-group}
 
-module _ (half : ℕ) (w : ℕ → ℕ → ℕ) where
-  more-chars : (n : ℕ) → pictureChars half n w ++ groupChars half (λ t. w t n) ≡ pictureChars half (n + 1) w
-  unfolding pictureChars
-  more-chars n = sym (upto-more n (λ j. groupChars half (λ t. w t j)))
+pub length-picture : (half : ℕ) (w : ℕ → ℕ → ℕ) (n : ℕ) → length (pictureChars half n w) ≡ 3 * half * n
+unfolding pictureChars
+length-picture half w n =
+    length-upto (3 * half) (λ j. groupChars half (λ t. w t j)) (λ j. length-group half (λ t. w t j)) n
 
-  pub length-picture : (n : ℕ) → length (pictureChars half n w) ≡ 3 * half * n
-  unfolding pictureChars
-  length-picture n =
-      length-upto (3 * half) (λ j. groupChars half (λ t. w t j)) (λ j. length-group half (λ t. w t j)) n
+-- where pair m of those sent, word by word, has its first word
+abbrev pairPlace : ℕ → ℕ → ℕ
+pairPlace half m = 3840 * (m % half) + m / half
 
--- the first n words of each stream are put
-pub record Done (d : ℕ) (ws : List ℕ) (at : ℕ) (before : List ℕ) (half n o : ℕ) (out : List ℕ) : Type 0 where
-  pub done : Put d (pictureChars half n (wordAt ws)) at before o out
+-- pair u of word n
+place-is : (half : ℕ) → 1 ≤ half → half ≤ 2 → (n u : ℕ) → u < half → pairPlace half (half * n + u) ≡ 3840 * u + n
+place-is zero some few n u h = absurd (omega arith)
+place-is (suc zero) some few n u h = omega arith
+place-is (suc (suc zero)) some few n u h = omega arith
+place-is (suc (suc (suc half))) some few n u h = absurd (omega arith)
+
+-- the words of all streams are these pairs
+picture-pairs : (half : ℕ) → 1 ≤ half → half ≤ 2 → (ws : List ℕ) (n : ℕ)
+    → pictureChars half n (pictureWord ws) ≡ upto (half * n) (λ m. pairCharsAt ws (pairPlace half m))
+unfolding pictureChars groupChars upto
+picture-pairs half some few ws zero = rw mul-zero
+picture-pairs half some few ws (suc n) =
+    let pair : ℕ → List ℕ = λ m. pairCharsAt ws (pairPlace half m) in
+    let word : ℕ → List ℕ = λ u. pairChars (pictureWord ws (2 * u) n) (pictureWord ws (2 * u + 1) n) in
+    let group : upto half word ≡ upto half (λ u. pair (half * n + u)) =
+    upto-same half word (λ u. pair (half * n + u))
+    (λ u h.
+    let this = place-is half some few n u h in
+    ap₂ (λ (x y : ℕ). pairChars (getD ws x 0) (getD ws y 0)) (omega (arith, this)) (omega (arith, this))) in
+    ap₂ (λ (x y : List ℕ). x ++ y) (picture-pairs half some few ws n) group
+    ∙ upto-split (half * n) half pair
+    ∙ ap (λ (m : ℕ). upto m pair) (sym (mul-suc half n))
+
+-- the first m pairs are put
+pub record Done (d : ℕ) (ws : List ℕ) (at : ℕ) (before : List ℕ) (half m o : ℕ) (out : List ℕ) : Type 0 where
+  pub done : Put d (upto m (λ k. pairCharsAt ws (pairPlace half k))) at before o out
 
 pub none-done : {d : ℕ} (ws : List ℕ) (at : ℕ) (before : List ℕ) (half : ℕ) → d ≡ offsetOf (ofOffset d) → Done d ws at before half 0 d before
-unfolding behind put pictureChars upto symbolsFrom afterRun
+unfolding offsetAfter put upto symbolsFrom afterRun
 none-done ws at before half o = record { done = record { offset = o; out = refl } }
 
--- a pair of words by its places
-pair-at : (ws : List ℕ) (i k j l : ℕ) → i ≡ k → j ≡ l → pairChars (getD ws i 0) (getD ws j 0) ≡ pairChars (getD ws k 0) (getD ws l 0)
-pair-at ws i k j l p q = ap₂ (λ (x y : ℕ). pairChars (getD ws x 0) (getD ws y 0)) p q
+-- what a call for the pair at place i puts into the buffer from a symbol on
+abbrev Puts : List ℕ → ℕ → ℕ → List ℕ → ℕ → ℕ → List ℕ → Type 0
+Puts ws o place out i q end = (q ≡ offsetAfter o (pairCharsAt ws i)) × (end ≡ put o (pairCharsAt ws i) place out)
 
-module _ {d at n o : ℕ} {ws before out : List ℕ} where
-  -- a word more of each stream
-  all-more : {half q place : ℕ} {end : List ℕ} → Done d ws at before half n o out → place ≡ at + 3 * half * n
-      → Put o (groupChars half (λ t. wordAt ws t n)) place out q end → Done d ws at before half (n + 1) q end
-  all-more {half} k here e =
-      record {
-        done = renamed (sym (more-chars half (wordAt ws) n)) (then (k .done) (here ∙ ap (λ (m : ℕ). at + m) (sym (length-picture half (wordAt ws) n))) e);
-      }
+module _ {d at half : ℕ} {ws before : List ℕ} where
+  pair-more : {m o q : ℕ} {out end : List ℕ} → Done d ws at before half m o out → (i place n : ℕ) → i ≡ pairPlace half m → place ≡ at + 3 * m
+      → n ≡ m + 1
+      → Puts ws o place out i q end
+      → Done d ws at before half n q end
+  pair-more {m} k i place n this here count e =
+      let pair : ℕ → List ℕ = λ k. pairCharsAt ws (pairPlace half k) in
+      let chars : upto n pair ≡ upto m pair ++ pairCharsAt ws i =
+      ap (λ (n : ℕ). upto n pair) count ∙ upto-more m pair ∙ ap (λ (x : ℕ). upto m pair ++ pairCharsAt ws x) (sym this) in
+      record { done = renamed chars (then (k .done) (omega (arith, length-upto 3 pair (λ m. refl) m)) (made e)) }
 
-  -- of two streams, as the call puts it
-  pub two-more : Done d ws at before 1 n o out → (i place : ℕ) → i ≡ n → place ≡ at + 3 * n → {q : ℕ} {end : List ℕ}
-      → (q ≡ behind o (pairAt ws i)) × (end ≡ put o (pairAt ws i) place out)
-      → Done d ws at before 1 (n + 1) q end
-  two-more k i place this here e =
-      let chars : groupChars 1 (λ t. wordAt ws t n) ≡ pairAt ws i =
-      group-of-two (λ t. wordAt ws t n) ∙ pair-at ws (1920 * 0 + n) i (1920 * 1 + n) (i + 1920) (omega arith) (omega arith) in
-      all-more k here (renamed chars (made e))
+  -- a turn of a loop: the next four pairs, twelve symbols
+  pub four-more : {m o x y z q : ℕ} {out out1 out2 out3 end : List ℕ} → Done d ws at before half m o out → (i0 i1 i2 i3 place next : ℕ)
+      → i0 ≡ pairPlace half m
+      → i1 ≡ pairPlace half (m + 1)
+      → i2 ≡ pairPlace half (m + 2)
+      → i3 ≡ pairPlace half (m + 3)
+      → place ≡ at + 3 * m
+      → next ≡ m + 4
+      → Puts ws o place out i0 x out1
+      → Puts ws x (place + 3) out1 i1 y out2
+      → Puts ws y (place + 6) out2 i2 z out3
+      → Puts ws z (place + 9) out3 i3 q end
+      → Done d ws at before half next q end
+  four-more {m} k i0 i1 i2 i3 place next p0 p1 p2 p3 here count e0 e1 e2 e3 =
+      let k1 = pair-more k i0 place (m + 1) p0 here (omega arith) e0 in
+      let k2 = pair-more k1 i1 (place + 3) (m + 2) p1 (omega arith) (omega arith) e1 in
+      let k3 = pair-more k2 i2 (place + 6) (m + 3) p2 (omega arith) (omega arith) e2 in
+      pair-more k3 i3 (place + 9) next p3 (omega arith) (omega arith) e3
 
-  -- of four, as two calls do
-  pub four-more : Done d ws at before 2 n o out → (i j place next : ℕ) → i ≡ n → j ≡ 3840 + n → place ≡ at + 6 * n → next ≡ place + 3
-      → {q r : ℕ} {mid end : List ℕ}
-      → (q ≡ behind o (pairAt ws i)) × (mid ≡ put o (pairAt ws i) place out)
-      → (r ≡ behind q (pairAt ws j)) × (end ≡ put q (pairAt ws j) next mid)
-      → Done d ws at before 2 (n + 1) r end
-  four-more k i j place next this other here there x y =
-      let chars : groupChars 2 (λ t. wordAt ws t n) ≡ pairAt ws i ++ pairAt ws j =
-      group-of-four (λ t. wordAt ws t n)
-      ∙ ap₂ (λ (a b : List ℕ). a ++ b)
-      (pair-at ws (1920 * 0 + n) i (1920 * 1 + n) (i + 1920) (omega arith) (omega arith))
-      (pair-at ws (1920 * 2 + n) j (1920 * 3 + n) (j + 1920) (omega arith) (omega arith)) in
-      all-more k here (renamed chars (then (made x) there (made y)))
+  -- all of them are put
+  pub all-done : {m o : ℕ} {out : List ℕ} → 1 ≤ half → half ≤ 2 → m ≡ half * 1920 → Done d ws at before half m o out
+      → Put d (pictureChars half 1920 (pictureWord ws)) at before o out
+  all-done {m} some few past k =
+      renamed (picture-pairs half some few ws 1920 ∙ ap (λ (m : ℕ). upto m (λ k. pairCharsAt ws (pairPlace half k))) (sym past)) (k .done)
 
--- the whole picture, with the CRC of each stream
-pub picture-passed : (half d : ℕ) (ws : List ℕ) {o : ℕ} {s : Sums} → 1 ≤ half → half ≤ 2 → length ws ≡ 3840 * half
-    → o ≡ behind d (pictureChars half 1920 (wordAt ws)) → s ≡ sumsIn ws
-    → _≡_ {A = Passed} (record { offset = o; first = s .first; second = s .second; third = s .third; fourth = s .fourth }) (passedAt half d (wordAt ws) 1920)
-unfolding crc
-picture-passed zero d ws h l long e is = absurd (omega arith)
-picture-passed (suc zero) d ws h l long e is = rw (is, eq-eqb (length ws) 3840 (omega arith), e) refl
-picture-passed (suc (suc zero)) d ws h l long e is =
-    rw (is, ne-eqb (length ws) 3840 (λ z. absurd (omega arith)), eq-eqb (length ws) 7680 (omega arith), e) refl
-picture-passed (suc (suc (suc half))) d ws h l long e is = absurd (omega arith)
+-- the CRC of each stream: of two, or of four
+pub sum-is : (half : ℕ) (ws : List ℕ) → 1 ≤ half → half ≤ 2 → length ws ≡ 3840 * half → (t : ℕ) → t < 2 * half
+    → crc 0 (streamRow ws t) ≡ sumIn (sumsIn ws) t
+sum-is zero ws h l long t b = absurd (omega arith)
+sum-is (suc zero) ws h l long t b = rw (eq-eqb (length ws) 3840 (omega arith)) (each t b)
+  where
+    each : (t : ℕ) → t < 2 → crc 0 (streamRow ws t) ≡ getD (crc 0 (streamRow ws 0) ∷ crc 0 (streamRow ws 1) ∷ 0 ∷ []) t 0
+    each zero b = refl
+    each (suc zero) b = refl
+    each (suc (suc t)) b = absurd (omega arith)
+sum-is (suc (suc zero)) ws h l long t b =
+    rw (ne-eqb (length ws) 3840 (λ z. absurd (omega arith)), eq-eqb (length ws) 7680 (omega arith)) (each t b)
+  where
+    each : (t : ℕ) → t < 4
+        → crc 0 (streamRow ws t)
+        ≡ getD (crc 0 (streamRow ws 0) ∷ crc 0 (streamRow ws 1) ∷ crc 0 (streamRow ws 2) ∷ []) t (crc 0 (streamRow ws 3))
+    each zero b = refl
+    each (suc zero) b = refl
+    each (suc (suc zero)) b = refl
+    each (suc (suc (suc zero))) b = refl
+    each (suc (suc (suc (suc t)))) b = absurd (omega arith)
+sum-is (suc (suc (suc half))) ws h l long t b = absurd (omega arith)

@@ -15,16 +15,16 @@ use Rattle.packing.specs.Bytes.{bytesOf}
 use Rattle.span.specs.Encoding.{symbolsFrom, afterRun}
 use Rattle.span.proofs.Encoding.{symbols-append, after-append, length-symbols}
 use Rattle.send.specs.declared.coder.Three.{Three}
-use Rattle.send.specs.Put.{behind, put, pairChars, threeOf, groupChars}
+use Rattle.send.specs.Put.{offsetAfter, put, pairChars, threeOf, groupChars}
 
 -- the disparity that an offset behind a run stands for
-pub behind-is : (d : ℕ) (cs : List ℕ) → ofOffset (behind d cs) ≡ afterRun (ofOffset d) cs
-unfolding behind
-behind-is d cs = offset-again (afterRun (ofOffset d) cs)
+pub offset-after-is : (d : ℕ) (cs : List ℕ) → ofOffset (offsetAfter d cs) ≡ afterRun (ofOffset d) cs
+unfolding offsetAfter
+offset-after-is d cs = offset-again (afterRun (ofOffset d) cs)
 
 -- two runs, where the offset between them is the one that the first leaves
-pub one-offset : (d e : ℕ) (cs ds : List ℕ) → ofOffset e ≡ afterRun (ofOffset d) cs → behind e ds ≡ behind d (cs ++ ds)
-unfolding behind
+pub one-offset : (d e : ℕ) (cs ds : List ℕ) → ofOffset e ≡ afterRun (ofOffset d) cs → offsetAfter e ds ≡ offsetAfter d (cs ++ ds)
+unfolding offsetAfter
 one-offset d e cs ds t =
     ap (λ (x : Disparity). offsetOf (afterRun x ds)) t ∙ ap offsetOf (sym (after-append (ofOffset d) cs ds))
 
@@ -41,7 +41,7 @@ one-buffer d e at place cs ds before after t o q =
 
 -- what a call that puts a run of characters does: the offset behind it, and the buffer
 pub record Put (d : ℕ) (cs : List ℕ) (at : ℕ) (before : List ℕ) (e : ℕ) (after : List ℕ) : Type 0 where
-  pub offset : e ≡ behind d cs
+  pub offset : e ≡ offsetAfter d cs
   pub out : after ≡ put d cs at before
 
 module _ {d at e : ℕ} {cs before after : List ℕ} (p : Put d cs at before e after) where
@@ -51,18 +51,18 @@ module _ {d at e : ℕ} {cs before after : List ℕ} (p : Put d cs at before e a
   same-size = ap (λ (l : List ℕ). length l) (p .out) ∙ length-sets before at (symbolsFrom (ofOffset d) cs)
 
   pub told : ofOffset e ≡ afterRun (ofOffset d) cs
-  told = ap ofOffset (p .offset) ∙ behind-is d cs
+  told = ap ofOffset (p .offset) ∙ offset-after-is d cs
 
   -- the offset behind a run is one
   pub is-offset : e ≡ offsetOf (ofOffset e)
-  unfolding behind
+  unfolding offsetAfter
   is-offset = p .offset ∙ ap offsetOf (sym told)
 
   -- a run and the run behind it are one
   pub then : {place g : ℕ} {ds end : List ℕ} → place ≡ at + length cs → Put e ds place after g end → Put d (cs ++ ds) at before g end
   then {place} {g} {ds} {end} q r = record { offset = offsets; out = r .out ∙ buffers }
     where
-      offsets : g ≡ behind d (cs ++ ds)
+      offsets : g ≡ offsetAfter d (cs ++ ds)
       offsets = r .offset ∙ one-offset d e cs ds told
 
       buffers : put e ds place after ≡ put d (cs ++ ds) at before
@@ -78,14 +78,14 @@ whole {d} {cs} {before} p q =
 -- three characters, as the code stores them
 pub three-put : (d at : ℕ) (out : List ℕ) (x y z : ℕ) {t : Three} → t ≡ threeOf (ofOffset d) x y z
     → Put d (x ∷ y ∷ z ∷ []) at out (t .offset) (set (set (set out at (t .first)) (at + 1) (t .second)) (at + 2) (t .third))
-unfolding behind put threeOf
+unfolding offsetAfter put threeOf
 three-put d at out x y z p =
     let one : at + 1 ≡ suc at = omega arith in
     let two : at + 2 ≡ suc (suc at) = omega arith in
     record { offset = rw p; out = rw (p, one, two) }
 
 -- the two promises of a call as one
-pub made : {d at e : ℕ} {cs before after : List ℕ} → (e ≡ behind d cs) × (after ≡ put d cs at before) → Put d cs at before e after
+pub made : {d at e : ℕ} {cs before after : List ℕ} → (e ≡ offsetAfter d cs) × (after ≡ put d cs at before) → Put d cs at before e after
 made p = record { offset = p .0; out = p .1 }
 
 -- of a number whose low twelve bits are m, what stands above the lowest byte; and of that the lowest byte

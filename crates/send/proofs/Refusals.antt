@@ -7,16 +7,17 @@ use Prim.Native.Nat.{ℕ, _/_, _≤_, _<_}
 use native.Mathlib.Omega.{arith}
 use lib.ListN.{length, getD}
 use borrow.Author.Tests.{eq-eqb, ne-eqb}
-use Rattle.ground.specs.Answer.{refused, given, orElse}
+use Rattle.ground.specs.Answer.{refused, orElse}
+use Rattle.read_test21_26.specs.Inside.Holds.{given}
 use Rattle.ground.specs.Search.{firstBelow}
 use Rattle.ground.proofs.Searches.{miss}
 use Rattle.line.specs.Stream.{isLine}
 use Rattle.symbol.specs.declared.disparity.Disparity.{Disparity}
 use Rattle.span.specs.declared.format.Format.{Format}
 use Rattle.span.specs.Format.{isKnown, shapeOf, samplesIn, symbolsIn}
+use Rattle.span.specs.Inside.Sample.{boundsOf}
 use Rattle.span.specs.Span.{spanAfter}
 use Rattle.span.specs.Stream.{Request}
-use Rattle.span.specs.Inside.Sample.{boundsOf}
 use Rattle.span.proofs.Formats.{known-told}
 use Rattle.span.proofs.Samples.{allowed-is}
 use Rattle.send.specs.Check.{firstOutside}

@@ -1,23 +1,27 @@
 -- Pairs of one word again and again, where they leave the disparity as it was.
 -- Assumes nothing.
 use mathlib.Core.Path.{_≡_, refl, sym, ap, _∙_}
-use mathlib.Core.List.{List, _++_}
+use mathlib.Core.List.{List}
 use Prim.Native.Nat.{ℕ, _+_, _*_}
 use lib.ListN.{set}
 use lib.Seq.{sets}
 use Rattle.ground.specs.Written.{upto}
-use Rattle.ground.proofs.Writing.{sets-upto, upto-split}
+use Rattle.ground.proofs.Writing.{sets-upto}
 use Rattle.symbol.specs.declared.disparity.Disparity.{Disparity}
 use Rattle.symbol.specs.declared.disparity.Disparity.the-variants.{Negative, Positive}
 use Rattle.symbol.specs.Code.{afterOf}
 use Rattle.encoder.specs.Inside.Tables.{offsetOf, ofOffset}
+use Rattle.span.specs.declared.format.Format.{Format}
+use Rattle.span.specs.declared.format.Shape.{Shape}
 use Rattle.span.specs.Encoding.{symbolsFrom, afterRun}
+use Rattle.span.specs.Sample.{blankWord}
+use Rattle.span.specs.Span.{fillWord}
 use Rattle.span.proofs.Encoding.{same-again, stays, length-symbols}
 use Rattle.packing.specs.declared.bytes.ThreeBytes.{ThreeBytes}
 use Rattle.packing.specs.Bytes.{bytesOf}
 use Rattle.send.specs.declared.coder.Three.{Three}
-use Rattle.send.specs.Put.{behind, put, pairChars, runChars, threeOf, Stays}
-use Rattle.send.proofs.Putting.{Put, three-put}
+use Rattle.send.specs.Put.{offsetAfter, put, pairChars, runChars, threeOf, KeepsDisparity, blankingChars}
+use Rattle.send.proofs.Putting.{Put, one-offset, three-put}
 
 -- the symbols of a pair of the word
 abbrev pub pairOf : ℕ → ℕ → Three
@@ -46,40 +50,52 @@ module _ (d w : ℕ) (before : List ℕ) (at : ℕ) where
       ∙ sets-upto 3 (λ _. symbolsFrom (ofOffset d) (pairChars w w)) (λ m. length-symbols (ofOffset d) (pairChars w w)) before at (at + 3 * n) n refl
 
   -- all of them
-  pub all-again : Stays d w → (n : ℕ) → again n ≡ put d (runChars n w) at before
+  pub all-again : KeepsDisparity w → (n : ℕ) → again n ≡ put d (runChars n w) at before
   unfolding again put runChars
-  all-again s n = ap (sets before at) (sym (same-again (ofOffset d) (pairChars w w) (s .stays) n))
+  all-again s n = ap (sets before at) (sym (same-again (ofOffset d) (pairChars w w) (s .keeps (ofOffset d)) n))
 
--- blanking leaves the disparity as it was: its bytes are 00, 01 and 10
-blank-at : (e : Disparity) → afterRun e (pairChars 0x100 0x100) ≡ e
+-- told at each disparity
+kept : {w : ℕ} → afterRun Negative (pairChars w w) ≡ Negative → afterRun Positive (pairChars w w) ≡ Positive → KeepsDisparity w
+kept {w} negative positive = record { keeps = at }
+  where
+    at : (e : Disparity) → afterRun e (pairChars w w) ≡ e
+    at Negative = negative
+    at Positive = positive
+
+-- 000 of a timing code, the blanking word and the word of the fill leave the disparity as it was
+pub zero-stays : KeepsDisparity 0x000
 unfolding afterRun bytesOf afterOf
-blank-at Negative = refl
-blank-at Positive = refl
+zero-stays = kept refl refl
 
--- and so does 000, whose bytes are 00
-zero-at : (e : Disparity) → afterRun e (pairChars 0x000 0x000) ≡ e
+pub blank-stays : (f : Format) → KeepsDisparity (blankWord f)
 unfolding afterRun bytesOf afterOf
-zero-at Negative = refl
-zero-at Positive = refl
+blank-stays f = kept refl refl
 
-pub zero-stays : (d : ℕ) → Stays d 0x000
-zero-stays d = record { stays = zero-at (ofOffset d) }
+pub fill-stays : KeepsDisparity fillWord
+unfolding afterRun bytesOf afterOf
+fill-stays = kept refl refl
 
-pub blank-stays : (d : ℕ) → Stays d 0x100
-blank-stays d = record { stays = blank-at (ofOffset d) }
+-- a word that is told to be one of these
+pub keeps-too : {v w : ℕ} → v ≡ w → KeepsDisparity w → KeepsDisparity v
+keeps-too e k = rw e k
 
--- a run and the run behind it are one
-pub one-run : (m n w : ℕ) → runChars m w ++ runChars n w ≡ runChars (m + n) w
-unfolding runChars
-one-run m n w = upto-split m n (λ _. pairChars w w)
+module _ {d : ℕ} (o : d ≡ offsetOf (ofOffset d)) where
+  run-after : {w : ℕ} → KeepsDisparity w → (n : ℕ) → ofOffset d ≡ afterRun (ofOffset d) (runChars n w)
+  unfolding runChars
+  run-after {w} k n = sym (stays (ofOffset d) (pairChars w w) (k .keeps (ofOffset d)) n)
 
--- a run of pairs of such a word, as one run of characters
-pub run-made :
-    {d w at : ℕ} (n : ℕ) {before after : List ℕ}
-    → d ≡ offsetOf (ofOffset d)
-    → Stays d w
-    → after ≡ put d (runChars n w) at before
-    → Put d (runChars n w) at before d after
-unfolding behind runChars
-run-made {d} {w} n o s e =
-    record { offset = o ∙ ap offsetOf (sym (stays (ofOffset d) (pairChars w w) (s .stays) n)); out = e }
+  run-offset : {w : ℕ} → KeepsDisparity w → (n : ℕ) → d ≡ offsetAfter d (runChars n w)
+  unfolding offsetAfter
+  run-offset k n = o ∙ ap offsetOf (run-after k n)
+
+  -- a run of pairs of such a word, as one run of characters
+  pub run-made : {w at : ℕ} (n : ℕ) {before after : List ℕ} → KeepsDisparity w → after ≡ put d (runChars n w) at before
+      → Put d (runChars n w) at before d after
+  run-made n k e = record { offset = run-offset k n; out = e }
+
+  -- the ancillary area and the fill
+  pub blanking-made : {blank at : ℕ} (p : Shape) {before after : List ℕ} → KeepsDisparity blank → after ≡ put d (blankingChars p blank) at before
+      → Put d (blankingChars p blank) at before d after
+  blanking-made {blank} p k e =
+      let area : List ℕ = runChars (p .«stream_pairs» * p .ancillary) blank in
+      record { offset = run-offset fill-stays (p .«fill_pairs») ∙ one-offset d d area (runChars (p .«fill_pairs») fillWord) (run-after k (p .«stream_pairs» * p .ancillary)); out = e }

@@ -8,7 +8,7 @@ use lib.ListN.{length, getD, set}
 use lib.Seq.{sets}
 use Rattle.ground.specs.Written.{upto, table}
 use Rattle.ground.proofs.Writing.{sets-upto, sets-whole, length-table, getD-table, is-table}
-use Rattle.send.specs.Put.{wordsOf, AreWords, Fits}
+use Rattle.send.specs.Put.{scaledWords, AreWords, Fits}
 
 module _ (factor : ℕ) (xs : List ℕ) where
   -- the room with the first n words in it
@@ -26,18 +26,18 @@ module _ (factor : ℕ) (xs : List ℕ) where
     one-word n = sets-upto 1 (λ i. getD xs i 0 * factor ∷ []) (λ m. refl) room 0 n n (omega arith)
 
     -- all of them
-    pub all-words : length room ≡ length xs → wordsUpto room (length xs) ≡ wordsOf factor xs
-    unfolding wordsUpto wordsOf table
-    all-words e = sets-whole room (wordsOf factor xs) (length-table (length xs) (λ i. getD xs i 0 * factor) ∙ sym e)
+    pub all-words : length room ≡ length xs → wordsUpto room (length xs) ≡ scaledWords factor xs
+    unfolding wordsUpto scaledWords table
+    all-words e = sets-whole room (scaledWords factor xs) (length-table (length xs) (λ i. getD xs i 0 * factor) ∙ sym e)
 
   -- what is known of a list that is the words of samples
-  module _ {ws : List ℕ} (is : ws ≡ wordsOf factor xs) where
+  module _ {ws : List ℕ} (is : ws ≡ scaledWords factor xs) where
     pub length-words : length ws ≡ length xs
-    unfolding wordsOf
+    unfolding scaledWords
     length-words = ap (λ (l : List ℕ). length l) is ∙ length-table (length xs) (λ i. getD xs i 0 * factor)
 
     pub are-words : Fits factor xs → AreWords ws
-    unfolding wordsOf
+    unfolding scaledWords
     are-words f =
         record {
           below = λ i h.
@@ -46,6 +46,6 @@ module _ (factor : ℕ) (xs : List ℕ) where
         }
 
 -- by the factor 1 they are words as they are
-pub as-they-are : {factor : ℕ} (xs : List ℕ) → factor ≡ 1 → xs ≡ wordsOf factor xs
-unfolding wordsOf
+pub as-they-are : {factor : ℕ} (xs : List ℕ) → factor ≡ 1 → xs ≡ scaledWords factor xs
+unfolding scaledWords
 as-they-are {factor} xs e = is-table (length xs) (λ i. getD xs i 0 * factor) 0 xs refl (λ i h. rw e (omega arith))

@@ -7,33 +7,34 @@ use Prim.Native.Nat.{ℕ, _*_, _≤_}
 use native.Mathlib.Omega.{arith}
 use lib.ListN.{length, length-append}
 use Rattle.ground.proofs.Writing.{length-upto}
+use Rattle.crcc.specs.declared.sums.Sums.{Sums}
+use Rattle.crcc.specs.Inside.Sums.{sumIn}
 use Rattle.line.specs.Stream.{vOf}
 use Rattle.word.specs.declared.line_number.LineWords.{LineWords}
 use Rattle.word.specs.LineNumber.{lineWords}
 use Rattle.word.specs.Timing.{timing}
 use Rattle.span.specs.declared.content.ContentBytes.{ContentBytes}
-use Rattle.send.specs.declared.picture.Passed.{Passed}
-use Rattle.send.specs.Put.{pairChars, timingChars, groupChars, crccBehind, sumIn, crccChars, behindChars, runChars}
+use Rattle.send.specs.Put.{pairChars, timingChars, groupChars, crccAfter, crccChars, behindChars, runChars}
 use Rattle.send.proofs.Putting.{length-group}
 use Rattle.send.proofs.TimingCodes.{length-timing}
 
-length-crcc : (half : ℕ) (p : Passed) (xyz : ℕ) (n : LineWords) → length (crccChars half p xyz n) ≡ 6 * half
+length-crcc : (half : ℕ) (s : Sums) (xyz : ℕ) (n : LineWords) → length (crccChars half s xyz n) ≡ 6 * half
 unfolding crccChars
-length-crcc half p xyz n =
-    let first : ℕ → ℕ = λ t. crccBehind (sumIn p t) xyz n .crcc0 in
-    let second : ℕ → ℕ = λ t. crccBehind (sumIn p t) xyz n .crcc1 in
+length-crcc half s xyz n =
+    let first : ℕ → ℕ = λ t. crccAfter (sumIn s t) xyz n .crcc0 in
+    let second : ℕ → ℕ = λ t. crccAfter (sumIn s t) xyz n .crcc1 in
     length-append (groupChars half first) (groupChars half second) ∙ omega (arith, length-group half first, length-group half second)
 
-pub length-behind : (half : ℕ) → 1 ≤ half → half ≤ 2 → (p : Passed) (m : ℕ) (content : ContentBytes)
-    → length (behindChars half p m content) ≡ 24 * half
+pub length-behind : (half : ℕ) → 1 ≤ half → half ≤ 2 → (s : Sums) (m : ℕ) (content : ContentBytes)
+    → length (behindChars half s m content) ≡ 24 * half
 unfolding behindChars
-length-behind half some few p m content =
+length-behind half some few s m content =
     let xyz : ℕ = timing (vOf m) true in
     let n : LineWords = lineWords m in
     let code : List ℕ = timingChars half 266 (content .eav1) (content .eav2) xyz in
     let g0 : List ℕ = groupChars half (λ _. n .ln0) in
     let g1 : List ℕ = groupChars half (λ _. n .ln1) in
-    let sums : List ℕ = crccChars half p xyz n in
+    let sums : List ℕ = crccChars half s xyz n in
     length-append code (g0 ++ (g1 ++ sums))
     ∙ omega (
       arith,
@@ -42,7 +43,7 @@ length-behind half some few p m content =
       length-timing half 266 (content .eav1) (content .eav2) xyz some few,
       length-group half (λ _. n .ln0),
       length-group half (λ _. n .ln1),
-      length-crcc half p xyz n,
+      length-crcc half s xyz n,
     )
 
 pub length-run : (n w : ℕ) → length (runChars n w) ≡ 3 * n

@@ -1,12 +1,12 @@
 -- The characters of a span as the sender puts them: part behind part, each over half the streams.
 -- Assumes nothing.
 use mathlib.Core.Path.{_≡_, refl, sym, ap, ap₂, _∙_}
-use mathlib.Core.Bool.{Bool, true, false, cond}
-use mathlib.Core.List.{List, [], _++_, append-assoc}
-use Prim.Native.Nat.{ℕ, zero, suc, _+_, _*_, _/_, _≤_, _<_}
+use mathlib.Core.Bool.{true, false}
+use mathlib.Core.List.{List, _++_, append-assoc}
+use Prim.Native.Nat.{ℕ, _+_, _*_, _/_, _≤_, _<_}
 use native.Mathlib.Omega.{arith}
 use lib.ListN.{length, getD}
-use borrow.Author.Tests.{lt-ltb, not-false}
+use borrow.Author.Tests.{not-false}
 use Rattle.ground.specs.Written.{upto, table}
 use Rattle.ground.proofs.Writing.{getD-table, upto-same, table-same}
 use Rattle.line.specs.Stream.{vOf, lineAfter}
@@ -15,7 +15,9 @@ use Rattle.encoder.specs.Inside.Tables.{offsetOf, ofOffset}
 use Rattle.encoder.proofs.Entries.{offset-again}
 use Rattle.crcc.specs.declared.crcc.CrccWords.{CrccWords}
 use Rattle.crcc.specs.Crcc.{crc, crccWords}
+use Rattle.crcc.specs.Inside.Sums.{sumIn}
 use Rattle.crcc.proofs.Crc.{crc-append}
+use Rattle.row_crc.specs.Inside.Sums.{sumsIn}
 use Rattle.word.specs.LineNumber.{lineWords}
 use Rattle.word.specs.Timing.{timing}
 use Rattle.span.specs.declared.content.Content.{Content}
@@ -25,20 +27,20 @@ use Rattle.span.specs.declared.format.Shape.{Shape}
 use Rattle.span.specs.Content.{contentOf}
 use Rattle.span.specs.Format.{isKnown, shapeOf, samplesIn, symbolsIn}
 use Rattle.span.specs.Encoding.{symbolsFrom, afterRun}
-use Rattle.span.specs.Sample.{allowed, sampleWord}
-use Rattle.span.specs.Span.{interleaved, bytes, charsFromSav, charsFromEav, spanChars, spanSymbols, spanAfter}
-use Rattle.span.specs.Stream.{Request, picture, eav, lineNumber, register, crcc}
+use Rattle.span.specs.Sample.{allowed, sampleWord, blankWord}
 use Rattle.span.specs.Inside.Sample.{boundsOf}
+use Rattle.span.specs.Span.{interleaved, fillWord, bytes, charsFromSav, charsFromEav, spanChars, spanSymbols, spanAfter}
+use Rattle.span.specs.Stream.{Request, picture, eav, lineNumber, register, crcc}
 use Rattle.span.proofs.Formats.{Known, known-told, small}
 use Rattle.span.proofs.Lengths.{known-has-streams, length-chars}
 use Rattle.span.proofs.Packing.{bytes-interleaved, bytes-replicate}
 use Rattle.span.proofs.Parts.{parts-from-sav, parts-from-eav, blank-area}
 use Rattle.span.proofs.Samples.{word-is, word-below}
-use Rattle.send.specs.declared.picture.Passed.{Passed}
-use Rattle.send.specs.Put.{timingChars, groupChars, wordsOf, wordAt, pictureChars, sumOf, passedAt, crccBehind, sumIn, crccChars, behind, put, behindChars, runChars, wholeChars, spanPut, Fits}
+use Rattle.send.specs.Put.{timingChars, groupChars, scaledWords, pictureWord, pictureChars, crccAfter, crccChars, offsetAfter, put, behindChars, runChars, blankingChars, wholeChars, spanPut, Fits}
 use Rattle.send.specs.Send.{Good}
+use Rattle.send.proofs.Passing.{sum-is}
 use Rattle.send.proofs.Putting.{Put, made, renamed, told, whole, same-group}
-use Rattle.send.proofs.Runs.{one-run}
+use Rattle.send.proofs.Scaling.{length-words}
 
 -- what stands in brackets another way
 regroup : (t g h c r : List ℕ) → t ++ ((g ++ h) ++ (c ++ r)) ≡ (t ++ (g ++ (h ++ c))) ++ r
@@ -48,10 +50,13 @@ regroup t g h c r =
 
 module _ (f : Format) (a : Request) (good : Good f a) (factor : ℕ) (is : factor ≡ boundsOf f (a .line) .factor) where
   abbrev half : ℕ
-  half = shapeOf f .half
+  half = shapeOf f .«stream_pairs»
+
+  abbrev rows : List ℕ
+  rows = scaledWords factor (a .samples)
 
   abbrev w : ℕ → ℕ → ℕ
-  w = wordAt (wordsOf factor (a .samples))
+  w = pictureWord rows
 
   known : Known f
   known = known-told f (good .known)
@@ -65,7 +70,7 @@ module _ (f : Format) (a : Request) (good : Good f a) (factor : ℕ) (is : facto
 
   -- and the one that is sent
   sample-scaled : (t j : ℕ) → t < 2 * half → j < 1920 → sampleWord f (a .line) t (getD (a .samples) (1920 * t + j) 0) ≡ w t j
-  unfolding wordsOf
+  unfolding scaledWords
   sample-scaled t j l h =
       let x : ℕ = getD (a .samples) (1920 * t + j) 0 in
       let inside : 1920 * t + j < length (a .samples) = omega (arith, good .samples) in
@@ -88,14 +93,6 @@ module _ (f : Format) (a : Request) (good : Good f a) (factor : ℕ) (is : facto
   words-are t l =
       table-same 1920 (λ j. sampleWord f (a .line) t (getD (a .samples) (1920 * t + j) 0)) (w t) (λ j h. sample-scaled t j l h)
 
-  -- the CRC of a stream is the one that ran over its picture words, run on
-  register-is : (t : ℕ) → t < 2 * half → register f a t ≡ crc (sumOf half 1920 w t) (eav a ++ lineNumber a)
-  unfolding register
-  register-is t l =
-      sym (crc-append 0 (picture f a t) (eav a ++ lineNumber a))
-      ∙ ap (λ (ws : List ℕ). crc (crc 0 ws) (eav a ++ lineNumber a))
-      (words-are t l ∙ sym (ap (λ (b : Bool). cond b (table 1920 (w t)) []) (lt-ltb t (2 * half) l)))
-
   abbrev next : ℕ
   next = lineAfter (a .line)
 
@@ -108,79 +105,72 @@ module _ (f : Format) (a : Request) (good : Good f a) (factor : ℕ) (is : facto
   few : half ≤ 2
   few = small f refl .half
 
-  module _ (d : ℕ) where
-    abbrev passed : Passed
-    passed = passedAt half d w 1920
+  -- the CRC of a stream is the one that ran over its picture words, run on
+  register-is : (t : ℕ) → t < 2 * half → register f a t ≡ crc (sumIn (sumsIn rows) t) (eav a ++ lineNumber a)
+  unfolding register
+  register-is t l =
+      let long : length rows ≡ 3840 * half = omega (arith, length-words factor (a .samples) refl, good .samples) in
+      sym (crc-append 0 (picture f a t) (eav a ++ lineNumber a))
+      ∙ ap (λ (c : ℕ). crc c (eav a ++ lineNumber a)) (ap (crc 0) (words-are t l) ∙ sum-is half rows some few long t l)
 
-    -- up to four streams
-    sum-in : (t : ℕ) → t < 4 → sumOf half 1920 w t ≡ sumIn passed t
-    sum-in zero l = refl
-    sum-in (suc zero) l = refl
-    sum-in (suc (suc zero)) l = refl
-    sum-in (suc (suc (suc zero))) l = refl
-    sum-in (suc (suc (suc (suc t)))) l = absurd (omega arith)
+  crcc-words-are : (t : ℕ) → t < 2 * half → crccWords (register f a t) ≡ crccAfter (sumIn (sumsIn rows) t) xyz (lineWords next)
+  crcc-words-are t l = ap crccWords (register-is t l)
 
-    crcc-words-are : (t : ℕ) → t < 2 * half → crccWords (register f a t) ≡ crccBehind (sumIn passed t) xyz (lineWords next)
-    crcc-words-are t l =
-        ap crccWords (register-is t l)
-        ∙ ap (λ (c : ℕ). crccWords (crc c (eav a ++ lineNumber a))) (sum-in t (omega (arith, few)))
+  crcc-is : bytes (interleaved (2 * half) 2 (crcc f a)) ≡ crccChars half (sumsIn rows) xyz (lineWords next)
+  unfolding crccChars groupChars upto
+  crcc-is =
+      bytes-interleaved half 2 (crcc f a)
+      ∙ ap₂ (λ (x y : List ℕ). x ++ y)
+      (same-group half (λ t. crccWords (register f a t) .crcc0) (λ t. crccAfter (sumIn (sumsIn rows) t) xyz (lineWords next) .crcc0)
+      (λ t l. ap (λ (q : CrccWords). q .crcc0) (crcc-words-are t l)))
+      (same-group half (λ t. crccWords (register f a t) .crcc1) (λ t. crccAfter (sumIn (sumsIn rows) t) xyz (lineWords next) .crcc1)
+      (λ t l. ap (λ (q : CrccWords). q .crcc1) (crcc-words-are t l)))
 
-    crcc-is : bytes (interleaved (2 * half) 2 (crcc f a)) ≡ crccChars half passed xyz (lineWords next)
-    unfolding crccChars groupChars upto
-    crcc-is =
-        bytes-interleaved half 2 (crcc f a)
-        ∙ ap₂ (λ (x y : List ℕ). x ++ y)
-        (same-group half (λ t. crccWords (register f a t) .crcc0) (λ t. crccBehind (sumIn passed t) xyz (lineWords next) .crcc0)
-        (λ t l. ap (λ (q : CrccWords). q .crcc0) (crcc-words-are t l)))
-        (same-group half (λ t. crccWords (register f a t) .crcc1) (λ t. crccBehind (sumIn passed t) xyz (lineWords next) .crcc1)
-        (λ t l. ap (λ (q : CrccWords). q .crcc1) (crcc-words-are t l)))
+  number-is :
+      bytes (interleaved (2 * half) 2 (λ _. lineNumber a)) ≡ groupChars half (λ _. lineWords next .ln0) ++ groupChars half (λ _. lineWords next .ln1)
+  unfolding groupChars upto
+  number-is = bytes-interleaved half 2 (λ _. lineNumber a)
 
-    number-is :
-        bytes (interleaved (2 * half) 2 (λ _. lineNumber a)) ≡ groupChars half (λ _. lineWords next .ln0) ++ groupChars half (λ _. lineWords next .ln1)
-    unfolding groupChars upto
-    number-is = bytes-interleaved half 2 (λ _. lineNumber a)
+  abbrev content : ContentBytes
+  content = contentOf f (a .content)
 
-    abbrev content : ContentBytes
-    content = contentOf f (a .content)
+  abbrev blanks : List ℕ
+  blanks = blankingChars (shapeOf f) (blankWord f)
 
-    abbrev blanks : List ℕ
-    blanks = runChars (half * shapeOf f .ancillary + shapeOf f .fill) 0x100
+  eav-is : charsFromEav f a ≡ behindChars half (sumsIn rows) next content ++ blanks
+  unfolding timingChars behindChars runChars
+  eav-is =
+      parts-from-eav f a some
+      ∙ ap (λ (l : List ℕ). timingChars half 266 (content .eav1) (content .eav2) xyz ++ l)
+      (ap₂ (λ (x y : List ℕ). x ++ y) number-is
+      (ap₂ (λ (x y : List ℕ). x ++ y) crcc-is
+      (ap₂ (λ (x y : List ℕ). x ++ y) (blank-area f (a .line)) (bytes-replicate (shapeOf f .«fill_pairs») fillWord))))
+      ∙ regroup (timingChars half 266 (content .eav1) (content .eav2) xyz) (groupChars half (λ _. lineWords next .ln0)) (groupChars half (λ _. lineWords next .ln1))
+      (crccChars half (sumsIn rows) xyz (lineWords next)) blanks
 
-    eav-is : charsFromEav f a ≡ behindChars half passed next content ++ blanks
-    unfolding timingChars behindChars runChars
-    eav-is =
-        parts-from-eav f a some
-        ∙ ap (λ (l : List ℕ). timingChars half 266 (content .eav1) (content .eav2) xyz ++ l)
-        (ap₂ (λ (x y : List ℕ). x ++ y) number-is
-        (ap₂ (λ (x y : List ℕ). x ++ y) crcc-is
-        (ap₂ (λ (x y : List ℕ). x ++ y) (blank-area f (a .line)) (bytes-replicate (shapeOf f .fill) 0x100) ∙ one-run (half * shapeOf f .ancillary) (shapeOf f .fill) 0x100)))
-        ∙ regroup (timingChars half 266 (content .eav1) (content .eav2) xyz) (groupChars half (λ _. lineWords next .ln0)) (groupChars half (λ _. lineWords next .ln1))
-        (crccChars half passed xyz (lineWords next)) blanks
+  sav-is : charsFromSav f a ≡ timingChars half 261 (content .sav1) (content .sav2) (timing (vOf (a .line)) false) ++ pictureChars half 1920 w
+  unfolding timingChars
+  sav-is =
+      parts-from-sav f a some
+      ∙ ap (λ (l : List ℕ). timingChars half 261 (content .sav1) (content .sav2) (timing (vOf (a .line)) false) ++ l) picture-is
 
-    sav-is : charsFromSav f a ≡ timingChars half 261 (content .sav1) (content .sav2) (timing (vOf (a .line)) false) ++ pictureChars half 1920 w
-    unfolding timingChars
-    sav-is =
-        parts-from-sav f a some
-        ∙ ap (λ (l : List ℕ). timingChars half 261 (content .sav1) (content .sav2) (timing (vOf (a .line)) false) ++ l) picture-is
-
-    pub whole-is : spanChars f a
-        ≡ timingChars half 261 (content .sav1) (content .sav2) (timing (vOf (a .line)) false)
-        ++ (pictureChars half 1920 w ++ (behindChars half passed next content ++ blanks))
-    unfolding spanChars
-    whole-is =
-        ap₂ (λ (x y : List ℕ). x ++ y) sav-is eav-is
-        ∙ append-assoc (timingChars half 261 (content .sav1) (content .sav2) (timing (vOf (a .line)) false)) (pictureChars half 1920 w) (behindChars half passed next content ++ blanks)
+  pub whole-is : spanChars f a
+      ≡ timingChars half 261 (content .sav1) (content .sav2) (timing (vOf (a .line)) false)
+      ++ (pictureChars half 1920 w ++ (behindChars half (sumsIn rows) next content ++ blanks))
+  unfolding spanChars
+  whole-is =
+      ap₂ (λ (x y : List ℕ). x ++ y) sav-is eav-is
+      ∙ append-assoc (timingChars half 261 (content .sav1) (content .sav2) (timing (vOf (a .line)) false)) (pictureChars half 1920 w) (behindChars half (sumsIn rows) next content ++ blanks)
 
   -- what is put of its words is the span, and fills the buffer
-  pub span-put : (d : Disparity) {r : Disparity} (before : List ℕ) {ws after : List ℕ} → ws ≡ wordsOf factor (a .samples)
+  pub span-put : (d : Disparity) {r : Disparity} (before : List ℕ) {ws after : List ℕ} → ws ≡ scaledWords factor (a .samples)
       → length before ≡ symbolsIn (shapeOf f)
-      → (r ≡ ofOffset (behind (offsetOf d) (spanPut f d (a .line) (a .content) ws))) × (after ≡ put (offsetOf d) (spanPut f d (a .line) (a .content) ws) 0 before)
+      → (r ≡ ofOffset (offsetAfter (offsetOf d) (spanPut f (a .line) (a .content) ws))) × (after ≡ put (offsetOf d) (spanPut f (a .line) (a .content) ws) 0 before)
       → (r ≡ spanAfter d f a) × (after ≡ spanSymbols d f a)
   unfolding wholeChars spanAfter spanSymbols
   span-put d before {ws} q sized e =
-      let sav : List ℕ = timingChars half 261 (contentOf f (a .content) .sav1) (contentOf f (a .content) .sav2) (timing (vOf (a .line)) false) in
-      let names : spanPut f d (a .line) (a .content) ws ≡ spanChars f a =
-      ap (spanPut f d (a .line) (a .content)) q ∙ sym (whole-is (behind (offsetOf d) sav)) in
+      let names : spanPut f (a .line) (a .content) ws ≡ spanChars f a =
+      ap (spanPut f (a .line) (a .content)) q ∙ sym whole-is in
       let mine = renamed (sym names) (made (refl, e .1)) in
       let start : ofOffset (offsetOf d) ≡ d = offset-again d in (
         e .0 ∙ told mine ∙ ap (λ (e : Disparity). afterRun e (spanChars f a)) start,
@@ -189,13 +179,13 @@ module _ (f : Format) (a : Request) (good : Good f a) (factor : ℕ) (is : facto
 
 -- a shape, content bytes and an offset that are those asked for
 module _ (f : Format) {p : Shape} (is : p ≡ shapeOf f) where
-  pub streams-there : isKnown f ≡ true → 1 ≤ p .half
+  pub streams-there : isKnown f ≡ true → 1 ≤ p .«stream_pairs»
   streams-there known = rw is (known-has-streams f known)
 
-  pub words-there : {n : ℕ} → n ≡ samplesIn (shapeOf f) → n ≡ 3840 * p .half
+  pub words-there : {n : ℕ} → n ≡ samplesIn (shapeOf f) → n ≡ 3840 * p .«stream_pairs»
   words-there e = rw is (omega arith)
 
-  pub as-asked : (d : Disparity) (n : ℕ) (named : Content) (ws : List ℕ) {o e : ℕ} {c : ContentBytes} {before after : List ℕ} → o ≡ offsetOf d
-      → c ≡ contentOf f named → Put o (wholeChars p o (wordAt ws) n c) 0 before e after
-      → Put (offsetOf d) (spanPut f d n named ws) 0 before e after
-  as-asked d n named ws q t made = rw (is, q, t) at made
+  pub as-asked : (d : Disparity) (n : ℕ) (named : Content) (ws : List ℕ) {o e b : ℕ} {c : ContentBytes} {before after : List ℕ} → o ≡ offsetOf d
+      → c ≡ contentOf f named → b ≡ blankWord f → Put o (wholeChars p b ws n c) 0 before e after
+      → Put (offsetOf d) (spanPut f n named ws) 0 before e after
+  as-asked d n named ws q t u made = rw (is, q, t, u) at made

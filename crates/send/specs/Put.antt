@@ -5,7 +5,7 @@ use Prim.Native.Nat.{ℕ, _+_, _*_, _<_}
 use mathlib.Core.Path.{_≡_}
 use mathlib.Core.Bool.{true, false, cond}
 use mathlib.Core.List.{List, [], _∷_, _++_}
-use lib.Dec.{eqb, ltb}
+use lib.Dec.{eqb}
 use lib.ListN.{length, getD, drop}
 use lib.Seq.{sets}
 use Rattle.ground.specs.Written.{upto, table}
@@ -17,7 +17,10 @@ use Rattle.encoder.specs.Inside.Tables.{offsetOf, ofOffset}
 use Rattle.packing.specs.Bytes.{bytesOf}
 use Rattle.line.specs.Stream.{vOf, lineAfter}
 use Rattle.crcc.specs.declared.crcc.CrccWords.{CrccWords}
+use Rattle.crcc.specs.declared.sums.Sums.{Sums}
 use Rattle.crcc.specs.Crcc.{crc, crccWords}
+use Rattle.crcc.specs.Inside.Sums.{sumIn}
+use Rattle.row_crc.specs.Inside.Sums.{sumsIn}
 use Rattle.word.specs.declared.line_number.LineWords.{LineWords}
 use Rattle.word.specs.LineNumber.{lineWords}
 use Rattle.word.specs.Timing.{timing}
@@ -28,7 +31,8 @@ use Rattle.span.specs.declared.format.Shape.{Shape}
 use Rattle.span.specs.Content.{contentOf}
 use Rattle.span.specs.Encoding.{symbolsFrom, afterRun}
 use Rattle.span.specs.Format.{shapeOf}
-use Rattle.span.specs.Span.{interleaved, bytesListed, bytes}
+use Rattle.span.specs.Sample.{blankWord}
+use Rattle.span.specs.Span.{interleaved, bytesListed, bytes, fillWord}
 use Rattle.send.specs.declared.coder.Coded.{Coded}
 use Rattle.send.specs.declared.coder.Three.{Three}
 use Rattle.send.specs.declared.put.Four.{Four}
@@ -39,9 +43,9 @@ abbrev pub coded : Disparity → ℕ → Coded
 coded e c = record { symbol = symbolOf e c; offset = offsetOf (afterOf e c) }
 
 -- the offset after a run of characters from an offset on, and the buffer with their symbols put at a place
-unfoldable pub behind : ℕ → List ℕ → ℕ
+unfoldable pub offsetAfter : ℕ → List ℕ → ℕ
 unfolding afterRun
-behind d cs = offsetOf (afterRun (ofOffset d) cs)
+offsetAfter d cs = offsetOf (afterRun (ofOffset d) cs)
 
 unfoldable pub put : ℕ → List ℕ → ℕ → List ℕ → List ℕ
 unfolding symbolsFrom
@@ -63,8 +67,8 @@ unfoldable pub groupChars : ℕ → (ℕ → ℕ) → List ℕ
 groupChars half w = upto half (λ u. pairChars (w (2 * u)) (w (2 * u + 1)))
 
 -- one word of each of up to four streams
-abbrev pub wordIn : Four → ℕ → ℕ
-wordIn g t = getD (g .a ∷ g .b ∷ g .c ∷ g .e ∷ []) t 0
+abbrev pub wordOfFour : Four → ℕ → ℕ
+wordOfFour g t = getD (g .a ∷ g .b ∷ g .c ∷ g .e ∷ []) t 0
 
 -- the first two pairs of a timing code, with the special character and the content bytes put in; w is the word of the second pair
 abbrev pub syncChars : ℕ → ℕ → ℕ → ℕ → List ℕ
@@ -81,81 +85,70 @@ timingChars half k content1 content2 xyz =
     k ∷ k ∷ content1 ∷ content2 ∷ drop 4 (bytes (interleaved (2 * half) 4 (λ t. 0xFFF ∷ 0x000 ∷ 0x000 ∷ xyz ∷ [])))
 
 -- each sample by the factor that makes it a word
-unfoldable pub wordsOf : ℕ → List ℕ → List ℕ
-wordsOf factor xs = table (length xs) (λ i. getD xs i 0 * factor)
+unfoldable pub scaledWords : ℕ → List ℕ → List ℕ
+scaledWords factor xs = table (length xs) (λ i. getD xs i 0 * factor)
 
 -- word j of stream t of the picture
-abbrev pub wordAt : List ℕ → ℕ → ℕ → ℕ
-wordAt ws t j = getD ws (1920 * t + j) 0
+abbrev pub pictureWord : List ℕ → ℕ → ℕ → ℕ
+pictureWord ws t j = getD ws (1920 * t + j) 0
 
 -- the characters of a word of each of two streams, of the first the one at place i
-abbrev pub pairAt : List ℕ → ℕ → List ℕ
-pairAt ws i = pairChars (getD ws i 0) (getD ws (i + 1920) 0)
+abbrev pub pairCharsAt : List ℕ → ℕ → List ℕ
+pairCharsAt ws i = pairChars (getD ws i 0) (getD ws (i + 1920) 0)
 
 -- the characters of the first n words of all streams
 unfoldable pub pictureChars : ℕ → ℕ → (ℕ → ℕ → ℕ) → List ℕ
 pictureChars half n w = upto n (λ j. groupChars half (λ t. w t j))
 
--- the CRC of the first n words of a stream; 0 for one that is not there
-abbrev pub sumOf : ℕ → ℕ → (ℕ → ℕ → ℕ) → ℕ → ℕ
-sumOf half n w t = crc 0 (cond (ltb t (2 * half)) (table n (w t)) [])
-
--- what is known behind the first n words of the picture: the offset, and the CRC of each stream
-abbrev pub passedAt : ℕ → ℕ → (ℕ → ℕ → ℕ) → ℕ → Passed
-passedAt half d w n =
-    record {
-      offset = behind d (pictureChars half n w);
-      first = sumOf half n w 0;
-      second = sumOf half n w 1;
-      third = sumOf half n w 2;
-      fourth = sumOf half n w 3;
-    }
+-- what is known behind the picture: the offset, and the CRC of each stream
+abbrev pub passedAt : ℕ → ℕ → List ℕ → Passed
+passedAt half d ws = record { offset = offsetAfter d (pictureChars half 1920 (pictureWord ws)); sums = sumsIn ws }
 
 -- what the CRC runs over behind the picture: the EAV and the line number
 abbrev pub tailWords : ℕ → LineWords → List ℕ
 tailWords xyz n = 0xFFF ∷ 0x000 ∷ 0x000 ∷ xyz ∷ n .ln0 ∷ n .ln1 ∷ []
 
--- the CRCC words of stream t
-abbrev pub crccBehind : ℕ → ℕ → LineWords → CrccWords
-crccBehind c xyz n = crccWords (crc c (tailWords xyz n))
-
-abbrev pub sumIn : Passed → ℕ → ℕ
-sumIn p t = getD (p .first ∷ p .second ∷ p .third ∷ p .fourth ∷ []) t 0
+-- the CRCC words of a stream whose picture words leave the CRC c
+abbrev pub crccAfter : ℕ → ℕ → LineWords → CrccWords
+crccAfter c xyz n = crccWords (crc c (tailWords xyz n))
 
 -- the characters of the CRCC words of all streams
-unfoldable pub crccChars : ℕ → Passed → ℕ → LineWords → List ℕ
-crccChars half p xyz n =
-    groupChars half (λ t. crccBehind (sumIn p t) xyz n .crcc0) ++ groupChars half (λ t. crccBehind (sumIn p t) xyz n .crcc1)
+unfoldable pub crccChars : ℕ → Sums → ℕ → LineWords → List ℕ
+crccChars half s xyz n =
+    groupChars half (λ t. crccAfter (sumIn s t) xyz n .crcc0) ++ groupChars half (λ t. crccAfter (sumIn s t) xyz n .crcc1)
 
 -- those of EAV, line number and CRCC, where the line after is given
-unfoldable pub behindChars : ℕ → Passed → ℕ → ContentBytes → List ℕ
-behindChars half p next content =
+unfoldable pub behindChars : ℕ → Sums → ℕ → ContentBytes → List ℕ
+behindChars half s next content =
     let n = lineWords next in
     let xyz = timing (vOf next) true in
     timingChars half (numberOf «K29_7») (content .eav1) (content .eav2) xyz
-    ++ (groupChars half (λ _. n .ln0) ++ (groupChars half (λ _. n .ln1) ++ crccChars half p xyz n))
+    ++ (groupChars half (λ _. n .ln0) ++ (groupChars half (λ _. n .ln1) ++ crccChars half s xyz n))
 
 -- so many pairs of one word
 unfoldable pub runChars : ℕ → ℕ → List ℕ
 runChars n w = upto n (λ _. pairChars w w)
 
--- all parts of the span of line n, where the offset before it is d and the picture words are w
-unfoldable pub wholeChars : Shape → ℕ → (ℕ → ℕ → ℕ) → ℕ → ContentBytes → List ℕ
-wholeChars p d w n content =
-    let half = p .half in
-    let sav = timingChars half (numberOf «K28_5») (content .sav1) (content .sav2) (timing (vOf n) false) in
-    sav
-    ++ (pictureChars half 1920 w
-    ++ (behindChars half (passedAt half (behind d sav) w 1920) (lineAfter n) content
-    ++ runChars (half * p .ancillary + p .fill) 0x100))
+-- the ancillary area, of the blanking word blank, and the fill
+abbrev pub blankingChars : Shape → ℕ → List ℕ
+blankingChars p blank = runChars (p .«stream_pairs» * p .ancillary) blank ++ runChars (p .«fill_pairs») fillWord
 
--- those of a span of words, from a disparity on
-abbrev pub spanPut : Format → Disparity → ℕ → Content → List ℕ → List ℕ
-spanPut f d n content ws = wholeChars (shapeOf f) (offsetOf d) (wordAt ws) n (contentOf f content)
+-- all parts of the span of line n, where its picture words are ws and the blanking word is blank
+unfoldable pub wholeChars : Shape → ℕ → List ℕ → ℕ → ContentBytes → List ℕ
+wholeChars p blank ws n content =
+    let half = p .«stream_pairs» in
+    timingChars half (numberOf «K28_5») (content .sav1) (content .sav2) (timing (vOf n) false)
+    ++ (pictureChars half 1920 (pictureWord ws)
+    ++ (behindChars half (sumsIn ws) (lineAfter n) content
+    ++ blankingChars p blank))
 
--- a pair of the word leaves the disparity of the offset as it was
-pub record Stays (d w : ℕ) : Type 0 where
-  pub stays : afterRun (ofOffset d) (pairChars w w) ≡ ofOffset d
+-- those of a span of words
+abbrev pub spanPut : Format → ℕ → Content → List ℕ → List ℕ
+spanPut f n content ws = wholeChars (shapeOf f) (blankWord f) ws n (contentOf f content)
+
+-- a pair of the word leaves each disparity as it was
+pub record KeepsDisparity (w : ℕ) : Type 0 where
+  pub keeps : (e : Disparity) → afterRun e (pairChars w w) ≡ e
 
 -- each is a word
 pub record AreWords (xs : List ℕ) : Type 0 where

@@ -1,7 +1,8 @@
 // Characters to symbols through the lent tables, with the running disparity kept as its offset in them.
 ghost use mathlib.Core.Path.{_≡_};
 ghost use Prim.Native.Nat.{_<_};
-ghost use Rattle.encoder.specs.Inside.Tables.{offsetOf, ofOffset, symbolTable, flipTable};
+ghost use Rattle.encoder.specs.Inside.Tables.{offsetOf, ofOffset, symbolTable};
+ghost use Rattle.encoder.specs.Inside.Tables.{flipTable};
 ghost use Rattle.send.specs.Put.{coded, threeOf};
 
 pub(crate) struct Coded {

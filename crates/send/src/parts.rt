@@ -1,23 +1,28 @@
 // A span out of its parts.
-use crate::picture::Passed;
 use crate::put::Four;
 use crcc::crcc::CrccWords;
+use crcc::sums::Sums;
 use line::stream::StreamLine;
 use span::content::ContentBytes;
 use span::format::Shape;
+use span::layout::ANCILLARY_SYMBOL;
+use span::layout::EAV_SYMBOL;
+use span::layout::PICTURE_SYMBOL;
 use word::line_number::LineWords;
 ghost use mathlib.Core.Path.{_≡_};
 ghost use Prim.Native.Nat.{_+_, _*_, _≤_};
 ghost use lib.ListN.{length};
-ghost use Rattle.encoder.specs.Inside.Tables.{offsetOf, ofOffset, symbolTable, flipTable};
+ghost use Rattle.encoder.specs.Inside.Tables.{offsetOf, ofOffset, symbolTable};
+ghost use Rattle.encoder.specs.Inside.Tables.{flipTable};
 ghost use Rattle.line.specs.Stream.{lineAfter};
 ghost use Rattle.span.specs.Format.{symbolsIn};
 ghost use Rattle.span.specs.Inside.Format.{Small};
-ghost use Rattle.send.specs.Put.{behind, put, crccBehind, crccChars, behindChars, wordAt, AreWords, wholeChars};
+ghost use Rattle.span.specs.Inside.Layout.{ancillarySymbol};
+ghost use Rattle.send.specs.Put.{offsetAfter, put, crccAfter, crccChars, behindChars, AreWords, KeepsDisparity, blankingChars, wholeChars};
 
 // The CRCC words of a stream whose picture words leave c: the CRC runs on over the EAV and the line number.
-fn crcc_behind(c: u32, xyz: u16, n: LineWords) -> CrccWords
-    ensures { λ r. ⌜ r ≡ crccBehind c xyz n ⌝ }
+fn crcc_after(c: u32, xyz: u16, n: LineWords) -> CrccWords
+    ensures { λ r. ⌜ r ≡ crccAfter c xyz n ⌝ }
 {
     let c1 = crcc::crcc::crc_word(c, 0xFFF);
     let c2 = crcc::crcc::crc_word(c1, 0x000);
@@ -33,7 +38,7 @@ fn put_crcc(
     turns: &[u16; 268],
     half: usize,
     d: usize,
-    p: Passed,
+    sums: Sums,
     xyz: u16,
     n: LineWords,
     out: &mut [u16],
@@ -45,13 +50,13 @@ fn put_crcc(
     requires { ⌜ half ≤ 2 ⌝ }
     requires { ⌜ d ≡ offsetOf (ofOffset d) ⌝ }
     requires { ⌜ at + 6 * half ≤ length (now out) ⌝ }
-    ensures offset { λ r. ⌜ r ≡ behind d (crccChars half p xyz n) ⌝ }
-    ensures out { λ _. ⌜ now (out .exit) ≡ put d (crccChars half p xyz n) at (now (out .entry)) ⌝ }
+    ensures offset { λ r. ⌜ r ≡ offsetAfter d (crccChars half sums xyz n) ⌝ }
+    ensures out { λ _. ⌜ now (out .exit) ≡ put d (crccChars half sums xyz n) at (now (out .entry)) ⌝ }
 {
-    let a = crcc_behind(p.first, xyz, n);
-    let b = crcc_behind(p.second, xyz, n);
-    let c = crcc_behind(p.third, xyz, n);
-    let e = crcc_behind(p.fourth, xyz, n);
+    let a = crcc_after(sums.first, xyz, n);
+    let b = crcc_after(sums.second, xyz, n);
+    let c = crcc_after(sums.third, xyz, n);
+    let e = crcc_after(sums.fourth, xyz, n);
     let first = Four {
         a: a.crcc0,
         b: b.crcc0,
@@ -69,11 +74,12 @@ fn put_crcc(
 }
 
 // EAV, line number and CRCC, with V and the number of the line after l.
-pub(crate) fn put_behind(
+pub(crate) fn put_after_picture(
     symbols: &[u16; 536],
     turns: &[u16; 268],
     half: usize,
-    p: Passed,
+    d: usize,
+    sums: Sums,
     l: StreamLine,
     content: ContentBytes,
     out: &mut [u16],
@@ -83,10 +89,10 @@ pub(crate) fn put_behind(
     requires { ⌜ now turns ≡ flipTable ⌝ }
     requires { ⌜ 1 ≤ half ⌝ }
     requires { ⌜ half ≤ 2 ⌝ }
-    requires { ⌜ p .offset ≡ offsetOf (ofOffset (p .offset)) ⌝ }
+    requires { ⌜ d ≡ offsetOf (ofOffset d) ⌝ }
     requires { ⌜ at + 24 * half ≤ length (now out) ⌝ }
-    ensures offset { λ r. ⌜ r ≡ behind (p .offset) (behindChars half p (lineAfter (l .0)) content) ⌝ }
-    ensures out { λ _. ⌜ now (out .exit) ≡ put (p .offset) (behindChars half p (lineAfter (l .0)) content) at (now (out .entry)) ⌝ }
+    ensures offset { λ r. ⌜ r ≡ offsetAfter d (behindChars half sums (lineAfter (l .0)) content) ⌝ }
+    ensures out { λ _. ⌜ now (out .exit) ≡ put d (behindChars half sums (lineAfter (l .0)) content) at (now (out .entry)) ⌝ }
 {
     let next = line::stream::line_after(l);
     let n = word::line_number::words_of(next);
@@ -95,7 +101,7 @@ pub(crate) fn put_behind(
         symbols,
         turns,
         half,
-        p.offset,
+        d,
         crate::timing::K29_7,
         content.eav1,
         content.eav2,
@@ -105,34 +111,58 @@ pub(crate) fn put_behind(
     );
     let d2 = crate::put::put_same(symbols, turns, half, d1, n.ln0, out, at + 12 * half);
     let d3 = crate::put::put_same(symbols, turns, half, d2, n.ln1, out, at + 15 * half);
-    put_crcc(symbols, turns, half, d3, p, xyz, n, out, at + 18 * half)
+    put_crcc(symbols, turns, half, d3, sums, xyz, n, out, at + 18 * half)
 }
 
-// The whole span, of which two pairs of streams at most are sent: SAV and picture, what stands behind it, and blanking, which is one run
-// through the ancillary area and the fill. Blanking leaves the disparity as it was.
+// The ancillary area and the fill: a run of one word each, which leaves the disparity as it was.
+fn put_blanking(
+    symbols: &[u16; 536],
+    turns: &[u16; 268],
+    p: Shape,
+    blank: u16,
+    d: usize,
+    out: &mut [u16],
+)
+    requires { ⌜ now symbols ≡ symbolTable ⌝ }
+    requires { ⌜ now turns ≡ flipTable ⌝ }
+    requires { ⌜ Small p ⌝ }
+    requires { ⌜ KeepsDisparity blank ⌝ }
+    requires { ⌜ d ≡ offsetOf (ofOffset d) ⌝ }
+    requires { ⌜ length (now out) ≡ symbolsIn p ⌝ }
+    ensures { λ _. ⌜ now (out .exit) ≡ put d (blankingChars p blank) (ancillarySymbol * p .«stream_pairs») (now (out .entry)) ⌝ }
+{
+    let area = p.stream_pairs * p.ancillary;
+    let start = ANCILLARY_SYMBOL * p.stream_pairs;
+    let fill = span::blanking::fill_word();
+    crate::put::put_run(symbols, turns, area, d, blank, out, start);
+    crate::put::put_run(symbols, turns, p.fill_pairs, d, fill, out, start + 3 * area);
+}
+
+// The whole span, of which two pairs of streams at most are sent: SAV and picture, what stands behind it, and blanking.
 pub(crate) fn put_span(
     symbols: &[u16; 536],
     turns: &[u16; 268],
     p: Shape,
     l: StreamLine,
     content: ContentBytes,
+    blank: u16,
     words: &[u16],
     d: usize,
     out: &mut [u16],
 ) -> usize
     requires { ⌜ now symbols ≡ symbolTable ⌝ }
     requires { ⌜ now turns ≡ flipTable ⌝ }
-    requires { ⌜ 1 ≤ p .half ⌝ }
+    requires { ⌜ 1 ≤ p .«stream_pairs» ⌝ }
     requires { ⌜ Small p ⌝ }
+    requires { ⌜ KeepsDisparity blank ⌝ }
     requires { ⌜ AreWords (now words) ⌝ }
-    requires { ⌜ length (now words) ≡ 3840 * p .half ⌝ }
+    requires { ⌜ length (now words) ≡ 3840 * p .«stream_pairs» ⌝ }
     requires { ⌜ d ≡ offsetOf (ofOffset d) ⌝ }
     requires { ⌜ length (now out) ≡ symbolsIn p ⌝ }
-    ensures offset { λ r. ⌜ r ≡ behind d (wholeChars p d (wordAt (now (words .entry))) (l .0) content) ⌝ }
-    ensures out { λ _. ⌜ now (out .exit) ≡ put d (wholeChars p d (wordAt (now (words .entry))) (l .0) content) 0 (now (out .entry)) ⌝ }
+    ensures offset { λ r. ⌜ r ≡ offsetAfter d (wholeChars p blank (now (words .entry)) (l .0) content) ⌝ }
+    ensures out { λ _. ⌜ now (out .exit) ≡ put d (wholeChars p blank (now (words .entry)) (l .0) content) 0 (now (out .entry)) ⌝ }
 {
-    let half = p.half;
-    let pairs = half * p.ancillary + p.fill;
+    let half = p.stream_pairs;
     let xyz = word::timing::timing_word(line::stream::v_of(l), false);
     let d1 = crate::timing::put_timing(
         symbols,
@@ -146,8 +176,11 @@ pub(crate) fn put_span(
         out,
         0,
     );
-    let q = crate::picture::put_picture(symbols, turns, half, words, d1, out, 12 * half);
-    let d2 = put_behind(symbols, turns, half, q, l, content, out, 5772 * half);
-    crate::put::put_run(symbols, turns, pairs, d2, 0x100, out, 5796 * half);
+    let start = PICTURE_SYMBOL * half;
+    let end = EAV_SYMBOL * half;
+    let q = crate::picture::put_picture(symbols, turns, half, words, d1, out, start);
+    let sums = q.sums;
+    let d2 = put_after_picture(symbols, turns, half, q.offset, sums, l, content, out, end);
+    put_blanking(symbols, turns, p, blank, d2, out);
     d2
 }

@@ -1,18 +1,17 @@
 // The picture words of all streams, put into the symbol buffer. Two streams and four have a loop each, so that none asks in every turn how
 // many there are. The CRCs are worked out from the words afterwards (crate `row_crc`), so that the loops have less to do.
+use crcc::sums::Sums;
 ghost use mathlib.Core.Path.{_≡_};
 ghost use Prim.Native.Nat.{_+_, _*_, _≤_, _<_};
 ghost use lib.ListN.{length};
-ghost use Rattle.encoder.specs.Inside.Tables.{offsetOf, ofOffset, symbolTable, flipTable};
-ghost use Rattle.send.specs.Put.{behind, put, pairAt, wordAt, pictureChars, passedAt, AreWords};
+ghost use Rattle.encoder.specs.Inside.Tables.{offsetOf, ofOffset, symbolTable};
+ghost use Rattle.encoder.specs.Inside.Tables.{flipTable};
+ghost use Rattle.send.specs.Put.{offsetAfter, put, pairCharsAt, pictureWord, pictureChars, passedAt, AreWords};
 
-// Behind so many words of each stream: the offset of the running disparity, and the CRC of each stream.
+// Behind the picture: the offset of the running disparity, and the CRC of each stream.
 pub(crate) struct Passed {
     pub(crate) offset: usize,
-    pub(crate) first: u32,
-    pub(crate) second: u32,
-    pub(crate) third: u32,
-    pub(crate) fourth: u32,
+    pub(crate) sums: Sums,
 }
 
 // A word of each of two streams, of the first the one at a place.
@@ -31,8 +30,8 @@ fn put_at(
     requires { ⌜ place + 1920 < length (now words) ⌝ }
     requires { ⌜ d ≡ offsetOf (ofOffset d) ⌝ }
     requires { ⌜ at + 3 ≤ length (now out) ⌝ }
-    ensures offset { λ r. ⌜ r ≡ behind d (pairAt (now (words .entry)) place) ⌝ }
-    ensures out { λ _. ⌜ now (out .exit) ≡ put d (pairAt (now (words .entry)) place) at (now (out .entry)) ⌝ }
+    ensures offset { λ r. ⌜ r ≡ offsetAfter d (pairCharsAt (now (words .entry)) place) ⌝ }
+    ensures out { λ _. ⌜ now (out .exit) ≡ put d (pairCharsAt (now (words .entry)) place) at (now (out .entry)) ⌝ }
 {
     let a = words[place];
     let b = words[place + 1920];
@@ -55,8 +54,8 @@ fn put_two_streams(
     requires { ⌜ length (now words) ≡ 3840 ⌝ }
     requires { ⌜ d ≡ offsetOf (ofOffset d) ⌝ }
     requires { ⌜ at + 5760 ≤ length (now out) ⌝ }
-    ensures offset { λ r. ⌜ r ≡ behind d (pictureChars 1 1920 (wordAt (now (words .entry)))) ⌝ }
-    ensures out { λ _. ⌜ now (out .exit) ≡ put d (pictureChars 1 1920 (wordAt (now (words .entry)))) at (now (out .entry)) ⌝ }
+    ensures offset { λ r. ⌜ r ≡ offsetAfter d (pictureChars 1 1920 (pictureWord (now (words .entry)))) ⌝ }
+    ensures out { λ _. ⌜ now (out .exit) ≡ put d (pictureChars 1 1920 (pictureWord (now (words .entry)))) at (now (out .entry)) ⌝ }
 {
     let mut offset = d;
     let mut j = 0;
@@ -86,8 +85,8 @@ fn put_four_streams(
     requires { ⌜ length (now words) ≡ 7680 ⌝ }
     requires { ⌜ d ≡ offsetOf (ofOffset d) ⌝ }
     requires { ⌜ at + 11520 ≤ length (now out) ⌝ }
-    ensures offset { λ r. ⌜ r ≡ behind d (pictureChars 2 1920 (wordAt (now (words .entry)))) ⌝ }
-    ensures out { λ _. ⌜ now (out .exit) ≡ put d (pictureChars 2 1920 (wordAt (now (words .entry)))) at (now (out .entry)) ⌝ }
+    ensures offset { λ r. ⌜ r ≡ offsetAfter d (pictureChars 2 1920 (pictureWord (now (words .entry)))) ⌝ }
+    ensures out { λ _. ⌜ now (out .exit) ≡ put d (pictureChars 2 1920 (pictureWord (now (words .entry)))) at (now (out .entry)) ⌝ }
 {
     let mut offset = d;
     let mut i = 0;
@@ -120,8 +119,8 @@ fn put_streams(
     requires { ⌜ length (now words) ≡ 3840 * half ⌝ }
     requires { ⌜ d ≡ offsetOf (ofOffset d) ⌝ }
     requires { ⌜ at + 5760 * half ≤ length (now out) ⌝ }
-    ensures offset { λ r. ⌜ r ≡ behind d (pictureChars half 1920 (wordAt (now (words .entry)))) ⌝ }
-    ensures out { λ _. ⌜ now (out .exit) ≡ put d (pictureChars half 1920 (wordAt (now (words .entry)))) at (now (out .entry)) ⌝ }
+    ensures offset { λ r. ⌜ r ≡ offsetAfter d (pictureChars half 1920 (pictureWord (now (words .entry)))) ⌝ }
+    ensures out { λ _. ⌜ now (out .exit) ≡ put d (pictureChars half 1920 (pictureWord (now (words .entry)))) at (now (out .entry)) ⌝ }
 {
     if half == 1 {
         return put_two_streams(symbols, turns, words, d, out, at);
@@ -147,16 +146,10 @@ pub(crate) fn put_picture(
     requires { ⌜ length (now words) ≡ 3840 * half ⌝ }
     requires { ⌜ d ≡ offsetOf (ofOffset d) ⌝ }
     requires { ⌜ at + 5760 * half ≤ length (now out) ⌝ }
-    ensures passed { λ r. ⌜ r ≡ passedAt half d (wordAt (now (words .entry))) 1920 ⌝ }
-    ensures out { λ _. ⌜ now (out .exit) ≡ put d (pictureChars half 1920 (wordAt (now (words .entry)))) at (now (out .entry)) ⌝ }
+    ensures passed { λ r. ⌜ r ≡ passedAt half d (now (words .entry)) ⌝ }
+    ensures out { λ _. ⌜ now (out .exit) ≡ put d (pictureChars half 1920 (pictureWord (now (words .entry)))) at (now (out .entry)) ⌝ }
 {
     let offset = put_streams(symbols, turns, half, words, d, out, at);
-    let s = row_crc::sums::sums_of_rows(words);
-    Passed {
-        offset,
-        first: s.first,
-        second: s.second,
-        third: s.third,
-        fourth: s.fourth,
-    }
+    let sums = row_crc::sums::sums_of_rows(words);
+    Passed { offset, sums }
 }

@@ -3,8 +3,9 @@ ghost use mathlib.Core.Path.{_≡_};
 ghost use Prim.Native.Nat.{_+_, _*_, _/_, _%_, _≤_, _<_};
 ghost use mathlib.Core.List.{[], _∷_};
 ghost use lib.ListN.{length};
-ghost use Rattle.encoder.specs.Inside.Tables.{offsetOf, ofOffset, symbolTable, flipTable};
-ghost use Rattle.send.specs.Put.{behind, put, pairChars, groupChars, wordIn, runChars, Stays};
+ghost use Rattle.encoder.specs.Inside.Tables.{offsetOf, ofOffset, symbolTable};
+ghost use Rattle.encoder.specs.Inside.Tables.{flipTable};
+ghost use Rattle.send.specs.Put.{offsetAfter, put, pairChars, groupChars, wordOfFour, runChars, KeepsDisparity};
 
 // One word of each stream; with two streams the last two count for nothing.
 pub(crate) struct Four {
@@ -32,7 +33,7 @@ pub(crate) fn put_three(
     requires { ⌜ y < 268 ⌝ }
     requires { ⌜ z < 268 ⌝ }
     requires { ⌜ at + 3 ≤ length (now out) ⌝ }
-    ensures offset { λ r. ⌜ r ≡ behind d (x ∷ y ∷ z ∷ []) ⌝ }
+    ensures offset { λ r. ⌜ r ≡ offsetAfter d (x ∷ y ∷ z ∷ []) ⌝ }
     ensures out { λ _. ⌜ now (out .exit) ≡ put d (x ∷ y ∷ z ∷ []) at (now (out .entry)) ⌝ }
 {
     let t = crate::coder::code_three(symbols, turns, d, x, y, z);
@@ -56,7 +57,7 @@ pub(crate) fn put_pair(
     requires { ⌜ now turns ≡ flipTable ⌝ }
     requires { ⌜ d ≡ offsetOf (ofOffset d) ⌝ }
     requires { ⌜ at + 3 ≤ length (now out) ⌝ }
-    ensures offset { λ r. ⌜ r ≡ behind d (pairChars a b) ⌝ }
+    ensures offset { λ r. ⌜ r ≡ offsetAfter d (pairChars a b) ⌝ }
     ensures out { λ _. ⌜ now (out .exit) ≡ put d (pairChars a b) at (now (out .entry)) ⌝ }
 {
     let t = packing::bytes::bytes_of(a, b);
@@ -86,7 +87,7 @@ pub(crate) fn put_both(
     requires { ⌜ d ≡ offsetOf (ofOffset d) ⌝ }
     requires { ⌜ both < 16777216 ⌝ }
     requires { ⌜ at + 3 ≤ length (now out) ⌝ }
-    ensures offset { λ r. ⌜ r ≡ behind d (pairChars (both % 4096) (both / 4096)) ⌝ }
+    ensures offset { λ r. ⌜ r ≡ offsetAfter d (pairChars (both % 4096) (both / 4096)) ⌝ }
     ensures out { λ _. ⌜ now (out .exit) ≡ put d (pairChars (both % 4096) (both / 4096)) at (now (out .entry)) ⌝ }
 {
     put_three(
@@ -117,8 +118,8 @@ pub(crate) fn put_four(
     requires { ⌜ half ≤ 2 ⌝ }
     requires { ⌜ d ≡ offsetOf (ofOffset d) ⌝ }
     requires { ⌜ at + 3 * half ≤ length (now out) ⌝ }
-    ensures offset { λ r. ⌜ r ≡ behind d (groupChars half (wordIn g)) ⌝ }
-    ensures out { λ _. ⌜ now (out .exit) ≡ put d (groupChars half (wordIn g)) at (now (out .entry)) ⌝ }
+    ensures offset { λ r. ⌜ r ≡ offsetAfter d (groupChars half (wordOfFour g)) ⌝ }
+    ensures out { λ _. ⌜ now (out .exit) ≡ put d (groupChars half (wordOfFour g)) at (now (out .entry)) ⌝ }
 {
     let low = put_pair(symbols, turns, d, g.a, g.b, out, at);
     if half == 1 {
@@ -143,7 +144,7 @@ pub(crate) fn put_same(
     requires { ⌜ half ≤ 2 ⌝ }
     requires { ⌜ d ≡ offsetOf (ofOffset d) ⌝ }
     requires { ⌜ at + 3 * half ≤ length (now out) ⌝ }
-    ensures offset { λ r. ⌜ r ≡ behind d (groupChars half (λ _. w)) ⌝ }
+    ensures offset { λ r. ⌜ r ≡ offsetAfter d (groupChars half (λ _. w)) ⌝ }
     ensures out { λ _. ⌜ now (out .exit) ≡ put d (groupChars half (λ _. w)) at (now (out .entry)) ⌝ }
 {
     put_four(
@@ -175,7 +176,7 @@ pub(crate) fn put_run(
     requires { ⌜ now symbols ≡ symbolTable ⌝ }
     requires { ⌜ now turns ≡ flipTable ⌝ }
     requires { ⌜ d ≡ offsetOf (ofOffset d) ⌝ }
-    requires { ⌜ Stays d w ⌝ }
+    requires { ⌜ KeepsDisparity w ⌝ }
     requires { ⌜ at + 3 * pairs ≤ length (now out) ⌝ }
     ensures { λ _. ⌜ now (out .exit) ≡ put d (runChars pairs w) at (now (out .entry)) ⌝ }
 {

@@ -9,9 +9,9 @@ ghost use lib.ListN.{length};
 ghost use Rattle.encoder.specs.Inside.Tables.{offsetOf, ofOffset};
 ghost use Rattle.line.specs.Stream.{isLine};
 ghost use Rattle.span.specs.Format.{isKnown, shapeOf, samplesIn, symbolsIn};
-ghost use Rattle.span.specs.Span.{spanSymbols, spanAfter};
 ghost use Rattle.span.specs.Inside.Sample.{boundsOf};
-ghost use Rattle.send.specs.Put.{behind, put, wordsOf, spanPut, AreWords, Fits};
+ghost use Rattle.span.specs.Span.{spanSymbols, spanAfter};
+ghost use Rattle.send.specs.Put.{offsetAfter, put, scaledWords, spanPut, AreWords, Fits};
 ghost use Rattle.send.specs.Send.{Good, request, paperSent, sendOf, sentBuffer};
 
 pub enum Sent {
@@ -42,15 +42,16 @@ fn send_words(
     requires { ⌜ AreWords (now words) ⌝ }
     requires { ⌜ length (now words) ≡ samplesIn (shapeOf f) ⌝ }
     requires { ⌜ length (now out) ≡ symbolsIn (shapeOf f) ⌝ }
-    ensures after { λ r. ⌜ r ≡ ofOffset (behind (offsetOf d) (spanPut f d (l .0) content (now (words .entry)))) ⌝ }
-    ensures symbols { λ _. ⌜ now (out .exit) ≡ put (offsetOf d) (spanPut f d (l .0) content (now (words .entry))) 0 (now (out .entry)) ⌝ }
+    ensures after { λ r. ⌜ r ≡ ofOffset (offsetAfter (offsetOf d) (spanPut f (l .0) content (now (words .entry)))) ⌝ }
+    ensures symbols { λ _. ⌜ now (out .exit) ≡ put (offsetOf d) (spanPut f (l .0) content (now (words .entry))) 0 (now (out .entry)) ⌝ }
 {
     let symbols = encoder::tables::symbol_table();
     let turns = encoder::tables::flip_table();
     let p = span::format::shape_of(f);
     let c = span::content::content_of(f, content);
+    let blank = span::blanking::blank_word(f);
     let before = encoder::tables::offset_of(d);
-    let after = crate::parts::put_span(&symbols, &turns, p, l, c, words, before, out);
+    let after = crate::parts::put_span(&symbols, &turns, p, l, c, blank, words, before, out);
     encoder::tables::disparity_at(after)
 }
 
@@ -58,7 +59,7 @@ fn send_words(
 fn scale(factor: u16, samples: &[u16], words: &mut [u16])
     requires { ⌜ Fits factor (now samples) ⌝ }
     requires { ⌜ length (now words) ≡ length (now samples) ⌝ }
-    ensures { λ _. ⌜ now (words .exit) ≡ wordsOf factor (now (samples .entry)) ⌝ }
+    ensures { λ _. ⌜ now (words .exit) ≡ scaledWords factor (now (samples .entry)) ⌝ }
 {
     let mut i = 0;
     while i < samples.len() {

@@ -2,8 +2,9 @@
 ghost use mathlib.Core.Path.{_≡_};
 ghost use Prim.Native.Nat.{_+_, _*_, _≤_, _<_};
 ghost use lib.ListN.{length};
-ghost use Rattle.encoder.specs.Inside.Tables.{offsetOf, ofOffset, symbolTable, flipTable};
-ghost use Rattle.send.specs.Put.{behind, put, syncChars, secondWord, timingChars};
+ghost use Rattle.encoder.specs.Inside.Tables.{offsetOf, ofOffset, symbolTable};
+ghost use Rattle.encoder.specs.Inside.Tables.{flipTable};
+ghost use Rattle.send.specs.Put.{offsetAfter, put, syncChars, secondWord, timingChars};
 
 // The special characters of SAV and EAV, by their numbers among the characters.
 pub(crate) const K28_5: u16 = 261;
@@ -27,7 +28,7 @@ fn put_sync(
     requires { ⌜ d ≡ offsetOf (ofOffset d) ⌝ }
     requires { ⌜ k < 268 ⌝ }
     requires { ⌜ at + 6 ≤ length (now out) ⌝ }
-    ensures offset { λ r. ⌜ r ≡ behind d (syncChars k content1 content2 w) ⌝ }
+    ensures offset { λ r. ⌜ r ≡ offsetAfter d (syncChars k content1 content2 w) ⌝ }
     ensures out { λ _. ⌜ now (out .exit) ≡ put d (syncChars k content1 content2 w) at (now (out .entry)) ⌝ }
 {
     let t = packing::bytes::bytes_of(w, w);
@@ -74,7 +75,7 @@ pub(crate) fn put_timing(
     requires { ⌜ d ≡ offsetOf (ofOffset d) ⌝ }
     requires { ⌜ k < 268 ⌝ }
     requires { ⌜ at + 12 * half ≤ length (now out) ⌝ }
-    ensures offset { λ r. ⌜ r ≡ behind d (timingChars half k content1 content2 xyz) ⌝ }
+    ensures offset { λ r. ⌜ r ≡ offsetAfter d (timingChars half k content1 content2 xyz) ⌝ }
     ensures out { λ _. ⌜ now (out .exit) ≡ put d (timingChars half k content1 content2 xyz) at (now (out .entry)) ⌝ }
 {
     let w = second_word(half);

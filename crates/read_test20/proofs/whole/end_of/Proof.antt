@@ -23,11 +23,11 @@ use Rattle.read_test20.proofs.whole.unended.Reads as unended-reads
 mul-eav : tie.Need-mul-eav
 mul-eav c = search needs
 
-mul-behind : tie.Need-mul-behind
-mul-behind c = search needs
+mul-after : tie.Need-mul-after
+mul-after c = search needs
 
-add-behind : tie.Need-add-behind
-add-behind c = search needs
+add-after : tie.Need-add-after
+add-after c = search needs
 
 is-eav-requires : tie.Need-is-eav-requires
 is-eav-requires c κs = search needs
@@ -100,8 +100,8 @@ end-of-spec =
     tie.close
     (tie.spec
     mul-eav
-    mul-behind
-    add-behind
+    mul-after
+    add-after
     is-eav-requires
     unended-requires
     returns

@@ -6,7 +6,8 @@ use native.Mathlib.Omega.{arith}
 use lib.Bits.{bitXor}
 use lib.ListN.{getD}
 use mathlib.Core.List.{List}
-use Rattle.encoder.specs.Inside.Tables.{offsetOf, ofOffset, symbolTable, flipTable}
+use Rattle.encoder.specs.Inside.Tables.{offsetOf, ofOffset, symbolTable}
+use Rattle.encoder.specs.Inside.Tables.{flipTable}
 use Rattle.encoder.proofs.Entries.{offset-below, turn-below, symbol-at, after-at}
 use Rattle.send.specs.declared.coder.Coded.{Coded}
 use Rattle.send.specs.Put.{coded}

@@ -1,7 +1,10 @@
--- `send::picture::put_picture` meets its contract.
+-- `send::picture::put_picture` meets its contract: the offset and the CRCs are what the two calls answer.
 -- Assumes nothing.
+use mathlib.Core.Path.{ap₂}
+use Prim.Native.Nat.{ℕ}
+use Rattle.crcc.specs.declared.sums.Sums.{Sums}
+use Rattle.send.specs.declared.picture.Passed.{Passed}
 use borrow.Author.Needs.{needs}
-use Rattle.send.proofs.Passing.{picture-passed}
 use Rattle.send.proofs.picture.put_picture.Statement.{statement}
 use Rattle.send.proofs.picture.put_picture.Tie as tie
 
@@ -16,9 +19,8 @@ same-length c = search needs
 
 returns : tie.Need-returns
 returns c =
-    let s = c .before .before .before .before .before .before .before in
     let e = c .before .before .before .put-streams .ensures in
-    (picture-passed (s .args .half) (s .args .d) (s .args .words .now) (s .pre .1 .1 .0) (s .pre .1 .1 .1 .0) (s .pre .1 .1 .1 .1 .1 .0) (e .0) (c .sums-of-rows .ensures), e .1)
+    (ap₂ {C = Passed} (λ (o : ℕ) (s : Sums). record { offset = o; sums = s }) (e .0) (c .sums-of-rows .ensures), e .1)
 
 pub put-picture-spec : {M : Type 1} → statement M
 put-picture-spec =

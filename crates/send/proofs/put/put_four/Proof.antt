@@ -3,7 +3,7 @@
 use mathlib.Core.Path.{_≡_, refl, ap, _∙_}
 use Prim.Native.Nat.{ℕ}
 use native.Mathlib.Omega.{arith}
-use Rattle.send.specs.Put.{groupChars, wordIn}
+use Rattle.send.specs.Put.{groupChars, wordOfFour}
 use Rattle.send.proofs.Putting.{made, renamed, then, is-offset, same-size, group-of-two, group-of-four}
 use borrow.Author.Needs.{needs}
 use Rattle.send.proofs.put.put_four.Statement.{statement}
@@ -18,7 +18,7 @@ same-length c = search needs
 returns : tie.Need-returns
 returns c =
     let a = c .before .before .before .before .before .before .args in
-    let q = ap (λ (h : ℕ). groupChars h (wordIn (a .g))) (c .if1 .taken) ∙ group-of-two (wordIn (a .g)) in
+    let q = ap (λ (h : ℕ). groupChars h (wordOfFour (a .g))) (c .if1 .taken) ∙ group-of-two (wordOfFour (a .g)) in
     let p = renamed q (made (c .before .before .before .put-pair .ensures)) in
     (p .offset, p .out)
 
@@ -37,7 +37,7 @@ returns-2 : tie.Need-returns-2
 returns-2 c =
     let a = c .before .before .before .before .before .before .before .before .before .before .args in
     let two : a .half ≡ 2 = omega arith in
-    let q = ap (λ (h : ℕ). groupChars h (wordIn (a .g))) two ∙ group-of-four (wordIn (a .g)) in
+    let q = ap (λ (h : ℕ). groupChars h (wordOfFour (a .g))) two ∙ group-of-four (wordOfFour (a .g)) in
     let p = renamed q (then (made (c .before .before .before .before .before .before .before .put-pair .ensures)) refl (made (c .before .before .put-pair2 .ensures))) in
     (p .offset, p .out)
 

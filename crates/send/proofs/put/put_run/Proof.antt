@@ -4,7 +4,7 @@ use mathlib.Core.Path.{_≡_, refl, ap, _∙_}
 use Prim.Native.Nat.{_-_, _≤_}
 use native.Mathlib.Omega.{arith}
 use lib.ListN.{length, length-set}
-use Rattle.send.specs.Put.{Stays}
+use Rattle.send.specs.Put.{KeepsDisparity}
 use Rattle.send.proofs.Runs.{pair-is, again, none-again, once-more, all-again}
 use borrow.Author.Needs.{needs}
 use Rattle.send.proofs.put.put_run.Statement.{statement}
@@ -98,7 +98,7 @@ returns : tie.Need-returns Inv-loop μ-loop
 returns c =
     let a = c .before .before .before .before .before .before .before .before .args in
     let v = c .before .loop in
-    let s : Stays (a .d) (a .w) = search needs in
+    let s : KeepsDisparity (a .w) = search needs in
     let past : v .i ≡ a .pairs = omega arith in
     v .inv .2 ∙ ap (again (a .d) (a .w) (a .out .now) (a .at)) past ∙ all-again (a .d) (a .w) (a .out .now) (a .at) s (a .pairs)
 

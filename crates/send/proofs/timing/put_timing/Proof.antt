@@ -33,7 +33,7 @@ put-run-requires : tie.Need-put-run-requires
 put-run-requires c κs =
     let s = c .before .before .before .before .before .before .before in
     let p = made (c .before .before .before .put-sync .ensures) in
-    (s .pre .0, (s .pre .1 .0, (is-offset p, (zero-stays _, omega (arith, same-size p, s .pre .1 .1 .0, s .pre .1 .1 .1 .1 .1 .1)))))
+    (s .pre .0, (s .pre .1 .0, (is-offset p, (zero-stays, omega (arith, same-size p, s .pre .1 .1 .0, s .pre .1 .1 .1 .1 .1 .1)))))
 
 mul-put-same : tie.Need-mul-put-same
 mul-put-same c = search needs
@@ -45,7 +45,7 @@ put-same-requires : tie.Need-put-same-requires
 put-same-requires c κs =
     let s = c .before .before .before .before .before .before .before .before .before .before .before in
     let p = made (c .before .before .before .before .before .before .before .put-sync .ensures) in
-    let q = run-made (3 * s .args .half - 2) (is-offset p) (zero-stays _) (c .before .before .before .put-run .ensures) in
+    let q = run-made (is-offset p) (3 * s .args .half - 2) zero-stays (c .before .before .before .put-run .ensures) in
     (s .pre .0, (s .pre .1 .0, (s .pre .1 .1 .0, (s .pre .1 .1 .1 .0, (is-offset p, omega (arith, same-size p, same-size q, s .pre .1 .1 .1 .1 .1 .1))))))
 
 same-length : tie.Need-same-length
@@ -56,7 +56,7 @@ returns c =
     let s = c .before .before .before .before .before .before .before .before .before .before .before .before .before .before in
     let a = s .args in
     let p = renamed (ap (syncChars (a .k) (a .content1) (a .content2)) (sym (c .before .before .before .before .before .before .before .before .before .before .before .before .second-word .ensures))) (made (c .before .before .before .before .before .before .before .before .before .before .put-sync .ensures)) in
-    let q = run-made (3 * a .half - 2) (is-offset p) (zero-stays _) (c .before .before .before .before .before .before .put-run .ensures) in
+    let q = run-made (is-offset p) (3 * a .half - 2) zero-stays (c .before .before .before .before .before .before .put-run .ensures) in
     let l = length-run (3 * a .half - 2) 0x000 in
     let r = then p refl (then q (omega (arith, l, s .pre .1 .1 .0)) (made (c .before .before .put-same .ensures))) in
     let e = renamed (timing-is (a .half) (a .k) (a .content1) (a .content2) (a .xyz) (s .pre .1 .1 .0) (s .pre .1 .1 .1 .0)) r in

@@ -1,11 +1,11 @@
--- `send::parts::crcc_behind` meets its contract: six steps more, and the two words.
+-- `send::parts::crcc_after` meets its contract: six steps more, and the two words.
 -- Assumes nothing.
 use mathlib.Core.Path.{ap, _∙_}
 use Prim.Native.Nat.{ℕ}
 use Rattle.crcc.specs.Crcc.{crc, crcWord, crccWords}
 use borrow.Author.Needs.{needs}
-use Rattle.send.proofs.parts.crcc_behind.Statement.{statement}
-use Rattle.send.proofs.parts.crcc_behind.Tie as tie
+use Rattle.send.proofs.parts.crcc_after.Statement.{statement}
+use Rattle.send.proofs.parts.crcc_after.Tie as tie
 
 crc-word-requires : tie.Need-crc-word-requires
 crc-word-requires c κs = search needs

@@ -1,33 +1,33 @@
--- `send::parts::put_behind` meets its contract: EAV, line number and CRCC, one behind the other.
+-- `send::parts::put_after_picture` meets its contract: EAV, line number and CRCC, one behind the other.
 -- Assumes nothing.
 use mathlib.Core.Path.{_≡_, sym, ap, ap₂, _∙_}
 use mathlib.Core.Bool.{Bool, true}
 use mathlib.Core.List.{_++_}
 use Prim.Native.Nat.{ℕ, _+_}
 use native.Mathlib.Omega.{arith}
+use Rattle.crcc.specs.declared.sums.Sums.{Sums}
 use Rattle.line.specs.Stream.{vOf, lineAfter}
 use Rattle.word.specs.declared.line_number.LineWords.{LineWords}
 use Rattle.word.specs.LineNumber.{lineWords}
 use Rattle.word.specs.Timing.{timing}
 use Rattle.span.specs.declared.content.ContentBytes.{ContentBytes}
-use Rattle.send.specs.declared.picture.Passed.{Passed}
 use Rattle.send.specs.Put.{timingChars, groupChars, crccChars, behindChars}
 use Rattle.send.proofs.Putting.{made, renamed, then, is-offset, same-size, length-group}
 use Rattle.send.proofs.TimingCodes.{length-timing}
 use borrow.Author.Needs.{needs}
-use Rattle.send.proofs.parts.put_behind.Statement.{statement}
-use Rattle.send.proofs.parts.put_behind.Tie as tie
+use Rattle.send.proofs.parts.put_after_picture.Statement.{statement}
+use Rattle.send.proofs.parts.put_after_picture.Tie as tie
 
 -- the characters, where the line's words and the timing word are what the calls answer
-as-put : (half : ℕ) (p : Passed) (content : ContentBytes) (m : ℕ) {xyz : ℕ} {n : LineWords} → n ≡ lineWords m → xyz ≡ timing (vOf m) true
-    → behindChars half p m content
+as-put : (half : ℕ) (s : Sums) (content : ContentBytes) (m : ℕ) {xyz : ℕ} {n : LineWords} → n ≡ lineWords m → xyz ≡ timing (vOf m) true
+    → behindChars half s m content
     ≡ timingChars half 266 (content .eav1) (content .eav2) xyz
-    ++ (groupChars half (λ _. n .ln0) ++ (groupChars half (λ _. n .ln1) ++ crccChars half p xyz n))
+    ++ (groupChars half (λ _. n .ln0) ++ (groupChars half (λ _. n .ln1) ++ crccChars half s xyz n))
 unfolding behindChars
-as-put half p content m e q =
+as-put half s content m e q =
     ap₂ (λ (n : LineWords) (xyz : ℕ).
     timingChars half 266 (content .eav1) (content .eav2) xyz
-    ++ (groupChars half (λ _. n .ln0) ++ (groupChars half (λ _. n .ln1) ++ crccChars half p xyz n))) (sym e) (sym q)
+    ++ (groupChars half (λ _. n .ln0) ++ (groupChars half (λ _. n .ln1) ++ crccChars half s xyz n))) (sym e) (sym q)
 
 line-after-requires : tie.Need-line-after-requires
 line-after-requires c κs = search needs
@@ -106,12 +106,12 @@ returns c =
     let p = made (c .before .before .before .before .before .before .before .before .before .before .before .before .before .before .put-timing .ensures) in
     let q = made (c .before .before .before .before .before .before .before .before .before .before .put-same .ensures) in
     let r = made (c .before .before .before .before .before .before .put-same2 .ensures) in
-    let e = renamed (as-put (a .half) (a .p) (a .content) (lineAfter (a .l .0)) number code)
+    let e = renamed (as-put (a .half) (a .sums) (a .content) (lineAfter (a .l .0)) number code)
     (then p (omega (arith, l)) (then q (omega (arith, g0)) (then r (omega (arith, g1)) (made (c .before .before .put-crcc .ensures))))) in
     (e .offset, e .out)
 
-pub put-behind-spec : {M : Type 1} → statement M
-put-behind-spec =
+pub put-after-picture-spec : {M : Type 1} → statement M
+put-after-picture-spec =
     tie.close
     (tie.spec
     line-after-requires
