@@ -9,8 +9,7 @@ use native.Mathlib.Omega.{arith}
 use lib.Dec.{eqb, ltb}
 use lib.ListN.{length, getD}
 use borrow.Author.Tests.{eqb-true, eqb-false, eq-eqb, ne-eqb, not-false, ltb-true, ltb-false}
-use Rattle.ground.specs.Answer.{Answer, refused}
-use Rattle.read_test21_26.specs.Inside.Holds.{given}
+use Rattle.ground.specs.Answer.{Answer, refused, given}
 use Rattle.ground.specs.Range.{within}
 use Rattle.ground.proofs.Cases.{on-test}
 use Rattle.ground.proofs.Ranges.{is-within, not-within, from-low, to-high, outside}

@@ -3,8 +3,7 @@
 use mathlib.Core.Path.{_≡_, refl}
 use mathlib.Core.Bool.{cond}
 use lib.Dec.{eqb}
-use Rattle.ground.specs.Answer.{Answer, refused}
-use Rattle.read_test21_26.specs.Inside.Holds.{given}
+use Rattle.ground.specs.Answer.{Answer, refused, given}
 use Rattle.ground.specs.Inside.Answer.{Injective}
 use Rattle.ground.proofs.Answers.{told-again}
 use Rattle.symbol.specs.declared.disparity.Disparity.{Disparity}

@@ -7,8 +7,7 @@ use Prim.Native.Nat.{ℕ, _/_, _≤_, _<_}
 use native.Mathlib.Omega.{arith}
 use lib.ListN.{length, getD}
 use borrow.Author.Tests.{eq-eqb, ne-eqb}
-use Rattle.ground.specs.Answer.{refused, orElse}
-use Rattle.read_test21_26.specs.Inside.Holds.{given}
+use Rattle.ground.specs.Answer.{refused, orElse, given}
 use Rattle.ground.specs.Search.{firstBelow}
 use Rattle.ground.proofs.Searches.{miss}
 use Rattle.line.specs.Stream.{isLine}

@@ -8,8 +8,7 @@ use mathlib.Core.List.{List, [], _∷_}
 use mathlib.Core.Option.{Option}
 use lib.Dec.{eqb}
 use lib.ListN.{length, getD}
-use Rattle.ground.specs.Answer.{Answer, refused, Row, unless, checked, unlessRefused}
-use Rattle.read_test21_26.specs.Inside.Holds.{given}
+use Rattle.ground.specs.Answer.{Answer, refused, Row, unless, checked, unlessRefused, given}
 use Rattle.ground.specs.Search.{firstBelow}
 use Rattle.line.specs.Stream.{isLine}
 use Rattle.symbol.specs.declared.disparity.Disparity.{Disparity}

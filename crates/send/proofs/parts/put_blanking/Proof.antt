@@ -46,9 +46,9 @@ returns c =
     let shape = s .args .p in
     let word = c .before .before .before .before .before .before .before .before .fill-word .ensures in
     let o = s .pre .1 .1 .1 .1 .0 in
-    let p = run-made o (shape .half * shape .ancillary) (s .pre .1 .1 .1 .0) (c .before .before .before .before .before .before .put-run .ensures) in
-    let q = renamed (ap (runChars (shape .fill)) (sym word)) (run-made o (shape .fill) (keeps-too word fill-stays) (c .before .before .put-run2 .ensures)) in
-    then p (omega (arith, length-run (shape .half * shape .ancillary) (s .args .blank))) q .out
+    let p = run-made o (shape .«stream_pairs» * shape .ancillary) (s .pre .1 .1 .1 .0) (c .before .before .before .before .before .before .put-run .ensures) in
+    let q = renamed (ap (runChars (shape .«fill_pairs»)) (sym word)) (run-made o (shape .«fill_pairs») (keeps-too word fill-stays) (c .before .before .put-run2 .ensures)) in
+    then p (omega (arith, length-run (shape .«stream_pairs» * shape .ancillary) (s .args .blank))) q .out
 
 pub put-blanking-spec : {M : Type 1} → statement M
 put-blanking-spec =

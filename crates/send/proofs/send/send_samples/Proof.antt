@@ -6,7 +6,7 @@ use Prim.Native.Nat.{ℕ, _≤_, _<_}
 use native.Mathlib.Omega.{arith}
 use lib.Dec.{eqb}
 use lib.ListN.{length}
-use Rattle.read_test21_26.specs.Inside.Holds.{given}
+use Rattle.ground.specs.Answer.{given}
 use Rattle.ground.proofs.Answers.{when-refused, when-given}
 use Rattle.ground.proofs.Cases.{on-test}
 use Rattle.line.specs.Stream.{isActive}
