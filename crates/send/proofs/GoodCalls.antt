@@ -21,8 +21,9 @@ use Rattle.span.specs.Inside.Sample.{boundsOf}
 use Rattle.span.specs.Span.{spanAfter}
 use Rattle.span.specs.Stream.{Request}
 use Rattle.span.proofs.Formats.{is-known, known-told}
-use Rattle.send.specs.Check.{firstOutside}
-use Rattle.send.specs.Send.{Good, sendOf}
+use Rattle.send.specs.Send.{sendOf}
+use Rattle.send.specs.Inside.Check.{firstOutside}
+use Rattle.send.specs.Inside.Send.{Good}
 use Rattle.send.proofs.Checking.{outside-never}
 use Rattle.send.proofs.Refusals.{forbidden-is, send-meets-1, send-meets-2, send-meets-3, send-meets-4, send-meets-6, sends, is-good}
 

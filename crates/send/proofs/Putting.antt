@@ -1,4 +1,4 @@
--- Runs of characters put into the symbol buffer one behind the other.
+-- Runs of characters put into the symbol buffer one after the other.
 -- Assumes nothing.
 use mathlib.Core.Path.{_≡_, refl, sym, ap, ap₂, _∙_}
 use mathlib.Core.List.{List, [], _∷_, _++_}
@@ -15,9 +15,9 @@ use Rattle.packing.specs.Bytes.{bytesOf}
 use Rattle.span.specs.Encoding.{symbolsFrom, afterRun}
 use Rattle.span.proofs.Encoding.{symbols-append, after-append, length-symbols}
 use Rattle.send.specs.declared.coder.Three.{Three}
-use Rattle.send.specs.Put.{offsetAfter, put, pairChars, threeOf, groupChars}
+use Rattle.send.specs.Inside.Put.{offsetAfter, put, pairChars, threeOf, groupChars}
 
--- the disparity that an offset behind a run stands for
+-- the disparity that an offset after a run stands for
 pub offset-after-is : (d : ℕ) (cs : List ℕ) → ofOffset (offsetAfter d cs) ≡ afterRun (ofOffset d) cs
 unfolding offsetAfter
 offset-after-is d cs = offset-again (afterRun (ofOffset d) cs)
@@ -39,7 +39,7 @@ one-buffer d e at place cs ds before after t o q =
     ∙ sets-append before x y at place (q ∙ ap (λ (n : ℕ). at + n) (sym (length-symbols (ofOffset d) cs)))
     ∙ ap (sets before at) (sym (symbols-append (ofOffset d) cs ds))
 
--- what a call that puts a run of characters does: the offset behind it, and the buffer
+-- what a call that puts a run of characters does: the offset after it, and the buffer
 pub record Put (d : ℕ) (cs : List ℕ) (at : ℕ) (before : List ℕ) (e : ℕ) (after : List ℕ) : Type 0 where
   pub offset : e ≡ offsetAfter d cs
   pub out : after ≡ put d cs at before
@@ -53,12 +53,12 @@ module _ {d at e : ℕ} {cs before after : List ℕ} (p : Put d cs at before e a
   pub told : ofOffset e ≡ afterRun (ofOffset d) cs
   told = ap ofOffset (p .offset) ∙ offset-after-is d cs
 
-  -- the offset behind a run is one
+  -- the offset after a run is one
   pub is-offset : e ≡ offsetOf (ofOffset e)
   unfolding offsetAfter
   is-offset = p .offset ∙ ap offsetOf (sym told)
 
-  -- a run and the run behind it are one
+  -- a run and the run after it are one
   pub then : {place g : ℕ} {ds end : List ℕ} → place ≡ at + length cs → Put e ds place after g end → Put d (cs ++ ds) at before g end
   then {place} {g} {ds} {end} q r = record { offset = offsets; out = r .out ∙ buffers }
     where
@@ -120,24 +120,24 @@ pub group-of-four : (w : ℕ → ℕ) → groupChars 2 w ≡ pairChars (w 0) (w 
 unfolding groupChars upto
 group-of-four w = refl
 
-pub length-group : (half : ℕ) (w : ℕ → ℕ) → length (groupChars half w) ≡ 3 * half
+pub length-group : (pairs : ℕ) (w : ℕ → ℕ) → length (groupChars pairs w) ≡ 3 * pairs
 unfolding groupChars
-length-group half w = length-upto 3 (λ u. pairChars (w (2 * u)) (w (2 * u + 1))) (λ m. refl) half
+length-group pairs w = length-upto 3 (λ u. pairChars (w (2 * u)) (w (2 * u + 1))) (λ m. refl) pairs
 
 -- a run by another name
 pub renamed : {d at e : ℕ} {cs ds before after : List ℕ} → ds ≡ cs → Put d cs at before e after → Put d ds at before e after
 renamed {d} {at} {e} {before} {after} q p = rw q p
 
 -- the same word on each stream that is there
-pub same-group : (half : ℕ) (w v : ℕ → ℕ) → ((t : ℕ) → t < 2 * half → w t ≡ v t) → groupChars half w ≡ groupChars half v
+pub same-group : (pairs : ℕ) (w v : ℕ → ℕ) → ((t : ℕ) → t < 2 * pairs → w t ≡ v t) → groupChars pairs w ≡ groupChars pairs v
 unfolding groupChars
-same-group half w v e =
-    upto-same half (λ u. pairChars (w (2 * u)) (w (2 * u + 1))) (λ u. pairChars (v (2 * u)) (v (2 * u + 1)))
+same-group pairs w v e =
+    upto-same pairs (λ u. pairChars (w (2 * u)) (w (2 * u + 1))) (λ u. pairChars (v (2 * u)) (v (2 * u + 1)))
     (λ u h. ap₂ (λ (a b : ℕ). pairChars a b) (e (2 * u) (omega arith)) (e (2 * u + 1) (omega arith)))
 
-pub same-four : (half : ℕ) → half ≤ 2 → (w v : ℕ → ℕ) → w 0 ≡ v 0 → w 1 ≡ v 1 → w 2 ≡ v 2 → w 3 ≡ v 3
-    → groupChars half w ≡ groupChars half v
-same-four half h w v a b c e = same-group half w v (λ t l. each t (omega arith))
+pub same-four : (pairs : ℕ) → pairs ≤ 2 → (w v : ℕ → ℕ) → w 0 ≡ v 0 → w 1 ≡ v 1 → w 2 ≡ v 2 → w 3 ≡ v 3
+    → groupChars pairs w ≡ groupChars pairs v
+same-four pairs h w v a b c e = same-group pairs w v (λ t l. each t (omega arith))
   where
     each : (t : ℕ) → t < 4 → w t ≡ v t
     each zero l = a

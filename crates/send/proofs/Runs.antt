@@ -20,7 +20,7 @@ use Rattle.span.proofs.Encoding.{same-again, stays, length-symbols}
 use Rattle.packing.specs.declared.bytes.ThreeBytes.{ThreeBytes}
 use Rattle.packing.specs.Bytes.{bytesOf}
 use Rattle.send.specs.declared.coder.Three.{Three}
-use Rattle.send.specs.Put.{offsetAfter, put, pairChars, runChars, threeOf, KeepsDisparity, blankingChars}
+use Rattle.send.specs.Inside.Put.{offsetAfter, put, pairChars, runChars, threeOf, KeepsDisparity, blankingChars}
 use Rattle.send.proofs.Putting.{Put, one-offset, three-put}
 
 -- the symbols of a pair of the word

@@ -8,7 +8,7 @@ use lib.ListN.{length, getD, set}
 use lib.Seq.{sets}
 use Rattle.ground.specs.Written.{upto, table}
 use Rattle.ground.proofs.Writing.{sets-upto, sets-whole, length-table, getD-table, is-table}
-use Rattle.send.specs.Put.{scaledWords, AreWords, Fits}
+use Rattle.send.specs.Inside.Put.{scaledWords, AreWords, Fits}
 
 module _ (factor : ℕ) (xs : List ℕ) where
   -- the room with the first n words in it

@@ -1,4 +1,4 @@
--- The characters of a span as the sender puts them: part behind part, each over half the streams.
+-- The characters of a span as the sender puts them: part after part, each over half the streams.
 -- Assumes nothing.
 use mathlib.Core.Path.{_≡_, refl, sym, ap, ap₂, _∙_}
 use mathlib.Core.Bool.{true, false}
@@ -36,8 +36,8 @@ use Rattle.span.proofs.Lengths.{known-has-streams, length-chars}
 use Rattle.span.proofs.Packing.{bytes-interleaved, bytes-replicate}
 use Rattle.span.proofs.Parts.{parts-from-sav, parts-from-eav, blank-area}
 use Rattle.span.proofs.Samples.{word-is, word-below}
-use Rattle.send.specs.Put.{timingChars, groupChars, scaledWords, pictureWord, pictureChars, crccAfter, crccChars, offsetAfter, put, behindChars, runChars, blankingChars, wholeChars, spanPut, Fits}
-use Rattle.send.specs.Send.{Good}
+use Rattle.send.specs.Inside.Put.{timingChars, groupChars, scaledWords, pictureWord, pictureChars, crccAfter, crccChars, offsetAfter, put, afterPictureChars, runChars, blankingChars, wholeChars, spanPut, Fits}
+use Rattle.send.specs.Inside.Send.{Good}
 use Rattle.send.proofs.Passing.{sum-is}
 use Rattle.send.proofs.Putting.{Put, made, renamed, told, whole, same-group}
 use Rattle.send.proofs.Scaling.{length-words}
@@ -49,8 +49,8 @@ regroup t g h c r =
     ∙ sym (append-assoc t (g ++ (h ++ c)) r)
 
 module _ (f : Format) (a : Request) (good : Good f a) (factor : ℕ) (is : factor ≡ boundsOf f (a .line) .factor) where
-  abbrev half : ℕ
-  half = shapeOf f .«stream_pairs»
+  abbrev pairs : ℕ
+  pairs = shapeOf f .«stream_pairs»
 
   abbrev rows : List ℕ
   rows = scaledWords factor (a .samples)
@@ -69,7 +69,7 @@ module _ (f : Format) (a : Request) (good : Good f a) (factor : ℕ) (is : facto
   fits = record { fits = λ i h. rw is (word-below f known (a .line) (i / 1920) (getD (a .samples) i 0) (may i h)) }
 
   -- and the one that is sent
-  sample-scaled : (t j : ℕ) → t < 2 * half → j < 1920 → sampleWord f (a .line) t (getD (a .samples) (1920 * t + j) 0) ≡ w t j
+  sample-scaled : (t j : ℕ) → t < 2 * pairs → j < 1920 → sampleWord f (a .line) t (getD (a .samples) (1920 * t + j) 0) ≡ w t j
   unfolding scaledWords
   sample-scaled t j l h =
       let x : ℕ = getD (a .samples) (1920 * t + j) 0 in
@@ -80,15 +80,15 @@ module _ (f : Format) (a : Request) (good : Good f a) (factor : ℕ) (is : facto
       ∙ ap (λ (m : ℕ). x * m) (sym is)
       ∙ sym (getD-table (length (a .samples)) (λ i. getD (a .samples) i 0 * factor) (1920 * t + j) 0 inside)
 
-  picture-is : bytes (interleaved (2 * half) 1920 (picture f a)) ≡ pictureChars half 1920 w
+  picture-is : bytes (interleaved (2 * pairs) 1920 (picture f a)) ≡ pictureChars pairs 1920 w
   unfolding picture pictureChars groupChars
   picture-is =
-      bytes-interleaved half 1920 (picture f a)
-      ∙ upto-same 1920 (λ j. groupChars half (λ t. getD (picture f a t) j 0)) (λ j. groupChars half (λ t. w t j))
-      (λ j h. same-group half (λ t. getD (picture f a t) j 0) (λ t. w t j)
+      bytes-interleaved pairs 1920 (picture f a)
+      ∙ upto-same 1920 (λ j. groupChars pairs (λ t. getD (picture f a t) j 0)) (λ j. groupChars pairs (λ t. w t j))
+      (λ j h. same-group pairs (λ t. getD (picture f a t) j 0) (λ t. w t j)
       (λ t l. getD-table 1920 (λ j. sampleWord f (a .line) t (getD (a .samples) (1920 * t + j) 0)) j 0 h ∙ sample-scaled t j l h))
 
-  words-are : (t : ℕ) → t < 2 * half → picture f a t ≡ table 1920 (w t)
+  words-are : (t : ℕ) → t < 2 * pairs → picture f a t ≡ table 1920 (w t)
   unfolding picture
   words-are t l =
       table-same 1920 (λ j. sampleWord f (a .line) t (getD (a .samples) (1920 * t + j) 0)) (w t) (λ j h. sample-scaled t j l h)
@@ -99,37 +99,37 @@ module _ (f : Format) (a : Request) (good : Good f a) (factor : ℕ) (is : facto
   abbrev xyz : ℕ
   xyz = timing (vOf next) true
 
-  some : 1 ≤ half
+  some : 1 ≤ pairs
   some = known-has-streams f (good .known)
 
-  few : half ≤ 2
+  few : pairs ≤ 2
   few = small f refl .half
 
   -- the CRC of a stream is the one that ran over its picture words, run on
-  register-is : (t : ℕ) → t < 2 * half → register f a t ≡ crc (sumIn (sumsIn rows) t) (eav a ++ lineNumber a)
+  register-is : (t : ℕ) → t < 2 * pairs → register f a t ≡ crc (sumIn (sumsIn rows) t) (eav a ++ lineNumber a)
   unfolding register
   register-is t l =
-      let long : length rows ≡ 3840 * half = omega (arith, length-words factor (a .samples) refl, good .samples) in
+      let long : length rows ≡ 3840 * pairs = omega (arith, length-words factor (a .samples) refl, good .samples) in
       sym (crc-append 0 (picture f a t) (eav a ++ lineNumber a))
-      ∙ ap (λ (c : ℕ). crc c (eav a ++ lineNumber a)) (ap (crc 0) (words-are t l) ∙ sum-is half rows some few long t l)
+      ∙ ap (λ (c : ℕ). crc c (eav a ++ lineNumber a)) (ap (crc 0) (words-are t l) ∙ sum-is pairs rows some few long t l)
 
-  crcc-words-are : (t : ℕ) → t < 2 * half → crccWords (register f a t) ≡ crccAfter (sumIn (sumsIn rows) t) xyz (lineWords next)
+  crcc-words-are : (t : ℕ) → t < 2 * pairs → crccWords (register f a t) ≡ crccAfter (sumIn (sumsIn rows) t) xyz (lineWords next)
   crcc-words-are t l = ap crccWords (register-is t l)
 
-  crcc-is : bytes (interleaved (2 * half) 2 (crcc f a)) ≡ crccChars half (sumsIn rows) xyz (lineWords next)
+  crcc-is : bytes (interleaved (2 * pairs) 2 (crcc f a)) ≡ crccChars pairs (sumsIn rows) xyz (lineWords next)
   unfolding crccChars groupChars upto
   crcc-is =
-      bytes-interleaved half 2 (crcc f a)
+      bytes-interleaved pairs 2 (crcc f a)
       ∙ ap₂ (λ (x y : List ℕ). x ++ y)
-      (same-group half (λ t. crccWords (register f a t) .crcc0) (λ t. crccAfter (sumIn (sumsIn rows) t) xyz (lineWords next) .crcc0)
+      (same-group pairs (λ t. crccWords (register f a t) .crcc0) (λ t. crccAfter (sumIn (sumsIn rows) t) xyz (lineWords next) .crcc0)
       (λ t l. ap (λ (q : CrccWords). q .crcc0) (crcc-words-are t l)))
-      (same-group half (λ t. crccWords (register f a t) .crcc1) (λ t. crccAfter (sumIn (sumsIn rows) t) xyz (lineWords next) .crcc1)
+      (same-group pairs (λ t. crccWords (register f a t) .crcc1) (λ t. crccAfter (sumIn (sumsIn rows) t) xyz (lineWords next) .crcc1)
       (λ t l. ap (λ (q : CrccWords). q .crcc1) (crcc-words-are t l)))
 
   number-is :
-      bytes (interleaved (2 * half) 2 (λ _. lineNumber a)) ≡ groupChars half (λ _. lineWords next .ln0) ++ groupChars half (λ _. lineWords next .ln1)
+      bytes (interleaved (2 * pairs) 2 (λ _. lineNumber a)) ≡ groupChars pairs (λ _. lineWords next .ln0) ++ groupChars pairs (λ _. lineWords next .ln1)
   unfolding groupChars upto
-  number-is = bytes-interleaved half 2 (λ _. lineNumber a)
+  number-is = bytes-interleaved pairs 2 (λ _. lineNumber a)
 
   abbrev content : ContentBytes
   content = contentOf f (a .content)
@@ -137,30 +137,30 @@ module _ (f : Format) (a : Request) (good : Good f a) (factor : ℕ) (is : facto
   abbrev blanks : List ℕ
   blanks = blankingChars (shapeOf f) (blankWord f)
 
-  eav-is : charsFromEav f a ≡ behindChars half (sumsIn rows) next content ++ blanks
-  unfolding timingChars behindChars runChars
+  eav-is : charsFromEav f a ≡ afterPictureChars pairs (sumsIn rows) next content ++ blanks
+  unfolding timingChars afterPictureChars runChars
   eav-is =
       parts-from-eav f a some
-      ∙ ap (λ (l : List ℕ). timingChars half 266 (content .eav1) (content .eav2) xyz ++ l)
+      ∙ ap (λ (l : List ℕ). timingChars pairs 266 (content .eav1) (content .eav2) xyz ++ l)
       (ap₂ (λ (x y : List ℕ). x ++ y) number-is
       (ap₂ (λ (x y : List ℕ). x ++ y) crcc-is
       (ap₂ (λ (x y : List ℕ). x ++ y) (blank-area f (a .line)) (bytes-replicate (shapeOf f .«fill_pairs») fillWord))))
-      ∙ regroup (timingChars half 266 (content .eav1) (content .eav2) xyz) (groupChars half (λ _. lineWords next .ln0)) (groupChars half (λ _. lineWords next .ln1))
-      (crccChars half (sumsIn rows) xyz (lineWords next)) blanks
+      ∙ regroup (timingChars pairs 266 (content .eav1) (content .eav2) xyz) (groupChars pairs (λ _. lineWords next .ln0)) (groupChars pairs (λ _. lineWords next .ln1))
+      (crccChars pairs (sumsIn rows) xyz (lineWords next)) blanks
 
-  sav-is : charsFromSav f a ≡ timingChars half 261 (content .sav1) (content .sav2) (timing (vOf (a .line)) false) ++ pictureChars half 1920 w
+  sav-is : charsFromSav f a ≡ timingChars pairs 261 (content .sav1) (content .sav2) (timing (vOf (a .line)) false) ++ pictureChars pairs 1920 w
   unfolding timingChars
   sav-is =
       parts-from-sav f a some
-      ∙ ap (λ (l : List ℕ). timingChars half 261 (content .sav1) (content .sav2) (timing (vOf (a .line)) false) ++ l) picture-is
+      ∙ ap (λ (l : List ℕ). timingChars pairs 261 (content .sav1) (content .sav2) (timing (vOf (a .line)) false) ++ l) picture-is
 
   pub whole-is : spanChars f a
-      ≡ timingChars half 261 (content .sav1) (content .sav2) (timing (vOf (a .line)) false)
-      ++ (pictureChars half 1920 w ++ (behindChars half (sumsIn rows) next content ++ blanks))
+      ≡ timingChars pairs 261 (content .sav1) (content .sav2) (timing (vOf (a .line)) false)
+      ++ (pictureChars pairs 1920 w ++ (afterPictureChars pairs (sumsIn rows) next content ++ blanks))
   unfolding spanChars
   whole-is =
       ap₂ (λ (x y : List ℕ). x ++ y) sav-is eav-is
-      ∙ append-assoc (timingChars half 261 (content .sav1) (content .sav2) (timing (vOf (a .line)) false)) (pictureChars half 1920 w) (behindChars half (sumsIn rows) next content ++ blanks)
+      ∙ append-assoc (timingChars pairs 261 (content .sav1) (content .sav2) (timing (vOf (a .line)) false)) (pictureChars pairs 1920 w) (afterPictureChars pairs (sumsIn rows) next content ++ blanks)
 
   -- what is put of its words is the span, and fills the buffer
   pub span-put : (d : Disparity) {r : Disparity} (before : List ℕ) {ws after : List ℕ} → ws ≡ scaledWords factor (a .samples)

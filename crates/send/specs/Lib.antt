@@ -1,3 +1,2 @@
-pub mod Check
-pub mod Put
+pub mod Inside
 pub mod Send

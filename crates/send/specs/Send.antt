@@ -1,9 +1,8 @@
 -- Sending a span: its refusals in the order tried, the answer, and the symbol buffer afterwards (document 01, "Sending" and its table of
 -- refusals).
 -- Assumes nothing.
-use Prim.Native.Nat.{ℕ, _/_, _<_}
-use mathlib.Core.Path.{_≡_}
-use mathlib.Core.Bool.{Bool, true, false, not}
+use Prim.Native.Nat.{ℕ, _/_}
+use mathlib.Core.Bool.{Bool, not}
 use mathlib.Core.List.{List, [], _∷_}
 use mathlib.Core.Option.{Option}
 use lib.Dec.{eqb}
@@ -40,12 +39,6 @@ forbidden f a i = not (allowed f (a .line) (i / 1920) (getD (a .samples) i 0))
 -- 6: the lowest index of a sample that may not be sent
 unfoldable pub firstForbidden : Format → Request → Option ℕ
 firstForbidden f a = firstBelow (length (a .samples)) (forbidden f a)
-
--- what may be sent, the symbol buffer apart
-pub record Good (f : Format) (a : Request) : Type 0 where
-  pub known : isKnown f ≡ true
-  pub samples : length (a .samples) ≡ samplesIn (shapeOf f)
-  pub allowed : (i : ℕ) → i < length (a .samples) → forbidden f a i ≡ false
 
 -- the refusals in the order tried, where the symbol buffer has so much room
 abbrev pub refusals : Format → Request → ℕ → List Row

@@ -3,7 +3,7 @@ ghost use mathlib.Core.Path.{_≡_};
 ghost use Prim.Native.Nat.{_≤_};
 ghost use lib.Dec.{eqb};
 ghost use Rattle.ground.specs.Range.{within};
-ghost use Rattle.send.specs.Check.{allWithin, firstOutside};
+ghost use Rattle.send.specs.Inside.Check.{allWithin, firstOutside};
 
 // 0 where a sample is within the bounds, else how far it is above them; one below is far above, for the difference wraps. Said so, the
 // loop is a difference and a difference that stops at 0, of eight samples at a time.

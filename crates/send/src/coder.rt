@@ -3,14 +3,14 @@ ghost use mathlib.Core.Path.{_≡_};
 ghost use Prim.Native.Nat.{_<_};
 ghost use Rattle.encoder.specs.Inside.Tables.{offsetOf, ofOffset, symbolTable};
 ghost use Rattle.encoder.specs.Inside.Tables.{flipTable};
-ghost use Rattle.send.specs.Put.{coded, threeOf};
+ghost use Rattle.send.specs.Inside.Put.{coded, threeOf};
 
 pub(crate) struct Coded {
     pub(crate) symbol: u16,
     pub(crate) offset: usize,
 }
 
-// The symbols of three characters, and the offset behind them.
+// The symbols of three characters, and the offset after them.
 pub(crate) struct Three {
     pub(crate) first: u16,
     pub(crate) second: u16,

@@ -18,7 +18,7 @@ ghost use Rattle.line.specs.Stream.{lineAfter};
 ghost use Rattle.span.specs.Format.{symbolsIn};
 ghost use Rattle.span.specs.Inside.Format.{Small};
 ghost use Rattle.span.specs.Inside.Layout.{ancillarySymbol};
-ghost use Rattle.send.specs.Put.{offsetAfter, put, crccAfter, crccChars, behindChars, AreWords, KeepsDisparity, blankingChars, wholeChars};
+ghost use Rattle.send.specs.Inside.Put.{offsetAfter, put, crccAfter, crccChars, afterPictureChars, AreWords, KeepsDisparity, blankingChars, wholeChars};
 
 // The CRCC words of a stream whose picture words leave c: the CRC runs on over the EAV and the line number.
 fn crcc_after(c: u32, xyz: u16, n: LineWords) -> CrccWords
@@ -36,7 +36,7 @@ fn crcc_after(c: u32, xyz: u16, n: LineWords) -> CrccWords
 fn put_crcc(
     symbols: &[u16; 536],
     turns: &[u16; 268],
-    half: usize,
+    pairs: usize,
     d: usize,
     sums: Sums,
     xyz: u16,
@@ -46,12 +46,12 @@ fn put_crcc(
 ) -> usize
     requires { ⌜ now symbols ≡ symbolTable ⌝ }
     requires { ⌜ now turns ≡ flipTable ⌝ }
-    requires { ⌜ 1 ≤ half ⌝ }
-    requires { ⌜ half ≤ 2 ⌝ }
+    requires { ⌜ 1 ≤ pairs ⌝ }
+    requires { ⌜ pairs ≤ 2 ⌝ }
     requires { ⌜ d ≡ offsetOf (ofOffset d) ⌝ }
-    requires { ⌜ at + 6 * half ≤ length (now out) ⌝ }
-    ensures offset { λ r. ⌜ r ≡ offsetAfter d (crccChars half sums xyz n) ⌝ }
-    ensures out { λ _. ⌜ now (out .exit) ≡ put d (crccChars half sums xyz n) at (now (out .entry)) ⌝ }
+    requires { ⌜ at + 6 * pairs ≤ length (now out) ⌝ }
+    ensures offset { λ r. ⌜ r ≡ offsetAfter d (crccChars pairs sums xyz n) ⌝ }
+    ensures out { λ _. ⌜ now (out .exit) ≡ put d (crccChars pairs sums xyz n) at (now (out .entry)) ⌝ }
 {
     let a = crcc_after(sums.first, xyz, n);
     let b = crcc_after(sums.second, xyz, n);
@@ -69,15 +69,15 @@ fn put_crcc(
         c: c.crcc1,
         e: e.crcc1,
     };
-    let d1 = crate::put::put_four(symbols, turns, half, d, first, out, at);
-    crate::put::put_four(symbols, turns, half, d1, second, out, at + 3 * half)
+    let d1 = crate::put::put_four(symbols, turns, pairs, d, first, out, at);
+    crate::put::put_four(symbols, turns, pairs, d1, second, out, at + 3 * pairs)
 }
 
 // EAV, line number and CRCC, with V and the number of the line after l.
 pub(crate) fn put_after_picture(
     symbols: &[u16; 536],
     turns: &[u16; 268],
-    half: usize,
+    pairs: usize,
     d: usize,
     sums: Sums,
     l: StreamLine,
@@ -87,12 +87,12 @@ pub(crate) fn put_after_picture(
 ) -> usize
     requires { ⌜ now symbols ≡ symbolTable ⌝ }
     requires { ⌜ now turns ≡ flipTable ⌝ }
-    requires { ⌜ 1 ≤ half ⌝ }
-    requires { ⌜ half ≤ 2 ⌝ }
+    requires { ⌜ 1 ≤ pairs ⌝ }
+    requires { ⌜ pairs ≤ 2 ⌝ }
     requires { ⌜ d ≡ offsetOf (ofOffset d) ⌝ }
-    requires { ⌜ at + 24 * half ≤ length (now out) ⌝ }
-    ensures offset { λ r. ⌜ r ≡ offsetAfter d (behindChars half sums (lineAfter (l .0)) content) ⌝ }
-    ensures out { λ _. ⌜ now (out .exit) ≡ put d (behindChars half sums (lineAfter (l .0)) content) at (now (out .entry)) ⌝ }
+    requires { ⌜ at + 24 * pairs ≤ length (now out) ⌝ }
+    ensures offset { λ r. ⌜ r ≡ offsetAfter d (afterPictureChars pairs sums (lineAfter (l .0)) content) ⌝ }
+    ensures out { λ _. ⌜ now (out .exit) ≡ put d (afterPictureChars pairs sums (lineAfter (l .0)) content) at (now (out .entry)) ⌝ }
 {
     let next = line::stream::line_after(l);
     let n = word::line_number::words_of(next);
@@ -100,7 +100,7 @@ pub(crate) fn put_after_picture(
     let d1 = crate::timing::put_timing(
         symbols,
         turns,
-        half,
+        pairs,
         d,
         crate::timing::K29_7,
         content.eav1,
@@ -109,9 +109,19 @@ pub(crate) fn put_after_picture(
         out,
         at,
     );
-    let d2 = crate::put::put_same(symbols, turns, half, d1, n.ln0, out, at + 12 * half);
-    let d3 = crate::put::put_same(symbols, turns, half, d2, n.ln1, out, at + 15 * half);
-    put_crcc(symbols, turns, half, d3, sums, xyz, n, out, at + 18 * half)
+    let d2 = crate::put::put_same(symbols, turns, pairs, d1, n.ln0, out, at + 12 * pairs);
+    let d3 = crate::put::put_same(symbols, turns, pairs, d2, n.ln1, out, at + 15 * pairs);
+    put_crcc(
+        symbols,
+        turns,
+        pairs,
+        d3,
+        sums,
+        xyz,
+        n,
+        out,
+        at + 18 * pairs,
+    )
 }
 
 // The ancillary area and the fill: a run of one word each, which leaves the disparity as it was.
@@ -138,7 +148,7 @@ fn put_blanking(
     crate::put::put_run(symbols, turns, p.fill_pairs, d, fill, out, start + 3 * area);
 }
 
-// The whole span, of which two pairs of streams at most are sent: SAV and picture, what stands behind it, and blanking.
+// The whole span, of which two pairs of streams at most are sent: SAV and picture, what stands after it, and blanking.
 pub(crate) fn put_span(
     symbols: &[u16; 536],
     turns: &[u16; 268],
@@ -162,12 +172,12 @@ pub(crate) fn put_span(
     ensures offset { λ r. ⌜ r ≡ offsetAfter d (wholeChars p blank (now (words .entry)) (l .0) content) ⌝ }
     ensures out { λ _. ⌜ now (out .exit) ≡ put d (wholeChars p blank (now (words .entry)) (l .0) content) 0 (now (out .entry)) ⌝ }
 {
-    let half = p.stream_pairs;
+    let pairs = p.stream_pairs;
     let xyz = word::timing::timing_word(line::stream::v_of(l), false);
     let d1 = crate::timing::put_timing(
         symbols,
         turns,
-        half,
+        pairs,
         d,
         crate::timing::K28_5,
         content.sav1,
@@ -176,11 +186,11 @@ pub(crate) fn put_span(
         out,
         0,
     );
-    let start = PICTURE_SYMBOL * half;
-    let end = EAV_SYMBOL * half;
-    let q = crate::picture::put_picture(symbols, turns, half, words, d1, out, start);
+    let start = PICTURE_SYMBOL * pairs;
+    let end = EAV_SYMBOL * pairs;
+    let q = crate::picture::put_picture(symbols, turns, pairs, words, d1, out, start);
     let sums = q.sums;
-    let d2 = put_after_picture(symbols, turns, half, q.offset, sums, l, content, out, end);
+    let d2 = put_after_picture(symbols, turns, pairs, q.offset, sums, l, content, out, end);
     put_blanking(symbols, turns, p, blank, d2, out);
     d2
 }

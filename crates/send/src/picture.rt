@@ -6,7 +6,7 @@ ghost use Prim.Native.Nat.{_+_, _*_, _≤_, _<_};
 ghost use lib.ListN.{length};
 ghost use Rattle.encoder.specs.Inside.Tables.{offsetOf, ofOffset, symbolTable};
 ghost use Rattle.encoder.specs.Inside.Tables.{flipTable};
-ghost use Rattle.send.specs.Put.{offsetAfter, put, pairCharsAt, pictureWord, pictureChars, passedAt, AreWords};
+ghost use Rattle.send.specs.Inside.Put.{offsetAfter, put, pairCharsAt, pictureWord, pictureChars, passedAt, AreWords};
 
 // Behind the picture: the offset of the running disparity, and the CRC of each stream.
 pub(crate) struct Passed {
@@ -105,7 +105,7 @@ fn put_four_streams(
 fn put_streams(
     symbols: &[u16; 536],
     turns: &[u16; 268],
-    half: usize,
+    pairs: usize,
     words: &[u16],
     d: usize,
     out: &mut [u16],
@@ -113,16 +113,16 @@ fn put_streams(
 ) -> usize
     requires { ⌜ now symbols ≡ symbolTable ⌝ }
     requires { ⌜ now turns ≡ flipTable ⌝ }
-    requires { ⌜ 1 ≤ half ⌝ }
-    requires { ⌜ half ≤ 2 ⌝ }
+    requires { ⌜ 1 ≤ pairs ⌝ }
+    requires { ⌜ pairs ≤ 2 ⌝ }
     requires { ⌜ AreWords (now words) ⌝ }
-    requires { ⌜ length (now words) ≡ 3840 * half ⌝ }
+    requires { ⌜ length (now words) ≡ 3840 * pairs ⌝ }
     requires { ⌜ d ≡ offsetOf (ofOffset d) ⌝ }
-    requires { ⌜ at + 5760 * half ≤ length (now out) ⌝ }
-    ensures offset { λ r. ⌜ r ≡ offsetAfter d (pictureChars half 1920 (pictureWord (now (words .entry)))) ⌝ }
-    ensures out { λ _. ⌜ now (out .exit) ≡ put d (pictureChars half 1920 (pictureWord (now (words .entry)))) at (now (out .entry)) ⌝ }
+    requires { ⌜ at + 5760 * pairs ≤ length (now out) ⌝ }
+    ensures offset { λ r. ⌜ r ≡ offsetAfter d (pictureChars pairs 1920 (pictureWord (now (words .entry)))) ⌝ }
+    ensures out { λ _. ⌜ now (out .exit) ≡ put d (pictureChars pairs 1920 (pictureWord (now (words .entry)))) at (now (out .entry)) ⌝ }
 {
-    if half == 1 {
+    if pairs == 1 {
         return put_two_streams(symbols, turns, words, d, out, at);
     }
     put_four_streams(symbols, turns, words, d, out, at)
@@ -132,7 +132,7 @@ fn put_streams(
 pub(crate) fn put_picture(
     symbols: &[u16; 536],
     turns: &[u16; 268],
-    half: usize,
+    pairs: usize,
     words: &[u16],
     d: usize,
     out: &mut [u16],
@@ -140,16 +140,16 @@ pub(crate) fn put_picture(
 ) -> Passed
     requires { ⌜ now symbols ≡ symbolTable ⌝ }
     requires { ⌜ now turns ≡ flipTable ⌝ }
-    requires { ⌜ 1 ≤ half ⌝ }
-    requires { ⌜ half ≤ 2 ⌝ }
+    requires { ⌜ 1 ≤ pairs ⌝ }
+    requires { ⌜ pairs ≤ 2 ⌝ }
     requires { ⌜ AreWords (now words) ⌝ }
-    requires { ⌜ length (now words) ≡ 3840 * half ⌝ }
+    requires { ⌜ length (now words) ≡ 3840 * pairs ⌝ }
     requires { ⌜ d ≡ offsetOf (ofOffset d) ⌝ }
-    requires { ⌜ at + 5760 * half ≤ length (now out) ⌝ }
-    ensures passed { λ r. ⌜ r ≡ passedAt half d (now (words .entry)) ⌝ }
-    ensures out { λ _. ⌜ now (out .exit) ≡ put d (pictureChars half 1920 (pictureWord (now (words .entry)))) at (now (out .entry)) ⌝ }
+    requires { ⌜ at + 5760 * pairs ≤ length (now out) ⌝ }
+    ensures passed { λ r. ⌜ r ≡ passedAt pairs d (now (words .entry)) ⌝ }
+    ensures out { λ _. ⌜ now (out .exit) ≡ put d (pictureChars pairs 1920 (pictureWord (now (words .entry)))) at (now (out .entry)) ⌝ }
 {
-    let offset = put_streams(symbols, turns, half, words, d, out, at);
+    let offset = put_streams(symbols, turns, pairs, words, d, out, at);
     let sums = row_crc::sums::sums_of_rows(words);
     Passed { offset, sums }
 }

@@ -5,7 +5,7 @@ ghost use mathlib.Core.List.{[], _∷_};
 ghost use lib.ListN.{length};
 ghost use Rattle.encoder.specs.Inside.Tables.{offsetOf, ofOffset, symbolTable};
 ghost use Rattle.encoder.specs.Inside.Tables.{flipTable};
-ghost use Rattle.send.specs.Put.{offsetAfter, put, pairChars, groupChars, wordOfFour, runChars, KeepsDisparity};
+ghost use Rattle.send.specs.Inside.Put.{offsetAfter, put, pairChars, groupChars, wordOfFour, runChars, KeepsDisparity};
 
 // One word of each stream; with two streams the last two count for nothing.
 pub(crate) struct Four {
@@ -106,7 +106,7 @@ pub(crate) fn put_both(
 pub(crate) fn put_four(
     symbols: &[u16; 536],
     turns: &[u16; 268],
-    half: usize,
+    pairs: usize,
     d: usize,
     g: Four,
     out: &mut [u16],
@@ -114,15 +114,15 @@ pub(crate) fn put_four(
 ) -> usize
     requires { ⌜ now symbols ≡ symbolTable ⌝ }
     requires { ⌜ now turns ≡ flipTable ⌝ }
-    requires { ⌜ 1 ≤ half ⌝ }
-    requires { ⌜ half ≤ 2 ⌝ }
+    requires { ⌜ 1 ≤ pairs ⌝ }
+    requires { ⌜ pairs ≤ 2 ⌝ }
     requires { ⌜ d ≡ offsetOf (ofOffset d) ⌝ }
-    requires { ⌜ at + 3 * half ≤ length (now out) ⌝ }
-    ensures offset { λ r. ⌜ r ≡ offsetAfter d (groupChars half (wordOfFour g)) ⌝ }
-    ensures out { λ _. ⌜ now (out .exit) ≡ put d (groupChars half (wordOfFour g)) at (now (out .entry)) ⌝ }
+    requires { ⌜ at + 3 * pairs ≤ length (now out) ⌝ }
+    ensures offset { λ r. ⌜ r ≡ offsetAfter d (groupChars pairs (wordOfFour g)) ⌝ }
+    ensures out { λ _. ⌜ now (out .exit) ≡ put d (groupChars pairs (wordOfFour g)) at (now (out .entry)) ⌝ }
 {
     let low = put_pair(symbols, turns, d, g.a, g.b, out, at);
-    if half == 1 {
+    if pairs == 1 {
         return low;
     }
     put_pair(symbols, turns, low, g.c, g.e, out, at + 3)
@@ -132,7 +132,7 @@ pub(crate) fn put_four(
 pub(crate) fn put_same(
     symbols: &[u16; 536],
     turns: &[u16; 268],
-    half: usize,
+    pairs: usize,
     d: usize,
     w: u16,
     out: &mut [u16],
@@ -140,17 +140,17 @@ pub(crate) fn put_same(
 ) -> usize
     requires { ⌜ now symbols ≡ symbolTable ⌝ }
     requires { ⌜ now turns ≡ flipTable ⌝ }
-    requires { ⌜ 1 ≤ half ⌝ }
-    requires { ⌜ half ≤ 2 ⌝ }
+    requires { ⌜ 1 ≤ pairs ⌝ }
+    requires { ⌜ pairs ≤ 2 ⌝ }
     requires { ⌜ d ≡ offsetOf (ofOffset d) ⌝ }
-    requires { ⌜ at + 3 * half ≤ length (now out) ⌝ }
-    ensures offset { λ r. ⌜ r ≡ offsetAfter d (groupChars half (λ _. w)) ⌝ }
-    ensures out { λ _. ⌜ now (out .exit) ≡ put d (groupChars half (λ _. w)) at (now (out .entry)) ⌝ }
+    requires { ⌜ at + 3 * pairs ≤ length (now out) ⌝ }
+    ensures offset { λ r. ⌜ r ≡ offsetAfter d (groupChars pairs (λ _. w)) ⌝ }
+    ensures out { λ _. ⌜ now (out .exit) ≡ put d (groupChars pairs (λ _. w)) at (now (out .entry)) ⌝ }
 {
     put_four(
         symbols,
         turns,
-        half,
+        pairs,
         d,
         Four {
             a: w,

@@ -11,8 +11,9 @@ ghost use Rattle.line.specs.Stream.{isLine};
 ghost use Rattle.span.specs.Format.{isKnown, shapeOf, samplesIn, symbolsIn};
 ghost use Rattle.span.specs.Inside.Sample.{boundsOf};
 ghost use Rattle.span.specs.Span.{spanSymbols, spanAfter};
-ghost use Rattle.send.specs.Put.{offsetAfter, put, scaledWords, spanPut, AreWords, Fits};
-ghost use Rattle.send.specs.Send.{Good, request, paperSent, sendOf, sentBuffer};
+ghost use Rattle.send.specs.Send.{request, paperSent, sendOf, sentBuffer};
+ghost use Rattle.send.specs.Inside.Put.{offsetAfter, put, scaledWords, spanPut, AreWords, Fits};
+ghost use Rattle.send.specs.Inside.Send.{Good};
 
 pub enum Sent {
     // The disparity after the span.

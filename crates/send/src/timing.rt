@@ -4,7 +4,7 @@ ghost use Prim.Native.Nat.{_+_, _*_, _≤_, _<_};
 ghost use lib.ListN.{length};
 ghost use Rattle.encoder.specs.Inside.Tables.{offsetOf, ofOffset, symbolTable};
 ghost use Rattle.encoder.specs.Inside.Tables.{flipTable};
-ghost use Rattle.send.specs.Put.{offsetAfter, put, syncChars, secondWord, timingChars};
+ghost use Rattle.send.specs.Inside.Put.{offsetAfter, put, syncChars, secondWord, timingChars};
 
 // The special characters of SAV and EAV, by their numbers among the characters.
 pub(crate) const K28_5: u16 = 261;
@@ -46,10 +46,10 @@ fn put_sync(
 }
 
 // The word of its second pair: with two streams the code has gone on to 000, with four it is FFF still.
-fn second_word(half: usize) -> u16
-    ensures { λ r. ⌜ r ≡ secondWord half ⌝ }
+fn second_word(pairs: usize) -> u16
+    ensures { λ r. ⌜ r ≡ secondWord pairs ⌝ }
 {
-    if half == 1 {
+    if pairs == 1 {
         return 0x000;
     }
     0xFFF
@@ -59,7 +59,7 @@ fn second_word(half: usize) -> u16
 pub(crate) fn put_timing(
     symbols: &[u16; 536],
     turns: &[u16; 268],
-    half: usize,
+    pairs: usize,
     d: usize,
     k: u16,
     content1: u8,
@@ -70,17 +70,17 @@ pub(crate) fn put_timing(
 ) -> usize
     requires { ⌜ now symbols ≡ symbolTable ⌝ }
     requires { ⌜ now turns ≡ flipTable ⌝ }
-    requires { ⌜ 1 ≤ half ⌝ }
-    requires { ⌜ half ≤ 2 ⌝ }
+    requires { ⌜ 1 ≤ pairs ⌝ }
+    requires { ⌜ pairs ≤ 2 ⌝ }
     requires { ⌜ d ≡ offsetOf (ofOffset d) ⌝ }
     requires { ⌜ k < 268 ⌝ }
-    requires { ⌜ at + 12 * half ≤ length (now out) ⌝ }
-    ensures offset { λ r. ⌜ r ≡ offsetAfter d (timingChars half k content1 content2 xyz) ⌝ }
-    ensures out { λ _. ⌜ now (out .exit) ≡ put d (timingChars half k content1 content2 xyz) at (now (out .entry)) ⌝ }
+    requires { ⌜ at + 12 * pairs ≤ length (now out) ⌝ }
+    ensures offset { λ r. ⌜ r ≡ offsetAfter d (timingChars pairs k content1 content2 xyz) ⌝ }
+    ensures out { λ _. ⌜ now (out .exit) ≡ put d (timingChars pairs k content1 content2 xyz) at (now (out .entry)) ⌝ }
 {
-    let w = second_word(half);
-    let zeros = 3 * half - 2;
+    let w = second_word(pairs);
+    let zeros = 3 * pairs - 2;
     let d1 = put_sync(symbols, turns, d, k, content1, content2, w, out, at);
     crate::put::put_run(symbols, turns, zeros, d1, 0x000, out, at + 6);
-    crate::put::put_same(symbols, turns, half, d1, xyz, out, at + 9 * half)
+    crate::put::put_same(symbols, turns, pairs, d1, xyz, out, at + 9 * pairs)
 }

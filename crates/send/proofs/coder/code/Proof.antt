@@ -10,7 +10,7 @@ use Rattle.encoder.specs.Inside.Tables.{offsetOf, ofOffset, symbolTable}
 use Rattle.encoder.specs.Inside.Tables.{flipTable}
 use Rattle.encoder.proofs.Entries.{offset-below, turn-below, symbol-at, after-at}
 use Rattle.send.specs.declared.coder.Coded.{Coded}
-use Rattle.send.specs.Put.{coded}
+use Rattle.send.specs.Inside.Put.{coded}
 use borrow.Author.Needs.{needs}
 use Rattle.send.proofs.coder.code.Statement.{statement}
 use Rattle.send.proofs.coder.code.Tie as tie

@@ -9,12 +9,12 @@ use Rattle.encoder.specs.Inside.Tables.{offsetOf, ofOffset}
 use Rattle.encoder.proofs.Entries.{offset-again}
 use Rattle.send.specs.declared.coder.Coded.{Coded}
 use Rattle.send.specs.declared.coder.Three.{Three}
-use Rattle.send.specs.Put.{coded, threeOf}
+use Rattle.send.specs.Inside.Put.{coded, threeOf}
 use borrow.Author.Needs.{needs}
 use Rattle.send.proofs.coder.code_three.Statement.{statement}
 use Rattle.send.proofs.coder.code_three.Tie as tie
 
--- the offset behind a character is one, and stands for the disparity after it
+-- the offset after a character is one, and stands for the disparity after it
 module _ (x : Coded) (e : Disparity) (b : ℕ) (p : x ≡ coded e b) where
   told : ofOffset (x .offset) ≡ afterOf e b
   told = ap (λ (y : Coded). ofOffset (y .offset)) p ∙ offset-again (afterOf e b)

@@ -1,4 +1,4 @@
--- `send::parts::put_after_picture` meets its contract: EAV, line number and CRCC, one behind the other.
+-- `send::parts::put_after_picture` meets its contract: EAV, line number and CRCC, one after the other.
 -- Assumes nothing.
 use mathlib.Core.Path.{_≡_, sym, ap, ap₂, _∙_}
 use mathlib.Core.Bool.{Bool, true}
@@ -11,7 +11,7 @@ use Rattle.word.specs.declared.line_number.LineWords.{LineWords}
 use Rattle.word.specs.LineNumber.{lineWords}
 use Rattle.word.specs.Timing.{timing}
 use Rattle.span.specs.declared.content.ContentBytes.{ContentBytes}
-use Rattle.send.specs.Put.{timingChars, groupChars, crccChars, behindChars}
+use Rattle.send.specs.Inside.Put.{timingChars, groupChars, crccChars, afterPictureChars}
 use Rattle.send.proofs.Putting.{made, renamed, then, is-offset, same-size, length-group}
 use Rattle.send.proofs.TimingCodes.{length-timing}
 use borrow.Author.Needs.{needs}
@@ -19,15 +19,15 @@ use Rattle.send.proofs.parts.put_after_picture.Statement.{statement}
 use Rattle.send.proofs.parts.put_after_picture.Tie as tie
 
 -- the characters, where the line's words and the timing word are what the calls answer
-as-put : (half : ℕ) (s : Sums) (content : ContentBytes) (m : ℕ) {xyz : ℕ} {n : LineWords} → n ≡ lineWords m → xyz ≡ timing (vOf m) true
-    → behindChars half s m content
-    ≡ timingChars half 266 (content .eav1) (content .eav2) xyz
-    ++ (groupChars half (λ _. n .ln0) ++ (groupChars half (λ _. n .ln1) ++ crccChars half s xyz n))
-unfolding behindChars
-as-put half s content m e q =
+as-put : (pairs : ℕ) (s : Sums) (content : ContentBytes) (m : ℕ) {xyz : ℕ} {n : LineWords} → n ≡ lineWords m → xyz ≡ timing (vOf m) true
+    → afterPictureChars pairs s m content
+    ≡ timingChars pairs 266 (content .eav1) (content .eav2) xyz
+    ++ (groupChars pairs (λ _. n .ln0) ++ (groupChars pairs (λ _. n .ln1) ++ crccChars pairs s xyz n))
+unfolding afterPictureChars
+as-put pairs s content m e q =
     ap₂ (λ (n : LineWords) (xyz : ℕ).
-    timingChars half 266 (content .eav1) (content .eav2) xyz
-    ++ (groupChars half (λ _. n .ln0) ++ (groupChars half (λ _. n .ln1) ++ crccChars half s xyz n))) (sym e) (sym q)
+    timingChars pairs 266 (content .eav1) (content .eav2) xyz
+    ++ (groupChars pairs (λ _. n .ln0) ++ (groupChars pairs (λ _. n .ln1) ++ crccChars pairs s xyz n))) (sym e) (sym q)
 
 line-after-requires : tie.Need-line-after-requires
 line-after-requires c κs = search needs
@@ -100,13 +100,13 @@ returns c =
     let xyz = c .before .before .before .before .before .before .before .before .before .before .before .before .before .before .before .before .timing-word in
     let number = n .ensures ∙ ap lineWords (next .ensures) in
     let code = xyz .ensures ∙ ap (λ (v : Bool). timing v true) (c .before .before .before .before .before .before .before .before .before .before .before .before .before .before .before .before .before .v-of .ensures ∙ ap vOf (next .ensures)) in
-    let l = length-timing (a .half) 266 (a .content .eav1) (a .content .eav2) (xyz .result) (s .pre .1 .1 .0) (s .pre .1 .1 .1 .0) in
-    let g0 = length-group (a .half) (λ _. n .result .ln0) in
-    let g1 = length-group (a .half) (λ _. n .result .ln1) in
+    let l = length-timing (a .pairs) 266 (a .content .eav1) (a .content .eav2) (xyz .result) (s .pre .1 .1 .0) (s .pre .1 .1 .1 .0) in
+    let g0 = length-group (a .pairs) (λ _. n .result .ln0) in
+    let g1 = length-group (a .pairs) (λ _. n .result .ln1) in
     let p = made (c .before .before .before .before .before .before .before .before .before .before .before .before .before .before .put-timing .ensures) in
     let q = made (c .before .before .before .before .before .before .before .before .before .before .put-same .ensures) in
     let r = made (c .before .before .before .before .before .before .put-same2 .ensures) in
-    let e = renamed (as-put (a .half) (a .sums) (a .content) (lineAfter (a .l .0)) number code)
+    let e = renamed (as-put (a .pairs) (a .sums) (a .content) (lineAfter (a .l .0)) number code)
     (then p (omega (arith, l)) (then q (omega (arith, g0)) (then r (omega (arith, g1)) (made (c .before .before .put-crcc .ensures))))) in
     (e .offset, e .out)
 

@@ -1,9 +1,9 @@
--- `send::parts::put_blanking` meets its contract: the two runs, one behind the other.
+-- `send::parts::put_blanking` meets its contract: the two runs, one after the other.
 -- Assumes nothing.
 use mathlib.Core.Path.{sym, ap}
 use Prim.Native.Nat.{_*_}
 use native.Mathlib.Omega.{arith}
-use Rattle.send.specs.Put.{runChars}
+use Rattle.send.specs.Inside.Put.{runChars}
 use Rattle.send.proofs.Putting.{renamed, then, same-size}
 use Rattle.send.proofs.Runs.{keeps-too, fill-stays, run-made}
 use Rattle.send.proofs.Sizes.{length-run}

@@ -5,7 +5,7 @@ use Prim.Native.Nat.{ℕ, _+_}
 use native.Mathlib.Omega.{arith}
 use Rattle.crcc.specs.declared.crcc.CrccWords.{CrccWords}
 use Rattle.crcc.specs.Inside.Sums.{sumIn}
-use Rattle.send.specs.Put.{wordOfFour, crccAfter, crccChars}
+use Rattle.send.specs.Inside.Put.{wordOfFour, crccAfter, crccChars}
 use Rattle.send.proofs.Putting.{made, renamed, then, is-offset, same-size, length-group, same-four}
 use borrow.Author.Needs.{needs}
 use Rattle.send.proofs.parts.put_crcc.Statement.{statement}
@@ -58,14 +58,14 @@ returns c =
     let ez = c .before .before .before .before .before .before .before .before .before .crcc-after3 .ensures in
     let ev = c .before .before .before .before .before .before .before .before .crcc-after4 .ensures in
     let p = renamed
-    (same-four (a .half) (s .pre .1 .1 .1 .0) (λ t. crccAfter (sumIn (a .sums) t) (a .xyz) (a .n) .crcc0) (wordOfFour (record { a = x .crcc0; b = y .crcc0; c = z .crcc0; e = v .crcc0 }))
+    (same-four (a .pairs) (s .pre .1 .1 .1 .0) (λ t. crccAfter (sumIn (a .sums) t) (a .xyz) (a .n) .crcc0) (wordOfFour (record { a = x .crcc0; b = y .crcc0; c = z .crcc0; e = v .crcc0 }))
     (ap (λ (q : CrccWords). q .crcc0) (sym ex)) (ap (λ (q : CrccWords). q .crcc0) (sym ey)) (ap (λ (q : CrccWords). q .crcc0) (sym ez)) (ap (λ (q : CrccWords). q .crcc0) (sym ev)))
     (made (c .before .before .before .before .before .before .put-four .ensures)) in
     let q = renamed
-    (same-four (a .half) (s .pre .1 .1 .1 .0) (λ t. crccAfter (sumIn (a .sums) t) (a .xyz) (a .n) .crcc1) (wordOfFour (record { a = x .crcc1; b = y .crcc1; c = z .crcc1; e = v .crcc1 }))
+    (same-four (a .pairs) (s .pre .1 .1 .1 .0) (λ t. crccAfter (sumIn (a .sums) t) (a .xyz) (a .n) .crcc1) (wordOfFour (record { a = x .crcc1; b = y .crcc1; c = z .crcc1; e = v .crcc1 }))
     (ap (λ (q : CrccWords). q .crcc1) (sym ex)) (ap (λ (q : CrccWords). q .crcc1) (sym ey)) (ap (λ (q : CrccWords). q .crcc1) (sym ez)) (ap (λ (q : CrccWords). q .crcc1) (sym ev)))
     (made (c .before .before .put-four2 .ensures)) in
-    let r = then p (ap (λ (n : ℕ). a .at + n) (sym (length-group (a .half) (λ t. crccAfter (sumIn (a .sums) t) (a .xyz) (a .n) .crcc0)))) q in
+    let r = then p (ap (λ (n : ℕ). a .at + n) (sym (length-group (a .pairs) (λ t. crccAfter (sumIn (a .sums) t) (a .xyz) (a .n) .crcc0)))) q in
     (r .offset, r .out)
 
 pub put-crcc-spec : {M : Type 1} → statement M

@@ -1,4 +1,4 @@
--- `send::parts::put_span` meets its contract: the parts one behind the other.
+-- `send::parts::put_span` meets its contract: the parts one after the other.
 -- Assumes nothing.
 use mathlib.Core.Path.{_≡_, sym, ap, _∙_}
 use mathlib.Core.Bool.{Bool, false}
@@ -10,21 +10,21 @@ use Rattle.line.specs.Stream.{vOf, lineAfter}
 use Rattle.row_crc.specs.Inside.Sums.{sumsIn}
 use Rattle.word.specs.Timing.{timing}
 use Rattle.send.specs.declared.picture.Passed.{Passed}
-use Rattle.send.specs.Put.{put, timingChars, pictureWord, pictureChars, passedAt, behindChars, wholeChars}
+use Rattle.send.specs.Inside.Put.{put, timingChars, pictureWord, pictureChars, passedAt, afterPictureChars, wholeChars}
 use Rattle.send.proofs.Passing.{length-picture}
 use Rattle.send.proofs.Putting.{Put, made, renamed, then, is-offset, same-size}
 use Rattle.send.proofs.Runs.{blanking-made}
-use Rattle.send.proofs.Sizes.{length-behind}
+use Rattle.send.proofs.Sizes.{length-after-picture}
 use Rattle.send.proofs.TimingCodes.{length-timing}
 use borrow.Author.Needs.{needs}
 use Rattle.send.proofs.parts.put_span.Statement.{statement}
 use Rattle.send.proofs.parts.put_span.Tie as tie
 
 -- the picture, by the offset and the buffer that it leaves
-passed-put : (half : ℕ) (ws : List ℕ) {d at : ℕ} {q : Passed} {before after : List ℕ}
-    → (q ≡ passedAt half d ws) × (after ≡ put d (pictureChars half 1920 (pictureWord ws)) at before)
-    → Put d (pictureChars half 1920 (pictureWord ws)) at before (q .offset) after
-passed-put half ws e = made (ap (λ (q : Passed). q .offset) (e .0), e .1)
+passed-put : (pairs : ℕ) (ws : List ℕ) {d at : ℕ} {q : Passed} {before after : List ℕ}
+    → (q ≡ passedAt pairs d ws) × (after ≡ put d (pictureChars pairs 1920 (pictureWord ws)) at before)
+    → Put d (pictureChars pairs 1920 (pictureWord ws)) at before (q .offset) after
+passed-put pairs ws e = made (ap (λ (q : Passed). q .offset) (e .0), e .1)
 
 v-of-requires : tie.Need-v-of-requires
 v-of-requires c κs = search needs
@@ -72,7 +72,7 @@ unfolding wholeChars
 returns c =
     let s = c .before .before .before .before .before .before .before .before .before .before .before .before .before .before .before .before .before .before .before .before .before in
     let a = s .args in
-    let half = a .p .«stream_pairs» in
+    let pairs = a .p .«stream_pairs» in
     let ws = a .words .now in
     let some = s .pre .1 .1 .0 in
     let few = s .pre .1 .1 .1 .0 .half in
@@ -81,13 +81,13 @@ returns c =
     let code = c .before .before .before .before .before .before .before .before .before .before .before .before .before .before .before .before .before .timing-word .ensures ∙ ap (λ (v : Bool). timing v false) (c .before .before .before .before .before .before .before .before .before .before .before .before .before .before .before .before .before .before .v-of .ensures) in
     let e = c .before .before .before .before .before .before .before .before .before .before .before .put-picture .ensures in
     let sums = ap (λ (q : Passed). q .sums) (e .0) in
-    let p1 = renamed (ap (timingChars half 261 (a .content .sav1) (a .content .sav2)) (sym code)) (made (c .before .before .before .before .before .before .before .before .before .before .before .before .before .before .before .put-timing .ensures)) in
-    let p2 = passed-put half ws e in
-    let p3 = renamed (ap (λ (x : Sums). behindChars half x next (a .content)) (sym sums)) (made (c .before .before .before .before .before .before .put-after-picture .ensures)) in
+    let p1 = renamed (ap (timingChars pairs 261 (a .content .sav1) (a .content .sav2)) (sym code)) (made (c .before .before .before .before .before .before .before .before .before .before .before .before .before .before .before .put-timing .ensures)) in
+    let p2 = passed-put pairs ws e in
+    let p3 = renamed (ap (λ (x : Sums). afterPictureChars pairs x next (a .content)) (sym sums)) (made (c .before .before .before .before .before .before .put-after-picture .ensures)) in
     let p4 = blanking-made (is-offset p3) (a .p) (s .pre .1 .1 .1 .1 .0) (c .before .before .put-blanking .ensures) in
-    let l1 = length-timing half 261 (a .content .sav1) (a .content .sav2) xyz some few in
-    let l2 = length-picture half (pictureWord ws) 1920 in
-    let l3 = length-behind half some few (sumsIn ws) next (a .content) in
+    let l1 = length-timing pairs 261 (a .content .sav1) (a .content .sav2) xyz some few in
+    let l2 = length-picture pairs (pictureWord ws) 1920 in
+    let l3 = length-after-picture pairs some few (sumsIn ws) next (a .content) in
     let r = then p1 (omega (arith, l1)) (then p2 (omega (arith, l2)) (then p3 (omega (arith, l3)) p4)) in
     (r .offset, r .out)
 

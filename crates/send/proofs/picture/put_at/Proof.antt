@@ -4,7 +4,7 @@ use mathlib.Core.Path.{_≡_, sym, ap₂}
 use Prim.Native.Nat.{ℕ, _+_, _*_, _/_, _%_, _<_}
 use native.Mathlib.Omega.{arith}
 use lib.ListN.{getD}
-use Rattle.send.specs.Put.{pairChars}
+use Rattle.send.specs.Inside.Put.{pairChars}
 use Rattle.send.proofs.Putting.{made, renamed}
 use borrow.Author.Needs.{needs}
 use Rattle.send.proofs.picture.put_at.Statement.{statement}

@@ -1,9 +1,9 @@
--- `send::put::put_four` meets its contract: a pair of words, or two one behind the other.
+-- `send::put::put_four` meets its contract: a pair of words, or two one after the other.
 -- Assumes nothing.
 use mathlib.Core.Path.{_≡_, refl, ap, _∙_}
 use Prim.Native.Nat.{ℕ}
 use native.Mathlib.Omega.{arith}
-use Rattle.send.specs.Put.{groupChars, wordOfFour}
+use Rattle.send.specs.Inside.Put.{groupChars, wordOfFour}
 use Rattle.send.proofs.Putting.{made, renamed, then, is-offset, same-size, group-of-two, group-of-four}
 use borrow.Author.Needs.{needs}
 use Rattle.send.proofs.put.put_four.Statement.{statement}
@@ -36,7 +36,7 @@ same-length-2 c = search needs
 returns-2 : tie.Need-returns-2
 returns-2 c =
     let a = c .before .before .before .before .before .before .before .before .before .before .args in
-    let two : a .half ≡ 2 = omega arith in
+    let two : a .pairs ≡ 2 = omega arith in
     let q = ap (λ (h : ℕ). groupChars h (wordOfFour (a .g))) two ∙ group-of-four (wordOfFour (a .g)) in
     let p = renamed q (then (made (c .before .before .before .before .before .before .before .put-pair .ensures)) refl (made (c .before .before .put-pair2 .ensures))) in
     (p .offset, p .out)

@@ -4,7 +4,7 @@ use mathlib.Core.Path.{_≡_, refl, ap, _∙_}
 use Prim.Native.Nat.{_-_, _≤_}
 use native.Mathlib.Omega.{arith}
 use lib.ListN.{length, length-set}
-use Rattle.send.specs.Put.{KeepsDisparity}
+use Rattle.send.specs.Inside.Put.{KeepsDisparity}
 use Rattle.send.proofs.Runs.{pair-is, again, none-again, once-more, all-again}
 use borrow.Author.Needs.{needs}
 use Rattle.send.proofs.put.put_run.Statement.{statement}

@@ -2,7 +2,7 @@
 -- Assumes nothing.
 use mathlib.Core.Path.{refl}
 use native.Mathlib.Omega.{arith}
-use Rattle.send.specs.Put.{wordOfFour}
+use Rattle.send.specs.Inside.Put.{wordOfFour}
 use Rattle.send.proofs.Putting.{made, renamed, same-four}
 use borrow.Author.Needs.{needs}
 use Rattle.send.proofs.put.put_same.Statement.{statement}
@@ -17,7 +17,7 @@ same-length c = search needs
 returns : tie.Need-returns
 returns c =
     let a = c .before .before .before .before .before .args in
-    let p = renamed (same-four (a .half) (omega arith) (λ _. a .w) (wordOfFour (record { a = a .w; b = a .w; c = a .w; e = a .w })) refl refl refl refl) (made (c .before .before .put-four .ensures)) in
+    let p = renamed (same-four (a .pairs) (omega arith) (λ _. a .w) (wordOfFour (record { a = a .w; b = a .w; c = a .w; e = a .w })) refl refl refl refl) (made (c .before .before .put-four .ensures)) in
     (p .offset, p .out)
 
 pub put-same-spec : {M : Type 1} → statement M

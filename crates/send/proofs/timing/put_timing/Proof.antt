@@ -3,7 +3,7 @@
 use mathlib.Core.Path.{refl, sym, ap}
 use Prim.Native.Nat.{_-_, _*_}
 use native.Mathlib.Omega.{arith}
-use Rattle.send.specs.Put.{syncChars}
+use Rattle.send.specs.Inside.Put.{syncChars}
 use Rattle.send.proofs.Putting.{made, renamed, then, is-offset, same-size}
 use Rattle.send.proofs.Runs.{zero-stays, run-made}
 use Rattle.send.proofs.Sizes.{length-run}
@@ -45,7 +45,7 @@ put-same-requires : tie.Need-put-same-requires
 put-same-requires c κs =
     let s = c .before .before .before .before .before .before .before .before .before .before .before in
     let p = made (c .before .before .before .before .before .before .before .put-sync .ensures) in
-    let q = run-made (is-offset p) (3 * s .args .half - 2) zero-stays (c .before .before .before .put-run .ensures) in
+    let q = run-made (is-offset p) (3 * s .args .pairs - 2) zero-stays (c .before .before .before .put-run .ensures) in
     (s .pre .0, (s .pre .1 .0, (s .pre .1 .1 .0, (s .pre .1 .1 .1 .0, (is-offset p, omega (arith, same-size p, same-size q, s .pre .1 .1 .1 .1 .1 .1))))))
 
 same-length : tie.Need-same-length
@@ -56,10 +56,10 @@ returns c =
     let s = c .before .before .before .before .before .before .before .before .before .before .before .before .before .before in
     let a = s .args in
     let p = renamed (ap (syncChars (a .k) (a .content1) (a .content2)) (sym (c .before .before .before .before .before .before .before .before .before .before .before .before .second-word .ensures))) (made (c .before .before .before .before .before .before .before .before .before .before .put-sync .ensures)) in
-    let q = run-made (is-offset p) (3 * a .half - 2) zero-stays (c .before .before .before .before .before .before .put-run .ensures) in
-    let l = length-run (3 * a .half - 2) 0x000 in
+    let q = run-made (is-offset p) (3 * a .pairs - 2) zero-stays (c .before .before .before .before .before .before .put-run .ensures) in
+    let l = length-run (3 * a .pairs - 2) 0x000 in
     let r = then p refl (then q (omega (arith, l, s .pre .1 .1 .0)) (made (c .before .before .put-same .ensures))) in
-    let e = renamed (timing-is (a .half) (a .k) (a .content1) (a .content2) (a .xyz) (s .pre .1 .1 .0) (s .pre .1 .1 .1 .0)) r in
+    let e = renamed (timing-is (a .pairs) (a .k) (a .content1) (a .content2) (a .xyz) (s .pre .1 .1 .0) (s .pre .1 .1 .1 .0)) r in
     (e .offset, e .out)
 
 pub put-timing-spec : {M : Type 1} → statement M

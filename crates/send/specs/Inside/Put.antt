@@ -64,7 +64,7 @@ pairChars a b = bytesListed (bytesOf a b)
 
 -- the characters of one word of each stream
 unfoldable pub groupChars : ℕ → (ℕ → ℕ) → List ℕ
-groupChars half w = upto half (λ u. pairChars (w (2 * u)) (w (2 * u + 1)))
+groupChars pairs w = upto pairs (λ u. pairChars (w (2 * u)) (w (2 * u + 1)))
 
 -- one word of each of up to four streams
 abbrev pub wordOfFour : Four → ℕ → ℕ
@@ -77,12 +77,12 @@ syncChars k content1 content2 w =
 
 -- the word of the second pair of a timing code: FFF on four streams, and on two already 000
 abbrev pub secondWord : ℕ → ℕ
-secondWord half = cond (eqb half 1) 0x000 0xFFF
+secondWord pairs = cond (eqb pairs 1) 0x000 0xFFF
 
 -- a timing code of all streams, with the special character and the content bytes put in
 unfoldable pub timingChars : ℕ → ℕ → ℕ → ℕ → ℕ → List ℕ
-timingChars half k content1 content2 xyz =
-    k ∷ k ∷ content1 ∷ content2 ∷ drop 4 (bytes (interleaved (2 * half) 4 (λ t. 0xFFF ∷ 0x000 ∷ 0x000 ∷ xyz ∷ [])))
+timingChars pairs k content1 content2 xyz =
+    k ∷ k ∷ content1 ∷ content2 ∷ drop 4 (bytes (interleaved (2 * pairs) 4 (λ t. 0xFFF ∷ 0x000 ∷ 0x000 ∷ xyz ∷ [])))
 
 -- each sample by the factor that makes it a word
 unfoldable pub scaledWords : ℕ → List ℕ → List ℕ
@@ -98,13 +98,13 @@ pairCharsAt ws i = pairChars (getD ws i 0) (getD ws (i + 1920) 0)
 
 -- the characters of the first n words of all streams
 unfoldable pub pictureChars : ℕ → ℕ → (ℕ → ℕ → ℕ) → List ℕ
-pictureChars half n w = upto n (λ j. groupChars half (λ t. w t j))
+pictureChars pairs n w = upto n (λ j. groupChars pairs (λ t. w t j))
 
--- what is known behind the picture: the offset, and the CRC of each stream
+-- what is known after the picture: the offset, and the CRC of each stream
 abbrev pub passedAt : ℕ → ℕ → List ℕ → Passed
-passedAt half d ws = record { offset = offsetAfter d (pictureChars half 1920 (pictureWord ws)); sums = sumsIn ws }
+passedAt pairs d ws = record { offset = offsetAfter d (pictureChars pairs 1920 (pictureWord ws)); sums = sumsIn ws }
 
--- what the CRC runs over behind the picture: the EAV and the line number
+-- what the CRC runs over after the picture: the EAV and the line number
 abbrev pub tailWords : ℕ → LineWords → List ℕ
 tailWords xyz n = 0xFFF ∷ 0x000 ∷ 0x000 ∷ xyz ∷ n .ln0 ∷ n .ln1 ∷ []
 
@@ -114,16 +114,16 @@ crccAfter c xyz n = crccWords (crc c (tailWords xyz n))
 
 -- the characters of the CRCC words of all streams
 unfoldable pub crccChars : ℕ → Sums → ℕ → LineWords → List ℕ
-crccChars half s xyz n =
-    groupChars half (λ t. crccAfter (sumIn s t) xyz n .crcc0) ++ groupChars half (λ t. crccAfter (sumIn s t) xyz n .crcc1)
+crccChars pairs s xyz n =
+    groupChars pairs (λ t. crccAfter (sumIn s t) xyz n .crcc0) ++ groupChars pairs (λ t. crccAfter (sumIn s t) xyz n .crcc1)
 
 -- those of EAV, line number and CRCC, where the line after is given
-unfoldable pub behindChars : ℕ → Sums → ℕ → ContentBytes → List ℕ
-behindChars half s next content =
+unfoldable pub afterPictureChars : ℕ → Sums → ℕ → ContentBytes → List ℕ
+afterPictureChars pairs s next content =
     let n = lineWords next in
     let xyz = timing (vOf next) true in
-    timingChars half (numberOf «K29_7») (content .eav1) (content .eav2) xyz
-    ++ (groupChars half (λ _. n .ln0) ++ (groupChars half (λ _. n .ln1) ++ crccChars half s xyz n))
+    timingChars pairs (numberOf «K29_7») (content .eav1) (content .eav2) xyz
+    ++ (groupChars pairs (λ _. n .ln0) ++ (groupChars pairs (λ _. n .ln1) ++ crccChars pairs s xyz n))
 
 -- so many pairs of one word
 unfoldable pub runChars : ℕ → ℕ → List ℕ
@@ -136,10 +136,10 @@ blankingChars p blank = runChars (p .«stream_pairs» * p .ancillary) blank ++ r
 -- all parts of the span of line n, where its picture words are ws and the blanking word is blank
 unfoldable pub wholeChars : Shape → ℕ → List ℕ → ℕ → ContentBytes → List ℕ
 wholeChars p blank ws n content =
-    let half = p .«stream_pairs» in
-    timingChars half (numberOf «K28_5») (content .sav1) (content .sav2) (timing (vOf n) false)
-    ++ (pictureChars half 1920 (pictureWord ws)
-    ++ (behindChars half (sumsIn ws) (lineAfter n) content
+    let pairs = p .«stream_pairs» in
+    timingChars pairs (numberOf «K28_5») (content .sav1) (content .sav2) (timing (vOf n) false)
+    ++ (pictureChars pairs 1920 (pictureWord ws)
+    ++ (afterPictureChars pairs (sumsIn ws) (lineAfter n) content
     ++ blankingChars p blank))
 
 -- those of a span of words
