@@ -6,7 +6,7 @@ use Prim.Native.Nat.{ℕ, _≤_}
 use native.Mathlib.Omega.{arith}
 use Rattle.ground.specs.Range.{within}
 use Rattle.span.specs.declared.format.Format.{Format}
-use Rattle.span.specs.Format.{isKnown, shapeOf, samplesIn, symbolsIn}
+use Rattle.span.specs.Format.{formatFrom, isKnown, shapeOf, samplesIn, symbolsIn}
 use Rattle.recording.specs.Recording.{limit}
 use Rattle.reception.specs.Link.{link}
 
