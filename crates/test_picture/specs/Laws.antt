@@ -1,4 +1,4 @@
--- What holds of the test picture, for one who sends it; `proofs/Laws` proves each.
+-- What holds of the test picture, for anyone who sends it; `proofs/Laws` proves each.
 -- Assumes nothing.
 use Prim.Native.Nat.{ℕ, _+_, _-_, _*_, _≤_, _<_}
 use mathlib.Core.Path.{_≡_}
@@ -34,13 +34,13 @@ pub record TestPictureLaws : Type 0 where
       × (testSample 1080 3363 ≡ 18)
       × (testSample 1 0 ≡ 1361)
       × (testSample 2160 3839 ≡ 1358)
-  -- a code is one that a picture may have: 16 to 4079, and at ten bits its fourth part 4 to 1019 (document 01, "Words of a stream")
+  -- a code is one that a picture may have: 16 to 4079, and at ten bits a quarter of it, 4 to 1019 (document 01, "Words of a stream")
   pub codes : (line sample : ℕ) → (16 ≤ testSample line sample) × (testSample line sample ≤ 4079)
   pub rowTen :
       (f : Format) (line i : ℕ) → i < 3840 → f .depth ≡ 10 → (4 ≤ getD (rowAt f line) i 0) × (getD (rowAt f line) i 0 ≤ 1019)
   pub rowTwelve :
       (f : Format) (line i : ℕ) → i < 3840 → f .depth ≡ 12 → (16 ≤ getD (rowAt f line) i 0) × (getD (rowAt f line) i 0 ≤ 4079)
-  -- a row of 3840 samples is put for lines 1 to 2160; another line meets 2, and another length 4
+  -- a row of 3840 samples is put for lines 1 to 2160; any other line meets 2, and any other length 4
   pub putsRow : (line : ℕ) (row : List ℕ) → 1 ≤ line → line ≤ 2160 → length row ≡ 3840 → rowAnswer line row ≡ given tt
   pub rowMeets2 : (line : ℕ) (row : List ℕ) → (1 ≤ line → line ≤ 2160 → ⊥) → rowAnswer line row ≡ refused 2 0
   pub rowMeets4 : (line : ℕ) (row : List ℕ) → 1 ≤ line → line ≤ 2160 → (length row ≡ 3840 → ⊥) → rowAnswer line row ≡ refused 4 0
@@ -53,7 +53,7 @@ pub record TestPictureLaws : Type 0 where
       → l ≤ 1080
       → shapeOf f .«stream_pairs» ≡ 2
       → testSamples f (l + 41) ≡ images f (2 * l - 1) ++ images f (2 * l)
-  -- sample j of stream t is the one that its image has there (document 01, "Dividing a picture"); a line that is not active carries blanking
+  -- sample j of stream t is the one that its image has there (document 01, "Dividing a picture"); a blanking line carries blanking
   pub sampleIs :
       (f : Format) (n : ℕ)
       → isActive n ≡ true
@@ -63,7 +63,7 @@ pub record TestPictureLaws : Type 0 where
       → getD (testSamples f n) (1920 * t + j) 0
       ≡ sampleBy (codeStep f) (lineFrom (imageOf f 1 t) (basicLineOf n)) (sampleFrom (imageOf f 1 t) j)
   pub areBlanking : (f : Format) (n : ℕ) → isActive n ≡ false → testSamples f n ≡ blankRow f
-  -- there are as many as a span has, and a call with them is refused nothing
+  -- there are as many as a span has, and a call with them is not refused
   pub samplesLong : (f : Format) (n : ℕ) → length (testSamples f n) ≡ samplesIn (shapeOf f)
   pub isSent :
       (f : Format) (n : ℕ) (d : Disparity) (content : Content)

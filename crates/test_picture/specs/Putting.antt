@@ -21,14 +21,14 @@ paperPut UnknownFormat = refused 1 0
 paperPut NoLine = refused 2 0
 paperPut WrongOutput = refused 4 0
 
--- a row of the picture: 2 where it has no such line, then 4 where the row has not 3840 samples
+-- a row of the picture: 2 if it has no such line, then 4 if the row does not have 3840 samples
 abbrev pub rowAnswer : ℕ → List ℕ → Answer (Unit {0})
 rowAnswer line row = checked (unless 2 (isPictureLine line) ∷ unless 4 (isRow row) ∷ []) tt
 
 abbrev pub rowPut : ℕ → List ℕ → List ℕ
 rowPut line row = unlessRefused (rowAnswer line row) row (testRow line)
 
--- the samples of a stream line: 1 for an unknown format, 2 where there is no such line, then 4 where there are not the samples of a span
+-- the samples of a stream line: 1 for an unknown format, 2 if there is no such line, then 4 if the row does not have the samples of a span
 abbrev pub samplesAnswer : Format → ℕ → List ℕ → Answer (Unit {0})
 samplesAnswer f n samples =
     checked (unless 1 (isKnown f) ∷ unless 2 (isLine n) ∷ unless 4 (eqb (length samples) (samplesIn (shapeOf f))) ∷ []) tt

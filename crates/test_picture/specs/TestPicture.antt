@@ -1,5 +1,5 @@
--- A test picture: rings round the middle of a 4K picture, and the samples that a link carries of it. No paper asks for this picture; that a
--- line counts from 1 and a sample from 0, and which image a stream carries, are document 01's ("Dividing a picture").
+-- A test picture: rings around the middle of a 4K picture, and the samples of it that a link carries. No paper asks for this picture; that
+-- lines count from 1 and samples from 0, and which image a stream carries, are document 01's ("Dividing a picture").
 -- Assumes nothing.
 use Prim.Native.Nat.{ℕ, _+_, _-_, _*_, _/_, _%_}
 use mathlib.Core.Bool.{cond}
@@ -15,11 +15,11 @@ use Rattle.span.specs.Format.{shapeOf, streams}
 use Rattle.span.specs.Image.{imageOf}
 use Rattle.span.specs.Blanking.{blankRow}
 
--- how far a number is from another
+-- the distance between two numbers
 abbrev pub apart : ℕ → ℕ → ℕ
 apart a b = (a - b) + (b - a)
 
--- the twelve-bit code of a sample of a picture line: by the square of its distance from the middle, again and again from 16 to 4079
+-- the twelve-bit code of a sample of a picture line: it grows with the square of the distance from the middle, and wraps from 4079 to 16
 unfoldable pub testSample : ℕ → ℕ → ℕ
 testSample line sample =
     let dx = apart sample 1920 in
@@ -30,12 +30,12 @@ testSample line sample =
 abbrev pub testRow : ℕ → List ℕ
 testRow line = table 3840 (testSample line)
 
--- at twelve bits a code is the sample; at ten its fourth part is, so that the word sent for it (004, 6.1: shifted left by two) is the code
+-- at twelve bits a code is the sample; at ten a quarter of it is, so that the word sent for it (004, 6.1: shifted left by two) is the code
 -- without its low two bits
 abbrev pub codeStep : Format → ℕ
 codeStep f = cond (eqb (f .depth) 10) 4 1
 
--- a sample in steps of so many codes, and the row of a line in those of a format
+-- a sample in steps of this many codes, and the row of a line in the steps of a format
 abbrev pub sampleBy : ℕ → ℕ → ℕ → ℕ
 sampleBy step line sample = testSample line sample / step
 
@@ -45,12 +45,12 @@ rowInSteps step line = table 3840 (sampleBy step line)
 abbrev pub rowAt : Format → ℕ → List ℕ
 rowAt f line = rowInSteps (codeStep f) line
 
--- what stream t, counted from 0, carries of it on an active line n: its image's samples of the line that the image has there. The link is the
--- one of the first images: 1 and 2, and with four streams 3 and 4.
+-- what stream t, counted from 0, carries of it on an active line n: the samples of its image's line there. The link is the one of the first
+-- images: 1 and 2, and with four streams also 3 and 4.
 abbrev pub imageRow : Format → ℕ → ℕ → List ℕ
 imageRow f n t =
     let u = imageOf f 1 t in divided (w u) 1920 (rowAt f (lineFrom u (basicLineOf n)))
 
--- what is sent on stream line n, stream by stream: the picture on active lines, blanking on any other
+-- what is sent on stream line n, stream by stream: the picture on active lines, blanking on all others
 unfoldable pub testSamples : Format → ℕ → List ℕ
 testSamples f n = rowOn n (upto (streams (shapeOf f)) (imageRow f n)) (blankRow f)

@@ -1,4 +1,4 @@
-// A test picture: rings round the middle of a 4K picture, and the samples that a link carries of it.
+// A test picture: rings around the middle of a 4K picture, and the samples of it that a link carries.
 pub mod answer;
 mod copy;
 pub mod row;

@@ -22,7 +22,7 @@ fn sample_at(line: PictureLine, sample: u16) -> u16
     (16 + (dx * dx + dy * dy) / 512 % 4064) as u16
 }
 
-// The codes of a line, in steps of so many.
+// The codes of a line, in steps of this many.
 pub(crate) fn put_codes(line: PictureLine, step: u16, row: &mut [u16])
     requires { ⌜ 1 ≤ step ⌝ }
     requires { ⌜ length (now row) ≡ 3840 ⌝ }

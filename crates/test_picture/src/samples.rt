@@ -1,4 +1,4 @@
-// The samples that a link carries of the test picture: those of the first images.
+// The samples of the test picture that a link carries: those of the first images.
 use crate::answer::Put;
 use line::picture::PictureLine;
 use line::stream::StreamLine;
@@ -15,7 +15,7 @@ ghost use Rattle.span.specs.Format.{isKnown, shapeOf, samplesIn};
 ghost use Rattle.test_picture.specs.Putting.{paperPut, samplesAnswer, samplesPut};
 ghost use Rattle.test_picture.specs.TestPicture.{codeStep, rowInSteps, testSamples};
 
-// How many twelve-bit codes are one at the depth of a format.
+// How many twelve-bit codes make one code at the depth of a format.
 fn step_of(f: Format) -> u16
     ensures { λ r. ⌜ r ≡ codeStep f ⌝ }
 {
@@ -25,7 +25,7 @@ fn step_of(f: Format) -> u16
     1
 }
 
-// The first or the second picture line that give a line of basic images.
+// The first or the second of the two picture lines that make up a line of the basic images.
 fn picture_line_of(basic: PictureLine, second: usize) -> PictureLine
     requires { ⌜ 1 ≤ basic .0 ⌝ }
     requires { ⌜ basic .0 ≤ 1080 ⌝ }
@@ -35,7 +35,7 @@ fn picture_line_of(basic: PictureLine, second: usize) -> PictureLine
     line::picture::picture_line(2 * line::picture::number_of(basic) - 1 + second as u16)
 }
 
-// A row of the picture, divided: that of its first image and then that of its second, from a place on.
+// A row of the picture, divided: the row of its first image and then that of its second, from a place on.
 fn put_images(
     line: PictureLine,
     step: u16,
@@ -85,7 +85,7 @@ fn put_picture(
     }
 }
 
-// The samples of a line into a row that has room for them: the picture on active lines, blanking on any other.
+// The samples of a line into a row that has room for them: the picture on active lines, blanking on all others.
 fn put_line(f: Format, l: StreamLine, samples: &mut [u16])
     requires { ⌜ isKnown f ≡ true ⌝ }
     requires { ⌜ length (now samples) ≡ samplesIn (shapeOf f) ⌝ }

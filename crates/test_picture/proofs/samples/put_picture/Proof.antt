@@ -70,8 +70,8 @@ put-images-requires c κs =
     let pre = start .pre in
     let v = at .loop in
     let f = start .args .f in
-    let rows : k .shape-of .result .half ≡ shapeOf f .«stream_pairs» = ap (λ (p : Shape). p .«stream_pairs») (k .shape-of .ensures) in
-    let less : v .i < k .shape-of .result .half = c .before .before .before .before .before .loop-test .taken in
+    let rows : k .shape-of .result .«stream_pairs» ≡ shapeOf f .«stream_pairs» = ap (λ (p : Shape). p .«stream_pairs») (k .shape-of .ensures) in
+    let less : v .i < k .shape-of .result .«stream_pairs» = c .before .before .before .before .before .loop-test .taken in
     let long : length (v .samples) ≡ 1920 * streams (shapeOf f) = v .inv .4 ∙ pre .1 .1 .1 .1 in
     let room : 3840 * v .i + 3840 ≤ length (v .samples) = omega (arith, rows, less, long) in (
       omega (arith, some-step f, k .before .before .step-of .ensures),
