@@ -2,22 +2,22 @@
  * Brazulint: the link code of a 10G video link for 4K pictures (ITU-R BT.2077 Part 2, in China GY/T 347.2-2021).
  *
  * Link with libadapter.a (`rt staticlib adapter` writes it to target/staticlib), on x86-64 Linux. It calls memcpy and memset and nothing
- * else, allocates nothing, keeps nothing between calls, and may be called from any number of threads at once. As it is compiled now judging,
+ * else, allocates nothing, keeps nothing between calls, and may be called from any number of threads at once. As compiled now, judging,
  * finding and the next span take up to 27 KiB of stack, sending 26 KiB, reading 12 KiB, and every other call less than 3 KiB.
  *
- * WHAT EVERY CALL KEEPS
+ * WHAT EVERY CALL GUARANTEES
  *
- * - Any numbers and any contents may be given. Every call ends and answers; nothing is undefined but what is said of pointers below.
- * - `number` in an answer is 0 where the call did its work, and else the number of the refusal. A field that then has no meaning is 0 or
+ * - Any numbers and any contents may be given. Every call ends and answers; nothing is undefined except for the pointer rules below.
+ * - `number` in an answer is 0 if the call did its work, and otherwise the number of the refusal. A field that then has no meaning is 0 or
  *   false. Refusals are tried in the order of their numbers, and the first that applies is answered.
- * - Numbers are taken whole: line 65578 is refused, and is not line 42.
+ * - Numbers are not truncated: line 65578 is refused, and is not line 42.
  * - A refusal below 20 leaves every lent buffer as it was. A refusal from 20 on leaves the rows all zero, and `place` says where.
  *
  * POINTERS
  *
  * - A buffer is a pointer and the number of its elements. The pointer is to that many elements, aligned for uint16_t, that stay in place
- *   during the call. Where the number is 0 the pointer may be null.
- * - A buffer that a call writes (those that are not const) overlaps no other buffer of the same call. Those that it only reads may overlap.
+ *   during the call. If the number is 0 the pointer may be null.
+ * - A buffer that a call writes (one that is not const) overlaps no other buffer of the same call. Those that it only reads may overlap.
  *
  * REFUSALS
  *
@@ -29,12 +29,12 @@
  *    6  a sample that may not be sent; `place` is the lowest index
  *    7  a word above 4095, a symbol above 1023
  *    8  a timing word beyond repair
- *   20  a symbol of the wrong kind, no symbol, or one that is illegal at its disparity; `place` is a symbol. Of those below it is a
- *       word of the span as sent, counted from 0: word k of stream t, both from 0, stands at k * s + t, and the fill behind them all
- *   21  a timing word is wrong, beyond repair, or of the other H
+ *   20  a symbol of the wrong kind, no symbol, or one that is illegal at its disparity; `place` is a symbol. For those below it is a
+ *       word of the span as sent, counted from 0: word k of stream t, both from 0, is at k * s + t, and the fill after them all
+ *   21  a timing word is wrong, beyond repair, or has the wrong H
  *   22  the line words of stream 1 name no line, or those of another stream differ
  *   23  V does not fit the line
- *   24  a CRCC word is not the one worked out
+ *   24  a CRCC word is not the one computed
  *   25  on an active line a word that no sample has
  *   26  a fill word is not 0x100
  *
@@ -45,12 +45,12 @@
  *        2   100 Hz           2                3840                9504
  *        3    50 Hz           4                7680               19008
  *
- * The depth is 10 or 12 bits. Symbols have ten bits each in a uint16_t, the bit that is sent first lowest. Samples and rows stand stream
- * by stream: 1920 of stream 1, then 1920 of stream 2, and so on.
+ * The depth is 10 or 12 bits. Symbols have ten bits each in a uint16_t, the bit sent first lowest. Samples and rows are stored stream by
+ * stream: 1920 of stream 1, then 1920 of stream 2, and so on.
  *
- * The running disparity is a bool: true is positive. It is false before a fresh signal; after that, what the call before answered.
+ * The running disparity is a bool: true is positive. It is false before a fresh signal; after that, it is what the previous call answered.
  *
- * AN EXAMPLE: a line is sent, and delivered from what was recorded
+ * AN EXAMPLE: a line is sent, and delivered from the recording
  *
  *   uint16_t samples[3840], symbols[7920], rows[3840];
  *   for (size_t i = 0; i < 3840; i++) samples[i] = 1024;
@@ -70,7 +70,7 @@
 extern "C" {
 #endif
 
-/* The content bytes: 1 and 2 behind the special characters of the SAV, and behind those of the EAV. */
+/* The content bytes: 1 and 2 after the special characters of the SAV, and after those of the EAV. */
 typedef struct {
     uint8_t sav1;
     uint8_t sav2;
@@ -78,7 +78,7 @@ typedef struct {
     uint8_t eav2;
 } brazulint_content;
 
-/* What a span says of itself. */
+/* What a span says about itself. */
 typedef struct {
     uint32_t line; /* the stream line whose SAV begins the span */
     brazulint_content content;
@@ -107,16 +107,16 @@ typedef struct {
 } brazulint_send_answer;
 
 /*
- * Sends the span of a stream line into `symbols`, which has exactly a span's room, from the running disparity before it. On lines 42 to 1121
- * samples are 4 to 1019 at depth 10 and 16 to 4079 at depth 12; on any other line each is 0x100. The first names no content bytes, and
- * zeros are sent; the second sends those given.
+ * Sends the span of a stream line into `symbols`, which has room for exactly one span, from the running disparity before it. On lines 42 to
+ * 1121 samples are 4 to 1019 at depth 10 and 16 to 4079 at depth 12; on any other line each is 0x100. The first call names no content
+ * bytes, and zeros are sent; the second sends those given.
  */
 brazulint_send_answer brazulint_send(uint32_t format, uint32_t depth, uint32_t line, bool positive,
                                      const uint16_t *samples, size_t sample_count, uint16_t *symbols, size_t symbol_room);
 brazulint_send_answer brazulint_send_named(uint32_t format, uint32_t depth, uint32_t line, bool positive, brazulint_content content,
                                            const uint16_t *samples, size_t sample_count, uint16_t *symbols, size_t symbol_room);
 
-/* The row that a stream line carries: true for the picture (lines 42 to 1121), false for blanking (any other number). It refuses nothing. */
+/* The row that a stream line carries: true for the picture (lines 42 to 1121), false for blanking (any other number). Refuses nothing. */
 bool brazulint_carries_picture(uint32_t line);
 
 /* Fills a row with the blanking samples of all streams. Answers 0, or the refusal: 1, 4. */
@@ -131,31 +131,31 @@ typedef struct {
 } brazulint_read_answer;
 
 /*
- * Reads exactly one span into `rows`, which has exactly the room of a span's samples: twelve-bit words as received (at depth 10 not shifted
+ * Reads exactly one span into `rows`, which has room for exactly a span's samples: twelve-bit words as received (at depth 10 not shifted
  * back). After 20 to 26 the rows are all zero.
  */
 brazulint_read_answer brazulint_read(uint32_t format, uint32_t depth, const uint16_t *symbols, size_t symbol_count,
                                      uint16_t *rows, size_t row_room);
 
-/* Answers what reading would, and has no rows; it never answers 4. */
+/* Answers what reading would, without rows; it never answers 4. */
 brazulint_read_answer brazulint_judge(uint32_t format, uint32_t depth, const uint16_t *symbols, size_t symbol_count);
 
 /* ---- Recordings: at most 2,097,152 symbols */
 
 typedef struct {
     uint32_t number; /* 1, 3, 5 */
-    bool found;      /* false where no span stands at or after the start; that is no refusal */
+    bool found;      /* false if there is no span at or after the start; that is not a refusal */
     uint64_t place;  /* the first symbol of the span */
 } brazulint_find_answer;
 
-/* The first place at or after `start` at which a span would be read. A start that is the length finds none. */
+/* The first place at or after `start` at which a span would be read. A start equal to the length finds none. */
 brazulint_find_answer brazulint_find(uint32_t format, uint32_t depth, const uint16_t *symbols, size_t symbol_count, uint64_t start);
 
 typedef struct {
     uint32_t number; /* 1, 3, 4, 5 */
     bool found;
     uint64_t place;
-    uint64_t resume; /* where to go on: the end of the span; `start` where none is delivered, after a refusal too */
+    uint64_t resume; /* where to continue: the end of the span; `start` if none is delivered, also after a refusal */
     brazulint_delivery delivery;
 } brazulint_next_answer;
 
@@ -167,7 +167,7 @@ brazulint_next_answer brazulint_next(uint32_t format, uint32_t depth, const uint
 
 /*
  * Divides a row of 3840 samples into the rows of 1920 of two basic images: 1 and 2 on an odd picture line, 3 and 4 on an even one. Samples
- * are copied as they come. Both answer 0, or the refusal: 3, 4.
+ * are copied unchanged. Both calls answer 0, or the refusal: 3, 4.
  */
 uint32_t brazulint_split(const uint16_t *row, size_t row_count, uint16_t *first, size_t first_room, uint16_t *second, size_t second_room);
 
@@ -252,7 +252,7 @@ typedef struct {
 brazulint_decode_answer brazulint_decode(bool positive, uint32_t symbol);
 
 typedef struct {
-    bool known; /* false for a number above 267, which is no character */
+    bool known; /* false for a number above 267, which is not a character */
     uint32_t symbol;
     bool positive_after;
 } brazulint_encode_answer;

@@ -1,5 +1,5 @@
 /*
- * Four lines of a 120 Hz link are sent one after the other, line 43 loses a symbol on the way, and what arrived is delivered.
+ * Four lines of a 120 Hz link are sent one after another, line 43 loses a symbol on the way, and what arrived is delivered.
  *
  *   rt staticlib adapter
  *   cc -I include examples/c/recital.c target/staticlib/libadapter.a -o target/recital && target/recital
@@ -13,7 +13,7 @@ enum { FORMAT = 1, DEPTH = 12, SAMPLES = 3840, SYMBOLS = 7920, FIRST = 41, LINES
 
 static uint16_t picture[SAMPLES], blanking[SAMPLES], rows[SAMPLES], recording[LINES * SYMBOLS];
 
-/* Each line from the disparity that the line before it left; the first, of a fresh signal, from negative. */
+/* Each line from the disparity that the previous line left; the first, of a fresh signal, from negative. */
 static uint32_t send_lines(void) {
     bool positive = false;
     for (uint32_t k = 0; k < LINES; k++) {
@@ -26,7 +26,7 @@ static uint32_t send_lines(void) {
     return 0;
 }
 
-/* Every span that stands whole in the recording, wherever it begins. */
+/* Every span that is whole in the recording, wherever it begins. */
 static void deliver_lines(void) {
     uint64_t place = 0;
     for (;;) {

@@ -1,6 +1,6 @@
 /*
  * Every call of the header once or more from C, with values that the papers give, null pointers of length 0, and odd lengths. It prints
- * each that is not as it should be, and how many were tried.
+ * each that is wrong, and how many were tried.
  */
 #include "brazulint.h"
 

@@ -37,7 +37,7 @@ pub extern "C" fn brazulint_join(first: &[u16], second: &[u16], row: &mut [u16])
     picture_answers::pictures::copied_number(dividing::join::join(first, second, row))
 }
 
-// The choice of row, as which of the two: whether it is the picture.
+// The choice of row: whether it is the picture.
 #[no_mangle]
 pub extern "C" fn brazulint_carries_picture(line: u32) -> bool
     ensures { λ r. ⌜ r ≡ rowOn line true false ⌝ }

@@ -1,5 +1,5 @@
--- Numbers as callers from C give them, and the number of an answer. The paper's definitions take any number, so what is given is what they
--- are asked for, whole.
+-- Numbers as callers from C give them, and the number of an answer. The paper's definitions take any number, so they get what is given, in
+-- full.
 -- Assumes nothing.
 use Prim.Native.Nat.{ℕ}
 use mathlib.Core.Bool.{Bool, true, false}
@@ -12,7 +12,7 @@ abbrev pub disparityFrom : Bool → Disparity
 disparityFrom true = Positive
 disparityFrom false = Negative
 
--- the number of a refusal; 0, which no refusal has, where none is given
+-- the number of a refusal; 0, which no refusal has, if there is none
 abbrev pub numberIn : {A : Type 0} → Answer A → ℕ
 numberIn (refused number place) = number
 numberIn (given a) = 0

@@ -1,5 +1,5 @@
-// Numbers as callers from C give them. None is narrowed: a number that the library has no room for becomes the largest that it has room for,
-// and no format, depth, line, sample, word or symbol has that number, so that it is refused as the number itself would be.
+// Numbers as callers from C give them. None is truncated: a number too large for the library's type becomes the largest of that type, and
+// no format, depth, line, sample, word or symbol has that number, so that it is refused as the number itself would be.
 use line::picture::PictureLine;
 use line::stream::StreamLine;
 use span::format::Format;
@@ -50,7 +50,7 @@ pub fn picture_line_from(n: u32) -> PictureLine
     line::picture::picture_line(at_most_65535(n))
 }
 
-// The running disparity, of which a bool has just the two values.
+// The running disparity, whose two values are just those of a bool.
 pub fn disparity_from(positive: bool) -> Disparity
     ensures { λ r. ⌜ r ≡ disparityFrom positive ⌝ }
 {

@@ -1,5 +1,5 @@
--- What decoding and encoding answer to C (document 01, "Receiving and finding"; refusals 7 and 20): a character by its number, 0 to 255 for a
--- byte and 256 to 267 for a special one.
+-- What decoding and encoding answer to C (document 01, "Receiving and finding"; refusals 7 and 20): a character by its number, 0 to 255 for
+-- a byte and 256 to 267 for a special one.
 -- Assumes nothing.
 use Prim.Native.Nat.{ℕ}
 use mathlib.Core.Bool.{true, false, cond}
@@ -28,6 +28,6 @@ decodeAnswerOf (given a) = decodedAs (characterNumber (a .character)) (a .after)
 abbrev pub encodedAs : Encoded → EncodeAnswer
 encodedAs e = record { known = true; symbol = e .symbol; «positive_after» = isPositive (e .after) }
 
--- encoding refuses nothing: a number that is no character has no symbol
+-- encoding refuses nothing: a number that is not a character has no symbol
 abbrev pub encodeAnswerOf : Disparity → ℕ → EncodeAnswer
 encodeAnswerOf d c = cond (ltb c characters) (encodedAs (encoded d c)) (record { known = false; symbol = 0; «positive_after» = false })

@@ -64,7 +64,7 @@ fn encoded(e: Encoded) -> EncodeAnswer
     }
 }
 
-// A character by its number, at the running disparity before it. The papers refuse none: above 267 there is no character, and no symbol.
+// A character by its number, at the running disparity before it. The papers refuse none: a number above 267 has no character and no symbol.
 pub fn encode_answer(d: Disparity, character: u32) -> EncodeAnswer
     ensures { λ r. ⌜ r ≡ encodeAnswerOf d character ⌝ }
 {

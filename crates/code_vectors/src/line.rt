@@ -1,4 +1,4 @@
-// A line of text that is put together and written.
+// A line of text that is assembled and written.
 use libc::STDOUT_FILENO;
 use symbol::disparity::Disparity;
 use symbol::special::Special;
@@ -33,7 +33,7 @@ impl Line {
         }
     }
 
-    // One byte more; nothing is added to a full line.
+    // Adds a byte; nothing is added to a full line.
     pub fn push(self, b: u8) -> Self {
         let at = self.len;
         if 32 <= at {
@@ -49,7 +49,7 @@ impl Line {
         self.push(b' ')
     }
 
-    // At least `digits` hexadecimal digits, two or three; four where the number has them.
+    // At least `digits` hexadecimal digits, two or three; four if the number has them.
     pub fn hex(self, n: u16, digits: u8) -> Self {
         let mut l = self;
         if 4095 < n {
@@ -90,7 +90,7 @@ impl Line {
         }
     }
 
-    // The line with its end, to standard output.
+    // Writes the line with its newline to standard output.
     pub fn write(self) {
         let whole = self.push(b'\n');
         let n = whole.len;

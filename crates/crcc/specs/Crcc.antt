@@ -10,11 +10,11 @@ use Rattle.crcc.specs.declared.crcc.Crcc.the-variants.{Register, Above40
 use Rattle.crcc.specs.declared.crcc.CrccWords.{CrccWords}
 use Rattle.word.specs.Word.{isWord, guarded}
 
--- 6.4 b: X^18 + X^5 + X^4 + 1. CRCC0 is the coefficient of X^17, so X^k stands at bit 17 - k of the register.
+-- 6.4 b: X^18 + X^5 + X^4 + 1. CRCC0 is the coefficient of X^17, so X^k is bit 17 - k of the register.
 unfoldable pub taps : ℕ
 taps = 2 ^ (17 - 5) + 2 ^ (17 - 4) + 2 ^ (17 - 0)
 
--- one bit of the message: what falls out at X^18 and the bit together come back as X^5 + X^4 + 1
+-- one bit of the message: the bit shifted out at X^18, exclusive-ored with it, is fed back as X^5 + X^4 + 1
 unfoldable pub bitStep : ℕ → ℕ → ℕ
 unfolding taps
 bitStep c b = c / 2 ⊕ (c % 2 ⊕ b) * taps
@@ -34,7 +34,7 @@ unfolding bitSteps
 crc c [] = c
 crc c (w ∷ ws) = crc (crcWord c w) ws
 
--- table 9: word CRCC0 has CRCC8 to CRCC0 at b10 to b2, word CRCC1 has CRCC17 to CRCC9; b11 is the opposite of b10; what is reserved is 0
+-- table 9: word CRCC0 has CRCC8 to CRCC0 at b10 to b2, word CRCC1 has CRCC17 to CRCC9; b11 is the opposite of b10; reserved bits are 0
 abbrev pub crccWords : ℕ → CrccWords
 crccWords c = record { crcc0 = guarded (c % 2 ^ 9 * 2 ^ 2); crcc1 = guarded (c / 2 ^ 9 % 2 ^ 9 * 2 ^ 2) }
 
@@ -47,7 +47,7 @@ abbrev pub paperCrcc : Crcc → Answer ℕ
 paperCrcc (Register c) = given c
 paperCrcc Above4095 = refused 7 0
 
--- the register after a run of words, from one before it; 7 where a word is above 4095
+-- the register after a run of words, given the register before it; 7 if a word is above 4095
 abbrev pub crccFrom : ℕ → List ℕ → Answer ℕ
 crccFrom c ws = checked (unless 7 (allWords ws) ∷ []) (crc c ws)
 

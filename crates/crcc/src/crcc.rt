@@ -14,8 +14,8 @@ pub struct CrccWords {
     pub crcc1: u16,
 }
 
-// The register after one word more, of which twelve bits count. The twelve bits fall out of the register before any that they put in
-// gets that far, so all of them can be worked out at once (the law word-step).
+// The register after one more word, of which twelve bits count. The twelve bits are shifted out of the register before any bit that they
+// feed back gets that far, so all of them can be computed at once (law word-step).
 pub fn crc_word(c: u32, w: u16) -> u32
     ensures { λ r. ⌜ r ≡ crcWord c w ⌝ }
 {

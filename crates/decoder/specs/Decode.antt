@@ -24,7 +24,7 @@ paperDecoded (Decoded.Special k d) = given (record { character = special k; afte
 paperDecoded Decoded.Above1023 = refused 7 0
 paperDecoded Decoded.Illegal = refused 20 0
 
--- symbol s, where the disparity before it is d: 7 above 1023, 20 where no character has it at d
+-- symbol s, where the disparity before it is d: 7 above 1023, 20 if no character has it at d
 abbrev pub decodeOf : Disparity → ℕ → Answer After
 decodeOf d s =
     let c = Option·getD (charOf d s) 0 in

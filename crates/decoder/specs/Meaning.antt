@@ -30,7 +30,7 @@ abbrev pub firstOf : Option ℕ → Option ℕ → Option ℕ
 firstOf (some c) o = some c
 firstOf none o = o
 
--- the character of symbol s at either disparity (there is one at most: law `one-meaning`)
+-- the character of symbol s at either disparity (there is at most one: law `one-meaning`)
 abbrev pub meantBy : ℕ → Option ℕ
 meantBy s = firstOf (charOf Negative s) (charOf Positive s)
 

@@ -1,4 +1,4 @@
-// The entries of the decoding table for a loop, which keeps the disparity as the bit of an entry that says whether it is legal there.
+// The entries of the decoding table for a loop, which keeps a disparity as the entry bit that says whether a symbol is legal at it.
 use symbol::disparity::Disparity;
 ghost use mathlib.Core.Path.{_≡_};
 ghost use Rattle.decoder.specs.Inside.Mask.{maskOf, ofMask, legalBy, afterBy};
@@ -30,7 +30,7 @@ pub fn legal_by(m: u16, e: u16) -> bool
     e & m != 0
 }
 
-// The bit after an entry's symbol: bits 11 and 12, moved to 9 and 10, turn it.
+// The bit after an entry's symbol: bits 11 and 12, moved to 9 and 10, flip it.
 pub fn after_by(m: u16, e: u16) -> u16
     ensures { λ r. ⌜ r ≡ afterBy m e ⌝ }
 {

@@ -20,7 +20,7 @@ pub enum Meaning {
     Above1023,
 }
 
-// What an entry says at both.
+// What an entry says at both disparities.
 fn meaning_by(e: u16) -> Meaning
     ensures { λ r. ⌜ paperMeaning r ≡ meaningBy e ⌝ }
 {

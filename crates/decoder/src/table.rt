@@ -5,8 +5,8 @@ ghost use Prim.Native.Nat.{_%_};
 ghost use Rattle.decoder.specs.Inside.Decoder.{decodingTable, entryOf, entryIn, legalBit, entryAfter};
 
 // An entry for each symbol: the character's number in bits 0 to 8 (a byte is its own number, the special characters are 256 to 267),
-// bit 9 where it is legal at negative disparity, bit 10 at positive, bits 11 and 12 where it turns the disparity, bit 13 where it is a byte;
-// 0 for no symbol.
+// bit 9 set if it is legal at negative disparity, bit 10 if at positive, bits 11 and 12 if it flips the disparity, bit 13 if it is a byte;
+// 0 if the number is not a symbol.
 const ENTRIES: [u16; 1024] = [
     0,
     0,
@@ -1034,14 +1034,14 @@ const ENTRIES: [u16; 1024] = [
     0,
 ];
 
-// The decoding table by value, for a loop to lend.
+// The decoding table by value, for a loop to hold and pass by reference.
 pub fn decoding_table() -> [u16; 1024]
     ensures { λ r. ⌜ r ≡ decodingTable ⌝ }
 {
     ENTRIES
 }
 
-// The entry of a symbol in a table that is lent; above 1,023, that of no symbol.
+// The entry of a symbol in a given table; above 1,023, the entry for no symbol.
 pub fn entry(t: &[u16; 1024], s: u16) -> u16
     ensures { λ r. ⌜ r ≡ entryIn (now (t .entry)) s ⌝ }
 {
@@ -1058,7 +1058,7 @@ pub fn byte_of(t: &[u16; 1024], s: u16) -> u8
     (entry(t, s) % 256) as u8
 }
 
-// The entry of one symbol. It builds the table: a loop lends it instead.
+// The entry of one symbol. It builds the table: a loop holds one instead.
 pub(crate) fn entry_of(s: u16) -> u16
     ensures { λ r. ⌜ r ≡ entryOf s ⌝ }
 {

@@ -1,5 +1,5 @@
--- What is asked of a reading of windows so that none of them can begin inside another (that they are so for spans: law `span-marked`,
--- crate recording).
+-- What a reading of windows must satisfy so that no window can begin inside another (spans satisfy it: law `span-marked`, crate
+-- recording).
 -- Assumes nothing.
 use Prim.Native.Nat.{ℕ, _+_, _<_}
 use mathlib.Core.List.{List, [], _∷_}

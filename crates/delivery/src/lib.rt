@@ -1,1 +1,1 @@
-// Delivery of a recording: definitions (specs/) and laws (proofs/) alone, over any reading of windows and any length of them.
+// Delivery of a recording: only definitions (specs/) and laws (proofs/), over any reading of windows of any length.

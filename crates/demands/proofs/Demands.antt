@@ -121,7 +121,7 @@ module _ (f : Format) (known : IsFormat f) (l : ℕ) (content : Content) (sample
   delivers = record {
     sent = is-sent;
     found = λ d before entry behind s short.
-        let x : Sending = record { before = d; request = a } in
+        let x : Sending = record { before = d; asked = a } in
         let sent : WasSent f x = record { room = length entry; after = spanAfter d f a; sent = is-sent d entry s; content = bytes } in
         let put = as-asked d (spanAfter d f a) f a entry (is-sent d entry s) .0 in
         let r = before ++ (sentBuffer d f a entry ++ behind) in

@@ -1,5 +1,5 @@
--- The customer's three demands, in their order, and what is held beyond them. Each is a proposition over the definitions that the contracts of
--- the public calls name, so that what is proved of these is promised of the calls. `proofs/Demands` proves each.
+-- The customer's three demands, in their order, and what is proved beyond them. Each is a proposition about the definitions that the
+-- contracts of the public calls name, so that what is proved of these is promised of the calls. `proofs/Demands` proves each.
 -- Assumes nothing.
 use Prim.Native.Nat.{ℕ, _+_, _-_, _*_, _/_, _%_, _≤_, _<_}
 use mathlib.Core.Path.{_≡_}
@@ -71,11 +71,11 @@ spanRules f w =
     ∷ ruleAt 26 n (λ k. placed s (holds26 s word f) k ≡ true)
     ∷ []
 
--- Every public call ends with a defined answer for all input. A bad call, and no good one, returns its refusal number, that of the first rule
--- of the table that applies, and touches no lent buffer; a refused span returns its number and place and leaves its rows all zero. What is
--- good is said in document 01's own numbers; the finder's limit, 2,097,152 there, by its name. A call that is not named here has no refusal to
--- answer: the disparity before a fresh signal, encoding a character, the tables, a timing word, the CRCC words of a register, three bytes as
--- words, the choice between two rows, and making a reader of a recording and asking its place.
+-- Every public call ends with a defined answer for all input. A bad call, and no good one, returns its refusal number, that of the first
+-- rule of the table that applies, and touches no lent buffer; a refused span returns its number and place and leaves its rows all zero.
+-- What is good is stated in document 01's own numbers; the finder's limit, 2,097,152 there, by its name. A call that is not named here
+-- refuses nothing: the disparity before a fresh signal, encoding a character, the tables, a timing word, the CRCC words of a register,
+-- three bytes as words, the choice between two rows, and making a reader of a recording and asking its place.
 pub record Demand1 : Type 0 where
   -- the meaning of a symbol: 7
   pub meaning : (s : ℕ) → Tried (meaningOf s) (rule 7 (s ≤ 1023) ∷ [])
@@ -145,8 +145,8 @@ pub record Demand1 : Type 0 where
   pub find :
       (f : Format) (r : List ℕ) (start : ℕ)
       → Tried (findOf f r start) (rule 1 (IsFormat f) ∷ rule 3 (length r ≤ limit) ∷ rule 5 (start ≤ length r) ∷ [])
-  -- the next span, and a step of the stepping reader, which answers it from the reader's place: 1, 3, 4, 5; the rows are touched, and the place
-  -- after is another one, only where a span is delivered
+  -- the next span, and a step of the stepping reader, which answers it from the reader's place: 1, 3, 4, 5; the rows are touched, and the
+  -- place moves on, only if a span is delivered
   pub next :
       (f : Format) (r : List ℕ) (start : ℕ) (entry : List ℕ)
       → Tried (nextOf f r start (length entry))
@@ -173,8 +173,8 @@ pub record IsRow (f : Format) (whole : List ℕ) : Type 0 where
   pub ten : f .depth ≡ 10 → (i : ℕ) → i < 3840 → (4 ≤ getD whole i 0) × (getD whole i 0 ≤ 1019)
   pub twelve : f .depth ≡ 12 → (i : ℕ) → i < 3840 → (16 ≤ getD whole i 0) × (getD whole i 0 ≤ 4079)
 
--- a span of these samples, sent on stream line l + 41, is answered and not refused; wherever it stands whole in a recording it is delivered, with
--- that line, and with these words
+-- a span of these samples, sent on stream line l + 41, is not refused; wherever it is whole in a recording it is delivered, with that line
+-- and these words
 pub record Delivers (f : Format) (l : ℕ) (content : Content) (samples words : List ℕ) : Type 0 where
   pub sent :
       (d : Disparity) (entry : List ℕ)
@@ -210,7 +210,7 @@ pub record Demand2 : Type 0 where
       → WasSent f x
       → (readSpan f (sentSymbols f x) ≡ given (readingOf f x .values))
       × (pictureOf f (sentSymbols f x) ≡ readingOf f x .words)
-  -- and read is exactly what is the encoding of words that meet the tests
+  -- and exactly the encodings of words that meet the tests are read
   pub exactIf :
       (f : Format) (w : List ℕ) (d : Disparity) (c : ContentBytes) (words : List ℕ)
       → IsFormat f
@@ -246,7 +246,7 @@ pub record Demand2 : Type 0 where
         repairs = repairsOf (sumOf s (λ t. wrongAt f (x .asked) words (s * 3 + t) + wrongAt f (x .asked) words (s * 1927 + t)));
       }))
       × (pictureOf f w ≡ readingOf f x .words)
-  -- and where two of one are: it is refused there
+  -- and where two bits of one are wrong: it is refused there
   pub beyondRepair :
       (f : Format) (x : Sending)
       → WasSent f x
@@ -260,7 +260,7 @@ pub record Demand2 : Type 0 where
       → (w : List ℕ) (d : Disparity) (c : ContentBytes)
       → Encodes f w d c words
       → readSpan f w ≡ refused 21 k
-  -- joining what was divided is the row, and dividing what was joined the two rows
+  -- joining what was divided gives the row, and dividing what was joined gives the two rows
   pub joinSplit : (whole : List ℕ) → length whole ≡ 3840 → joined 1920 (divided 0 1920 whole) (divided 1 1920 whole) ≡ whole
   pub splitJoin :
       (first second : List ℕ)
@@ -279,8 +279,8 @@ pub record Demand2 : Type 0 where
       ≡ given (record { image = u; line = record { 0 = l }; stream = record { 0 = l + 41 }; sample = j }))
       × (getD (divided ((u + 1) % 2) 1920 whole) j 0 ≡ getD whole (sampleFrom u j) 0)
   -- the picture comes back. Formats 1 and 2: picture line 2l - 1 gives images 1 and 2, which one link carries (pair 1), and line 2l gives
-  -- images 3 and 4, which the other does (pair 2). Its row is divided, sent on stream line l + 41 of its link, delivered wherever it stands,
-  -- and joined: it is the row again.
+  -- images 3 and 4, which the other carries (pair 2). The row is divided, sent on stream line l + 41 of its link, delivered wherever it is
+  -- in a recording, and joined: it is the row again.
   pub pictureOfTwo :
       (f : Format) (content : Content) (whole : List ℕ) (pair l : ℕ)
       → IsFormat f
@@ -322,11 +322,11 @@ pub record Demand2 : Type 0 where
 
 -- ==== 3 ====
 
--- One format and depth at both ends, the recording within the finder's limit: a sent span that stands whole anywhere in it is delivered with its
--- line number and exactly its picture words, whatever stands around it. In a recording of sent spans alone with one bit inverted, exactly
--- the other spans are delivered, and nothing else is.
+-- One format and depth at both ends, the recording within the finder's limit: a sent span that stands whole anywhere in it is delivered
+-- with its line number and exactly its picture words, whatever stands around it. In a recording of sent spans alone with one bit inverted,
+-- exactly the other spans are delivered, and nothing else is.
 pub record Demand3 : Type 0 where
-  -- the finder answers q if and only if q is at or after the start, the reader accepts there, and at no place between
+  -- the finder answers q if and only if q is at or after the start, the reader accepts there, and accepts at no place between
   pub foundIf :
       (f : Format) (r : List ℕ) (start q : ℕ)
       → IsFormat f
@@ -355,7 +355,7 @@ pub record Demand3 : Type 0 where
       → (j : ℕ)
       → start ≤ j
       → accepts f (take (symbolsIn (shapeOf f)) (drop j r)) ≡ false
-  -- a start that is the length gives none
+  -- a start equal to the length gives none
   pub atTheEnd : (f : Format) (r : List ℕ) → IsFormat f → length r ≤ limit → findOf f r (length r) ≡ given none
   -- next span is both at once: the place is the finder's, and the values and the rows are the reader's for the window there
   pub nextIs :
@@ -417,8 +417,9 @@ pub record Demand3 : Type 0 where
 
 -- ==== beyond ====
 
--- Any symbols in the place of one span: those before, what these deliver by themselves, every span after. So nothing after the damage is
--- lost, and no more than a span's length of symbols that are not accepted delivers nothing. Lost and inserted symbols are cases of it.
+-- Any symbols in place of one span: delivered are every span before, what these symbols deliver by themselves, and every span after. So
+-- nothing after the damage is lost, and at most a span's length of symbols, if not accepted, delivers nothing. Lost and inserted symbols
+-- are cases of this.
 pub record Beyond : Type 0 where
   pub damaged :
       (f : Format) (xs ys : List Sending) (d : List ℕ)
@@ -437,7 +438,7 @@ pub record Beyond : Type 0 where
       → length d ≤ symbolsIn (shapeOf f)
       → accepts f d ≡ false
       → deliveryFrom f d 0 ≡ []
-  -- fewer symbols than a span has in the place of one, as where some were lost: exactly the others
+  -- fewer symbols than a span has in place of one, as when some were lost: exactly the others
   pub fewer :
       (f : Format) (xs ys : List Sending) (d : List ℕ)
       → IsFormat f
@@ -448,14 +449,14 @@ pub record Beyond : Type 0 where
       let r = concatenated (sentSymbols f) xs ++ (d ++ concatenated (sentSymbols f) ys) in
       length r ≤ limit
       → Delivered f r (placedFrom n (readingOf f) 0 xs ++ placedFrom n (readingOf f) (n * length xs + length d) ys)
-  -- the beginning of a recording delivers a beginning of what the whole delivers: what is left out ends after the cut
+  -- a recording cut short delivers the first of the spans that the whole delivers: those left out end after the cut
   pub cut :
       (f : Format) (r : List ℕ) (m : ℕ)
       → IsFormat f
       → (rest : List (Found Reading))
       × (deliveryFrom f r 0 ≡ deliveryFrom f (take m r) 0 ++ rest)
       × AllAfter (symbolsIn (shapeOf f)) m rest
-  -- as many steps as there are spans give them, rows included, and every further step answers none and leaves the rows
+  -- as many steps as there are spans give them, rows included, and every further step answers none and leaves the rows as they were
   pub forEver :
       (f : Format) (r rows : List ℕ) (k p : ℕ)
       → IsFormat f

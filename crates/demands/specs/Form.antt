@@ -1,4 +1,4 @@
--- The forms in which the demands are put: the rows of the table of refusals for a call, the lent memory, a span that was sent.
+-- The forms in which the demands are stated: the rows of the table of refusals for a call, the lent memory, a span that was sent.
 -- Assumes nothing.
 use Prim.Native.Nat.{ℕ, _*_, _≤_, _<_}
 use mathlib.Core.Path.{_≡_}
@@ -34,7 +34,7 @@ pub record MaySend (f : Format) (n x : ℕ) : Type 0 where
 
 -- ---- refusals
 
--- a rule of the table of refusals for a call: its number, what a good call has, and which place is answered where it has it not
+-- a rule of the table of refusals for a call: its number, what a good call meets, and which place is answered for one that does not
 pub record Refusal : Type 1 where
   pub number : ℕ
   pub good : Type 0
@@ -44,7 +44,7 @@ pub record Refusal : Type 1 where
 abbrev pub rule : ℕ → Type 0 → Refusal
 rule number good = record { number = number; good = good; place = λ k. k ≡ 0 }
 
--- a rule that asks n places: the first at which it does not hold is answered
+-- a rule for each of n places: the first at which it does not hold is answered
 abbrev pub ruleAt : ℕ → ℕ → (ℕ → Type 0) → Refusal
 ruleAt number n Holds =
     record {
@@ -53,8 +53,8 @@ ruleAt number n Holds =
       place = λ k. (k < n) × (Holds k → ⊥) × ((j : ℕ) → j < k → Holds j);
     }
 
--- the rows in the order tried: a call that is not good for a rule, and good for all before it, is answered that row's number and place; one
--- that is good for all rows is not refused (what it is answered, its contract says)
+-- the rows in the order tried: a call that breaks a rule, and none before it, is answered that rule's number and place; one that breaks
+-- none is not refused (its contract says what it answers)
 abbrev pub Tried : {A : Type 0} → Answer A → List Refusal → Type 0
 Tried {A} r [] = (a : A) × (r ≡ given a)
 Tried {A} r (x ∷ xs) =
@@ -62,7 +62,7 @@ Tried {A} r (x ∷ xs) =
 
 -- ---- lent memory
 
--- as it was where the call is refused, else what the call makes
+-- as it was if the call is refused, else what the call makes
 pub record Lent {A B : Type 0} (r : Answer A) (entry makes exit : B) : Type 0 where
   pub untouched : (number place : ℕ) → r ≡ refused number place → exit ≡ entry
   pub made : (a : A) → r ≡ given a → exit ≡ makes
@@ -80,7 +80,7 @@ pub record Sending : Type 0 where
   pub before : Disparity
   pub asked : Request
 
--- it was answered, into some room for symbols. Content bytes are bytes.
+-- it was not refused, with some room for symbols. Content bytes are bytes.
 pub record WasSent (f : Format) (x : Sending) : Type 0 where
   pub room : ℕ
   pub after : Disparity
@@ -91,7 +91,7 @@ pub record WasSent (f : Format) (x : Sending) : Type 0 where
 abbrev pub sentSymbols : Format → Sending → List ℕ
 sentSymbols f x = spanSymbols (x .before) f (x .asked)
 
--- what is to be read of it: its line, its content bytes, both disparities, nothing repaired, and its picture words stream by stream
+-- what is to be read from it: its line, its content bytes, both disparities, nothing repaired, and its picture words stream by stream
 abbrev pub readingOf : Format → Sending → Reading
 readingOf f x =
     record {
@@ -123,7 +123,7 @@ spansOf (s ∷ more) = onward (s .answer) (s .rows) (spansOf more)
 abbrev pub stepsFrom : ℕ → Format → List ℕ → ℕ → List ℕ → List (Found Reading)
 stepsFrom k f r p rows = spansOf (runFrom k f r p rows)
 
--- a recording is delivered as a list: with rows of the right length and as many steps as it has symbols, or more, it is what the calls give
+-- a recording is delivered as a list: with rows of the right length and at least as many steps as it has symbols, the calls give that list
 abbrev pub Delivered : Format → List ℕ → List (Found Reading) → Type 0
 Delivered f r list = (rows : List ℕ) → Samples f (length rows) → (k : ℕ) → length r ≤ k → stepsFrom k f r 0 rows ≡ list
 

@@ -10,7 +10,7 @@ use Rattle.ground.specs.Written.{upto, table}
 use Rattle.dividing.specs.declared.row.Copied.{Copied}
 use Rattle.dividing.specs.declared.row.Copied.the-variants.{Done, WrongInput, WrongOutput}
 
--- the n samples of a row that an image gets whose w is given: its sample j is the row's sample 2j + w
+-- the n samples of a row that go to the image with this w: its sample j is the row's sample 2j + w
 unfoldable pub divided : ℕ → ℕ → List ℕ → List ℕ
 divided w n row = table n (λ j. getD row (2 * j + w) 0)
 
@@ -18,7 +18,7 @@ divided w n row = table n (λ j. getD row (2 * j + w) 0)
 unfoldable pub joined : ℕ → List ℕ → List ℕ → List ℕ
 joined n first second = upto n (λ j. getD first j 0 ∷ getD second j 0 ∷ [])
 
--- the row of stream t, of rows that stand one after the other
+-- the row of stream t, from rows stored one after the other
 abbrev pub streamIn : List ℕ → ℕ → List ℕ
 streamIn words t = take 1920 (drop (1920 * t) words)
 
@@ -28,7 +28,7 @@ paperCopied Done = given tt
 paperCopied WrongInput = refused 3 0
 paperCopied WrongOutput = refused 4 0
 
--- the refusals in the order tried: 3 where an input has not its length, then 4 where an output has not
+-- the refusals in the order tried: 3 if an input has the wrong length, then 4 if an output has
 abbrev pub copyOf : Bool → Bool → Answer (Unit {0})
 copyOf input output = checked (unless 3 input ∷ unless 4 output ∷ []) tt
 

@@ -1,11 +1,11 @@
-// The rows of two basic images joined into the row of their picture (004, 5.3). Samples are copied as they come.
+// The rows of two basic images joined into the row of their picture (004, 5.3). Samples are copied unchanged.
 use crate::row::Copied;
 ghost use mathlib.Core.Path.{_≡_};
 ghost use Prim.Native.Nat.{_*_};
 ghost use lib.ListN.{length};
 ghost use Rattle.dividing.specs.Row.{joined, paperCopied, joinOf, joinRow};
 
-// The n samples of the first and of the second in turn.
+// The n samples of the first row and of the second, alternating.
 fn merge(n: usize, first: &[u16], second: &[u16], row: &mut [u16])
     requires { ⌜ length (now first) ≡ n ⌝ }
     requires { ⌜ length (now second) ≡ n ⌝ }
@@ -20,7 +20,7 @@ fn merge(n: usize, first: &[u16], second: &[u16], row: &mut [u16])
     }
 }
 
-// The rows of two images into that of their picture.
+// Joins the rows of two images into the row of their picture.
 pub fn join(first: &[u16], second: &[u16], row: &mut [u16]) -> Copied
     ensures answer { λ r. ⌜ paperCopied r ≡ joinOf (now (first .entry)) (now (second .entry)) (now (row .entry)) ⌝ }
     ensures row { λ _. ⌜ now (row .exit) ≡ joinRow (now (first .entry)) (now (second .entry)) (now (row .entry)) ⌝ }

@@ -1,4 +1,4 @@
-// What dividing a row and joining rows answer.
+// The answer of dividing a row and of joining rows.
 pub enum Copied {
     Done,
     // 3: an input of the wrong length.

@@ -1,4 +1,4 @@
-// A row of a picture divided into the rows of two basic images (004, 5.3). Samples are copied as they come.
+// A row of a picture divided into the rows of two basic images (004, 5.3). Samples are copied unchanged.
 use crate::row::Copied;
 ghost use mathlib.Core.Path.{_≡_};
 ghost use Prim.Native.Nat.{_*_};
@@ -21,7 +21,7 @@ fn deal(n: usize, row: &[u16], first: &mut [u16], second: &mut [u16])
     }
 }
 
-// The row of a picture into those of its two images: 1 and 2 on an odd line, 3 and 4 on an even one.
+// Divides the row of a picture into the rows of its two images: 1 and 2 on an odd line, 3 and 4 on an even one.
 pub fn split(row: &[u16], first: &mut [u16], second: &mut [u16]) -> Copied
     ensures answer { λ r. ⌜ paperCopied r ≡ splitOf (now (row .entry)) (now (first .entry)) (now (second .entry)) ⌝ }
     ensures first { λ _. ⌜ now (first .exit) ≡ splitFirst (now (row .entry)) (now (first .entry)) (now (second .entry)) ⌝ }

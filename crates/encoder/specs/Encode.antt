@@ -1,4 +1,4 @@
--- What encoding answers.
+-- The result of encoding.
 -- Assumes nothing.
 use Prim.Native.Nat.{ℕ}
 use Rattle.symbol.specs.declared.disparity.Disparity.{Disparity}

@@ -1,4 +1,4 @@
--- What holds of the encoder's tables, for one who encodes by them; `proofs/Laws` proves each. The characters are numbered below 268.
+-- Laws of the encoder's tables, for anyone who encodes from them; `proofs/Laws` proves each. The characters are numbered below 268.
 -- Assumes nothing.
 use Prim.Native.Nat.{ℕ, _+_, _<_}
 use mathlib.Core.Path.{_≡_}
@@ -9,9 +9,9 @@ use Rattle.symbol.specs.Code.{symbolOf, afterOf}
 use Rattle.encoder.specs.Inside.Tables.{offsetOf, ofOffset, symbolTable, flipTable}
 
 pub record EncoderLaws : Type 0 where
-  -- after the offset of a disparity stand the symbols of the characters at it
+  -- from the offset of a disparity on, the table holds the characters' symbols at that disparity
   pub symbolAt : (d : Disparity) (c : ℕ) → c < 268 → getD symbolTable (offsetOf d + c) 0 ≡ symbolOf d c
-  -- the exclusive or of the offset with a character's turn is the offset of the disparity after it
+  -- the exclusive or of the offset and a character's flip entry is the offset of the disparity after it
   pub afterAt : (d : Disparity) (c : ℕ) → c < 268 → bitXor (offsetOf d) (getD flipTable c 0) ≡ offsetOf (afterOf d c)
-  -- a disparity is told again from its offset
+  -- a disparity is recovered from its offset
   pub offsetAgain : (d : Disparity) → ofOffset (offsetOf d) ≡ d

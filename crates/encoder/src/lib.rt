@@ -1,3 +1,3 @@
-// Encoding by the 8B/10B code: a character to its ten-bit symbol, and the tables that a loop goes by.
+// 8B/10B encoding: a character to its ten-bit symbol, and the tables that a loop uses.
 pub mod encode;
 pub mod tables;

@@ -1,9 +1,9 @@
-// The encoder's tables. A disparity is kept as an offset: where its symbols begin.
+// The encoder's tables. A disparity is represented as an offset: where its symbols begin.
 use symbol::disparity::Disparity;
 ghost use mathlib.Core.Path.{_≡_};
 ghost use Rattle.encoder.specs.Inside.Tables.{offsetOf, ofOffset, symbolTable, flipTable};
 
-// The symbols of all characters at negative disparity, then at positive; of each, the bytes and then the special characters in the order
+// The symbols of all characters at negative disparity, then at positive; for each, the bytes and then the special characters in the order
 // of their numbers: K28.0 to K28.7, K23.7, K27.7, K29.7, K30.7.
 const SYMBOLS: [u16; 536] = [
     185,
@@ -544,7 +544,7 @@ const SYMBOLS: [u16; 536] = [
     929,
 ];
 
-// 268 for a character that turns the disparity, else 0.
+// 268 for a character that flips the disparity, else 0.
 const TURNS: [u16; 268] = [
     0, // 00
     0,
@@ -816,14 +816,14 @@ const TURNS: [u16; 268] = [
     0, // K30.7
 ];
 
-// The symbols by value, for a loop to lend.
+// The symbols by value, for a loop to hold and pass by reference.
 pub fn symbol_table() -> [u16; 536]
     ensures { λ r. ⌜ r ≡ symbolTable ⌝ }
 {
     SYMBOLS
 }
 
-// The turns by value. The offset after a character is the exclusive or of the offset before it with its turn.
+// The flip entries by value. The offset after a character is the exclusive or of the offset before it and its entry.
 pub fn flip_table() -> [u16; 268]
     ensures { λ r. ⌜ r ≡ flipTable ⌝ }
 {
@@ -840,7 +840,7 @@ pub fn offset_of(d: Disparity) -> usize
     }
 }
 
-// The disparity whose symbols begin there.
+// The disparity whose symbols begin at an offset.
 pub fn disparity_at(offset: usize) -> Disparity
     ensures { λ r. ⌜ r ≡ ofOffset offset ⌝ }
 {

@@ -1,5 +1,5 @@
--- What the test generator writes: a recording as the program that lists spans reads it (document 01, "Values to hold against it"), or that it
--- is refused.
+-- What the test generator writes: a recording as the program that lists spans reads it (document 01, "Values to hold against it"), or a
+-- refusal.
 -- Assumes nothing.
 use Prim.Native.Nat.{ℕ, zero, suc, _/_, _%_}
 use mathlib.Core.List.{List, [], _∷_, _++_}
@@ -21,7 +21,7 @@ use Rattle.generate.specs.Parameters.{wantedOf}
 abbrev pub spanOn : Format → ℕ → Request
 spanOn f n = request n NoneNamed (testSamples f n)
 
--- those of so many lines, from one on, each on the line after the one before it
+-- those of consecutive lines, from line n on
 unfoldable pub spansFrom : Format → ℕ → ℕ → List Request
 spansFrom f n zero = []
 spansFrom f n (suc count) = spanOn f n ∷ spansFrom f (lineAfter n) count
@@ -35,7 +35,7 @@ lowFirst (symbol ∷ more) = symbol % 256 ∷ symbol / 256 ∷ lowFirst more
 abbrev pub refusedWith : ℕ → List ℕ
 refusedWith number = 114 ∷ 101 ∷ 102 ∷ 117 ∷ 115 ∷ 101 ∷ 100 ∷ space ∷ (decimal number ++ (newline ∷ []))
 
--- the bytes of format and depth as they came, and the signal of the spans: the first from fresh disparity, which is handed on
+-- the format and depth bytes as given, and the signal of the spans: the first from the fresh disparity, which is handed on
 abbrev pub written : List ℕ → Answer Parameters → List ℕ
 written input (refused number place) = refusedWith number
 written input (given p) = take 2 input ++ lowFirst (signal (p .format) (spansFrom (p .format) (p .first .0) (p .count)))

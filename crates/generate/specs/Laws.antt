@@ -1,4 +1,4 @@
--- What holds of the test generator, for one who reads what it writes; `proofs/Laws` proves each.
+-- What holds of the test generator, for anyone who reads what it writes; `proofs/Laws` proves each.
 -- Assumes nothing.
 use Prim.Native.Nat.{ℕ, _*_, _≤_, _<_}
 use mathlib.Core.Path.{_≡_}
@@ -20,8 +20,8 @@ use Rattle.generate.specs.Pieces.{fileStart, leftOf}
 use Rattle.generate.specs.Inside.Pieces.{restOf, spanBytes, nextLeft}
 
 pub record GenerateLaws : Type 0 where
-  -- an unknown format or depth meets 1, a first line that is not 1 to 1125 meets 2, a missing byte or a recording that the finder does not take
-  -- meets 3; whatever else is asked for is written
+  -- an unknown format or depth meets 1, a first line that is not 1 to 1125 meets 2, a missing byte or a recording too long for the finder
+  -- meets 3; anything else asked for is written
   pub meets1 : (input : List ℕ) → isKnown (wantedFormat input) ≡ false → wantedOf input ≡ refused 1 0
   pub meets2 : (input : List ℕ) → isKnown (wantedFormat input) ≡ true → isLine (firstLineIn input) ≡ false → wantedOf input ≡ refused 2 0
   pub meets3 :
@@ -46,14 +46,14 @@ pub record GenerateLaws : Type 0 where
       → wantedOf input ≡ given (parametersIn input)
   -- what follows the six bytes is ignored
   pub sixCount : (input : List ℕ) → generated (take 6 input) ≡ generated input
-  -- the words that a program reads from the bytes of symbols are the symbols (document 01, "Values to hold against it": low byte first)
+  -- the words read back from the bytes of symbols are the symbols (document 01, "Values to hold against it": low byte first)
   pub readAgain : (l : List ℕ) → wordsInBytes (length l) (lowFirst l) ≡ l
-  -- so many spans have so many times the symbols of one
+  -- n spans have n times the symbols of one
   pub signalLong :
       (d : Disparity) (f : Format) (n count : ℕ)
       → 1 ≤ shapeOf f .«stream_pairs»
       → length (signalFrom d f (spansFrom f n count)) ≡ count * symbolsIn (shapeOf f)
-  -- the program writes it in pieces: the start, and then span after span until none is left; together they are what is to be written
+  -- the program writes in pieces: the start, and then span after span until none is left; together they are what is to be written
   pub pieces : (input : List ℕ) → generated input ≡ fileStart input ++ restOf (leftOf input)
   pub nextPiece : (s : Left) → 0 < s .count → restOf s ≡ spanBytes s ++ restOf (nextLeft s)
   pub noneLeft : (s : Left) → s .count ≡ 0 → restOf s ≡ []

@@ -13,11 +13,11 @@ use Rattle.recording.specs.Recording.{limit}
 use Rattle.text.specs.Words.{wordInBytes}
 use Rattle.generate.specs.declared.parameters.Parameters.{Parameters}
 
--- a byte of format, a byte of depth; a byte that is missing is neither
+-- a format byte and a depth byte; a missing byte is not a known one
 abbrev pub wantedFormat : List ℕ → Format
 wantedFormat input = formatFrom (getD input 0 0) (getD input 1 0)
 
--- the first line, two bytes, low byte first; where one of them is missing it is line 0, which is none
+-- the first line, two bytes, low byte first; if either is missing it is 0, which is not a line
 abbrev pub firstLineIn : List ℕ → ℕ
 firstLineIn input = cond (ltb (length input) 4) 0 (wordInBytes input 1)
 
@@ -33,7 +33,7 @@ isWhole input = leb 6 (length input)
 abbrev pub isShort : List ℕ → Bool
 isShort input = leb (countIn input * symbolsIn (shapeOf (wantedFormat input))) limit
 
--- 1 for an unknown format or depth, 2 where the first line is not 1 to 1125, 3 where bytes are missing or the recording would be too long
+-- 1 for an unknown format or depth, 2 if the first line is not 1 to 1125, 3 if bytes are missing or the recording would be too long
 abbrev pub refusalsIn : List ℕ → List Row
 refusalsIn input =
     unless 1 (isKnown (wantedFormat input)) ∷ unless 2 (isLine (firstLineIn input)) ∷ unless 3 (isWhole input && isShort input) ∷ []

@@ -1,4 +1,4 @@
--- What is written, piece by piece: its start, and then span by span what is left. That the pieces are the whole is the law `pieces`.
+-- What is written, piece by piece: the start, and then what is left, span by span. That the pieces make up the whole is the law `pieces`.
 -- Assumes nothing.
 use Prim.Native.Nat.{ℕ, _<_}
 use mathlib.Core.Path.{_≡_}
@@ -14,7 +14,7 @@ use Rattle.generate.specs.declared.parameters.Parameters.{Parameters}
 use Rattle.generate.specs.Generated.{refusedWith}
 use Rattle.generate.specs.Parameters.{wantedOf}
 
--- the start: the bytes of format and depth, or that it is refused
+-- the start: the format and depth bytes, or the refusal
 abbrev pub startText : List ℕ → Answer Parameters → List ℕ
 startText input (refused number place) = refusedWith number
 startText input (given p) = take 2 input
@@ -22,7 +22,7 @@ startText input (given p) = take 2 input
 abbrev pub fileStart : List ℕ → List ℕ
 fileStart input = startText input (wantedOf input)
 
--- what is left after it: all spans, from fresh disparity, or nothing
+-- what is left after it: all spans, from the fresh disparity, or nothing
 abbrev pub allOf : Parameters → Left
 allOf p = record { format = p .format; line = p .first; disparity = fresh; count = p .count }
 
@@ -36,7 +36,7 @@ leftBy (given p) = allOf p
 abbrev pub leftOf : List ℕ → Left
 leftOf input = leftBy (wantedOf input)
 
--- where a span is left it may be sent
+-- if a span is left, it may be sent
 pub record Ready (s : Left) : Type 0 where
   pub known : 0 < s .count → isKnown (s .format) ≡ true
   pub line : 0 < s .count → isLine (s .line .0) ≡ true

@@ -12,7 +12,7 @@ ghost use Rattle.send.specs.Send.{paperSent};
 ghost use Rattle.generate.specs.Pieces.{Ready};
 ghost use Rattle.generate.specs.Inside.Pieces.{spanBytes, nextLeft, afterOr};
 
-// So many spans, the first on this line and from this disparity.
+// A number of spans, the first on this line and from this disparity.
 pub(crate) struct Left {
     pub(crate) format: Format,
     pub(crate) line: StreamLine,
@@ -34,7 +34,7 @@ fn after_of(sent: Sent, d: Disparity) -> Disparity
     }
 }
 
-// The next span: its bytes fill what is lent, and what is left after it comes back. The rows of samples and symbols are its own to write.
+// The next span: its bytes fill the lent buffer, and what is left after it is returned. The buffers of samples and symbols are scratch.
 pub(crate) fn put_next(s: Left, samples: &mut [u16], symbols: &mut [u16], out: &mut [u8]) -> Left
     requires { ⌜ Ready s ⌝ }
     requires { ⌜ 0 < s .count ⌝ }

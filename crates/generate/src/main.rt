@@ -1,5 +1,6 @@
-// Generates a recording of the test picture: a byte of format, a byte of depth, the first stream line and the number of spans from standard input, two
-// bytes each, low byte first; the bytes of format and depth and then symbols to standard output, low byte first, as `list_spans` reads them.
+// Generates a recording of the test picture. From standard input: a format byte, a depth byte, then the first stream line and the number of
+// spans, two bytes each, low byte first. To standard output: the format and depth bytes and then symbols, low byte first, as `list_spans`
+// reads them.
 mod bytes;
 mod left;
 mod parameters;

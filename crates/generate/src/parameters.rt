@@ -1,4 +1,5 @@
-// What is asked of the test generator: a byte of format, a byte of depth, the first line and the number of spans, two bytes each, low byte first.
+// What is asked of the test generator: a format byte, a depth byte, then the first line and the number of spans, two bytes each, low byte
+// first.
 use line::stream::StreamLine;
 use span::format::Format;
 ghost use mathlib.Core.Path.{_≡_};
@@ -24,7 +25,7 @@ pub(crate) enum Wanted {
     WrongInput,
 }
 
-// Where format and line are good: the number of spans is left to tell.
+// Format and line are valid: the number of spans is still to be checked.
 fn counted(format: Format, first: StreamLine, input: &[u8]) -> Wanted
     requires { ⌜ format ≡ wantedFormat (now input) ⌝ }
     requires { ⌜ first .0 ≡ firstLineIn (now input) ⌝ }
@@ -47,7 +48,7 @@ fn counted(format: Format, first: StreamLine, input: &[u8]) -> Wanted
     })
 }
 
-// A byte that is missing is no format and no depth, and a line of which one is missing is none.
+// A missing byte is not a format or a depth, and a line with a byte missing is not a line.
 pub(crate) fn wanted_in(input: &[u8]) -> Wanted
     ensures { λ r. ⌜ paperWanted r ≡ wantedOf (now (input .entry)) ⌝ }
 {

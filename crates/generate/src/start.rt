@@ -55,7 +55,7 @@ fn put_refusal(words: &[u8], out: &mut [u8]) -> Start
     Start { end, left }
 }
 
-// The bytes of format and depth, or that it is refused.
+// The format and depth bytes, or the refusal.
 pub(crate) fn put_start(input: &[u8], out: &mut [u8]) -> Start
     requires { ⌜ 10 ≤ length (now out) ⌝ }
     ensures counts { λ r. ⌜ Counts (r .end) (now (out .exit)) ⌝ }

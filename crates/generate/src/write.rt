@@ -1,4 +1,4 @@
-// The spans that are left, written one after the other. No contract can say what is written: `put_next` says what each piece is.
+// The spans that are left, written one after another. No contract can say what is written: that of `put_next` says what each piece is.
 use crate::left::Left;
 use libc::STDOUT_FILENO;
 ghost use mathlib.Core.Path.{_≡_};
@@ -7,7 +7,7 @@ ghost use lib.ListN.{length};
 ghost use Rattle.span.specs.Format.{shapeOf, samplesIn, symbolsIn};
 ghost use Rattle.generate.specs.Pieces.{Ready};
 
-// A piece for each span; it stops where nobody takes them.
+// A piece for each span; it stops when a write fails.
 fn write_pieces(left: Left, samples: &mut [u16], symbols: &mut [u16], out: &mut [u8])
     requires { ⌜ Ready left ⌝ }
     requires { ⌜ length (now samples) ≡ samplesIn (shapeOf (left .format)) ⌝ }

@@ -8,6 +8,6 @@ unfoldable pub inverted : ℕ → ℕ → ℕ
 inverted zero n = n / 2 * 2 + (1 - n % 2)
 inverted (suc k) n = inverted k (n / 2) * 2 + n % 2
 
--- a test as a number: 1 where it holds, else 0
+-- a test as a number: 1 if it holds, else 0
 abbrev pub bit : Bool → ℕ
 bit b = cond b 1 0

@@ -1,4 +1,4 @@
--- A range of numbers, both ends in it.
+-- A range of numbers, both ends included.
 -- Assumes nothing.
 use Prim.Native.Nat.{ℕ}
 use mathlib.Core.Bool.{Bool, _&&_}

@@ -1,4 +1,4 @@
--- A list that is made piece by piece: what a loop has written after n turns.
+-- A list built piece by piece: what a loop has written after n iterations.
 -- Assumes nothing.
 use mathlib.Core.List.{List, [], _∷_, _++_}
 use Prim.Native.Nat.{ℕ, zero, suc}

@@ -1,4 +1,4 @@
--- Exclusive or of two numbers, bit by bit: the language's own, under a sign that stays shut, so that only its laws are used.
+-- Exclusive or of two numbers, bit by bit: the language's own, under an operator that stays folded, so that only its laws are used.
 -- Assumes nothing.
 use Prim.Native.Nat.{ℕ}
 use lib.Bits.{bitXor}

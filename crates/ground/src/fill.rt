@@ -1,7 +1,7 @@
 ghost use mathlib.Core.Path.{_≡_};
 ghost use lib.ListN.{length, replicate};
 
-// Every word of the slice becomes v.
+// Sets every word of the slice to v.
 pub fn fill(words: &mut [u16], v: u16)
     ensures { λ _. ⌜ now (words .exit) ≡ replicate (length (now (words .entry))) v ⌝ }
 {

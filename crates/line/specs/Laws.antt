@@ -1,4 +1,4 @@
--- What holds of lines, for a reader of the papers; `proofs/Laws` proves each.
+-- Laws of lines, for a reader of the papers; `proofs/Laws` proves each.
 -- Assumes nothing.
 use Prim.Native.Nat.{ℕ, _+_, _≤_}
 use mathlib.Core.Path.{_≡_}
@@ -17,16 +17,16 @@ pub record LineLaws : Type 0 where
   -- line 1 comes after 1125, and 1125 before 1 (document 01, "A span")
   pub afterLast : lineAfter 1125 ≡ 1
   pub beforeFirst : lineBefore 1 ≡ 1125
-  -- whatever number is given, the line after it and the line before it are lines of a stream, 1 to 1125: never 0
+  -- for any number, the line after it and the line before it are lines of a stream, 1 to 1125: never 0
   pub afterIsLine : (n : ℕ) → isLine (lineAfter n) ≡ true
   pub beforeIsLine : (n : ℕ) → isLine (lineBefore n) ≡ true
-  -- from a line to the next and back, and the other way round
+  -- from a line to the next and back, and to the one before and back
   pub beforeAfter : (n : ℕ) → 1 ≤ n → n ≤ 1125 → lineBefore (lineAfter n) ≡ n
   pub afterBefore : (n : ℕ) → 1 ≤ n → n ≤ 1125 → lineAfter (lineBefore n) ≡ n
-  -- lines 1 to 1080 of a basic image travel on stream lines 42 to 1121 (004, 6.1), and each comes back as the line that it was
+  -- lines 1 to 1080 of a basic image travel on stream lines 42 to 1121 (004, 6.1), and each comes back as the same line
   pub travels : (l : ℕ) → 1 ≤ l → l ≤ 1080 → streamLineOf l ≡ l + 41
   pub thereAndBack : (l : ℕ) → 1 ≤ l → l ≤ 1080 → basicLineOf (streamLineOf l) ≡ l
   pub backAndThere : (n : ℕ) → 42 ≤ n → n ≤ 1121 → streamLineOf (basicLineOf n) ≡ n
-  -- a line is told by its number, so that a promise about the number fixes the line
+  -- a line is determined by its number, so that a contract about the number fixes the line
   pub streamLineTold : Injective (λ (l : StreamLine). l .0)
   pub pictureLineTold : Injective (λ (l : PictureLine). l .0)

@@ -9,7 +9,7 @@ use Rattle.line.specs.Stream.{isActive}
 abbrev pub isBasicLine : ℕ → Bool
 isBasicLine l = within 1 1080 l
 
--- basic image line l travels on stream line l + 41; no stream line, which is 0, carries another
+-- basic image line l travels on stream line l + 41; for any other number it is 0, which is not a stream line
 abbrev pub streamLineOf : ℕ → ℕ
 streamLineOf l = cond (isBasicLine l) (l + 41) 0
 

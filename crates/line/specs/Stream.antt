@@ -17,10 +17,10 @@ isActive n = within 42 1121 n
 abbrev pub vOf : ℕ → Bool
 vOf n = not (isActive n)
 
--- the line after: line 1 follows 1125 (document 01, "A span"); of a number above, too, it is 1
+-- the line after: line 1 follows 1125 (document 01, "A span"); for any number above that it is 1 as well
 abbrev pub lineAfter : ℕ → ℕ
 lineAfter n = cond (ltb n 1125) (n + 1) 1
 
--- the line before: 1125 comes before 1, and there is no line 0; before any number that is no line, too, comes 1125
+-- the line before: 1125 comes before 1, and there is no line 0; for any number that is not a line it is 1125 as well
 abbrev pub lineBefore : ℕ → ℕ
 lineBefore n = cond (within 2 1125 n) (n - 1) 1125

@@ -1,12 +1,12 @@
-// The lines of a picture or an image, the basic image too, and the stream line that carries a line of a basic image.
+// The lines of a picture or an image, including a basic image, and the stream line that carries a line of a basic image.
 use crate::stream::StreamLine;
 ghost use mathlib.Core.Path.{_≡_};
 ghost use Rattle.line.specs.Picture.{streamLineOf, basicLineOf};
 
-// A line of a picture or an image by its number, any number as with a stream's.
+// A line of a picture or an image by its number, which may be any number, as with a stream line.
 pub struct PictureLine(u16);
 
-// The line of a number, for the edges.
+// The line with a number, for the edges.
 pub fn picture_line(n: u16) -> PictureLine
     ensures { λ r. ⌜ r .0 ≡ n ⌝ }
 {

@@ -2,10 +2,10 @@
 ghost use mathlib.Core.Path.{_≡_};
 ghost use Rattle.line.specs.Stream.{isLine, isActive, vOf, lineAfter, lineBefore};
 
-// A line of a stream by its number. A caller may hold any number in hand, 0 too: the calls that take a line refuse it.
+// A line of a stream by its number. A caller may have any number, even 0: the calls that take a line refuse an invalid one.
 pub struct StreamLine(u16);
 
-// The line of a number, for the edges: programs, the C boundary, line words.
+// The line with a number, for the edges: programs, the C boundary, line number words.
 pub fn stream_line(n: u16) -> StreamLine
     ensures { λ r. ⌜ r .0 ≡ n ⌝ }
 {

@@ -20,15 +20,15 @@ abbrev pub outcome : Answer Repaired → List ℕ
 outcome (given r) = hexadecimal (r .word) ++ (space ∷ []) ++ decimal (r .distance) ++ (newline ∷ [])
 outcome (refused number place) = refusedLine
 
--- index, word, and what becomes of it
+-- index, word, and its outcome
 abbrev pub repairLine : ℕ → ℕ → List ℕ
 repairLine index w = decimal index ++ (space ∷ []) ++ hexadecimal w ++ (space ∷ []) ++ outcome (repairOf w)
 
--- how many there are: an odd last byte and what stands past 64 KiB is ignored
+-- how many words there are: an odd last byte and everything past 64 KiB are ignored
 abbrev pub wordCount : ℕ → ℕ
 wordCount len = countOf 32768 len
 
--- how many of them are listed at once, from one on
+-- how many of them are listed at once, from a given one on
 abbrev pub lineCount : ℕ → ℕ → ℕ
 lineCount len from = min 2048 (wordCount len - from)
 

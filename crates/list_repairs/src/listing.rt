@@ -8,7 +8,7 @@ ghost use Rattle.io.specs.Counts.{Counts};
 ghost use Rattle.word.specs.Repair.{repairOf};
 ghost use Rattle.list_repairs.specs.Text.{outcome, repairLine, lineCount, repairListing};
 
-// What becomes of a word, with the end of the line.
+// The outcome of a word, with the end of the line.
 fn put_outcome(w: u16, out: &mut [u8], at: usize) -> usize
     requires { ⌜ at + 8 ≤ length (now out) ⌝ }
     ensures end { λ r. ⌜ r ≡ at + length (outcome (repairOf w)) ⌝ }
@@ -26,7 +26,7 @@ fn put_outcome(w: u16, out: &mut [u8], at: usize) -> usize
     }
 }
 
-// The line of one word: its index, itself, and what becomes of it.
+// The line of one word: its index, the word, and its outcome.
 fn put_line(index: u16, w: u16, out: &mut [u8], at: usize) -> usize
     requires { ⌜ at + 19 ≤ length (now out) ⌝ }
     ensures end { λ r. ⌜ r ≡ at + length (repairLine index w) ⌝ }
@@ -39,7 +39,7 @@ fn put_line(index: u16, w: u16, out: &mut [u8], at: usize) -> usize
     put_outcome(w, out, d)
 }
 
-// How many words there are from a word on, up to 2,048.
+// How many words there are from a given one on, up to 2,048.
 fn line_count(len: usize, from: usize) -> usize
     ensures { λ r. ⌜ r ≡ lineCount len from ⌝ }
 {
@@ -50,7 +50,7 @@ fn line_count(len: usize, from: usize) -> usize
     ground::least::least(2048, words - from)
 }
 
-// The lines of up to 2,048 words from a word on, at the start of the buffer. Answers where they end.
+// The lines of up to 2,048 words from a given one on, at the start of the buffer. Answers where they end.
 pub(crate) fn put_lines(input: &[u8], from: usize, out: &mut [u8]) -> usize
     requires { ⌜ 38912 ≤ length (now out) ⌝ }
     ensures counts { λ r. ⌜ Counts r (now (out .exit)) ⌝ }

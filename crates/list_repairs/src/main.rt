@@ -6,7 +6,7 @@ use libc::STDOUT_FILENO;
 ghost use Prim.Native.Nat.{_≤_};
 ghost use lib.ListN.{length};
 
-// The lines of all words, written in large pieces; it stops where nobody takes them.
+// The lines of all words, written in large pieces; it stops when a write fails.
 fn list(input: &[u8], out: &mut [u8])
     requires { ⌜ 38912 ≤ length (now out) ⌝ }
 {

@@ -39,7 +39,7 @@ formatIn input = formatFrom (getD input 0 0) (getD input 1 0)
 abbrev pub recordedSymbols : List ℕ → List ℕ
 recordedSymbols input = wordsInBytes (countOf 32767 (length (drop 2 input))) (drop 2 input)
 
--- what is printed: the lines of all that is delivered; where the input is shorter than two bytes, or the format or depth unknown, that it is refused
+-- what is printed: a line for each span delivered; the refusal if the input is shorter than two bytes, or the format or depth unknown
 abbrev pub spanListing : List ℕ → List ℕ
 spanListing input =
     cond (ltb (length input) 2) refusedFormat

@@ -1,4 +1,4 @@
-// The text that is printed for an input, put into a lent buffer.
+// The text printed for an input, put into a lent buffer.
 use recording::next::NextSpan;
 use span::format::Format;
 ghost use mathlib.Core.Path.{_≡_};
@@ -53,7 +53,7 @@ fn put_spans(f: Format, symbols: &[u16], rows: &mut [u16], out: &mut [u8]) -> us
     at
 }
 
-// All that is printed: the lines, or that it is refused, where the input names no known format and depth.
+// All that is printed: the lines, or the refusal if the input names no known format and depth.
 pub(crate) fn put_listing(input: &[u8], out: &mut [u8]) -> usize
     requires { ⌜ 65536 ≤ length (now out) ⌝ }
     ensures counts { λ r. ⌜ Counts r (now (out .exit)) ⌝ }

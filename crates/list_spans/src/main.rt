@@ -1,5 +1,5 @@
-// Lists the spans of a recording: a byte of format, a byte of depth and symbols from standard input, low byte first, at most 32,767 of
-// them; a line of text for each span that is delivered.
+// Lists the spans of a recording: a format byte, a depth byte and symbols from standard input, low byte first, at most 32,767 of them; a
+// line of text for each span delivered.
 mod list;
 
 use libc::STDIN_FILENO;

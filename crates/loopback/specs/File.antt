@@ -25,7 +25,7 @@ header = 80 ∷ 53 ∷ 10 ∷ 51 ∷ 56 ∷ 52 ∷ 48 ∷ 32 ∷ 50 ∷ 49 ∷ 5
 abbrev pub rowsOfLine : List ℕ → ℕ → List ℕ
 rowsOfLine picture i = take 7680 (drop (7680 * i) picture)
 
--- of a piece, the rows of its active lines are written
+-- what is written of a piece: the rows of its active lines
 unfoldable pub pieceBytes : ℕ → List ℕ → List ℕ
 pieceBytes piece picture = upto 5 (λ i. cond (isActive (lineOfPiece piece i)) (highFirst (rowsOfLine picture i)) [])
 
@@ -33,6 +33,6 @@ pieceBytes piece picture = upto 5 (λ i. cond (isActive (lineOfPiece piece i)) (
 abbrev pub fileOf : Knock → List ℕ
 fileOf k = header ++ upto 225 (λ piece. pieceBytes piece (pictureIn k piece))
 
--- the row of picture line y, which stream line 41 + (y + 1) / 2 carries: that of the test picture, or a black one (law `file-is`)
+-- the row of picture line y, carried by stream line 41 + (y + 1) / 2: that of the test picture, or a black one (law `file-is`)
 abbrev pub rowShown : Knock → ℕ → List ℕ
 rowShown k y = cond (lost k (41 + (y + 1) / 2)) (replicate 3840 0) (testRow y)

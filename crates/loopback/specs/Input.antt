@@ -7,12 +7,12 @@ use lib.Dec.{ltb}
 use lib.ListN.{length, getD}
 use Rattle.rig.specs.declared.knock.Knock.{Knock}
 
--- the number whose bytes stand from place i on
+-- the number whose bytes begin at place i
 abbrev pub numberAt : List ℕ → ℕ → ℕ
 numberAt bytes i =
     getD bytes i 0 + getD bytes (i + 1) 0 * 256 + getD bytes (i + 2) 0 * 65536 + getD bytes (i + 3) 0 * 16777216
 
--- where fewer than eight bytes are given: from the middle of the frame's 21,384,000 symbols on, one millisecond of the link
+-- if fewer than eight bytes are given: from the middle of the frame's 21,384,000 symbols on, one millisecond of the link
 abbrev pub millisecond : Knock
 millisecond = record { place = 10692000; long = 1069200 }
 

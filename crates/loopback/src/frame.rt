@@ -1,4 +1,4 @@
-// The frame over the link, piece by piece, and its picture into the file as it comes.
+// Sends the frame over the link, piece by piece, and writes its picture into the file as it arrives.
 use rig::carry::Carried;
 use rig::knock::Knock;
 use symbol::disparity::Disparity;
@@ -10,11 +10,11 @@ ghost use Rattle.loopback.specs.Frame.{FrameTold};
 pub(crate) enum Written {
     // All of the picture, with the disparity after the frame.
     All(Disparity),
-    // Somebody did not take the bytes.
+    // A write failed.
     Stopped,
 }
 
-// Where all of it was written, the flags tell which lines were heard.
+// If all of it was written, the flags say which lines were heard.
 pub(crate) fn write_frame(
     fd: i32,
     k: Knock,

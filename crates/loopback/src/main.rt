@@ -1,5 +1,5 @@
-// The loopback rig: a test picture over one link, line by line through a whole frame, with one plug knocked. Eight bytes from standard input
-// say where and how long; the picture that arrives goes to a file, and what was lost to standard output.
+// The loopback rig: a test picture over one link, line by line through a whole frame, with one plug knocked. Eight bytes from standard
+// input say where and for how long; the picture that arrives goes to a file, and a summary of what was lost to standard output.
 mod file;
 mod frame;
 mod input;
@@ -9,7 +9,7 @@ use libc::STDIN_FILENO;
 use libc::STDOUT_FILENO;
 use rig::knock::Knock;
 
-// The file that the first argument names, or loopback.pgm, opened anew; below 0 where it cannot be, which is said.
+// Opens the file that the first argument names, or loopback.pgm, anew; below 0 if it cannot be opened, which is reported.
 fn open_picture() -> i32 {
     if os::arg_count() < 2 {
         let fd = os::open_overwrite(b"loopback.pgm");

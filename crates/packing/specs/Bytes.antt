@@ -1,5 +1,5 @@
--- Two words as three bytes. Figure 13 of 004, which gives the order, is lost from our copy. Until it is read the order is that of
--- document 01, "A span", and it stands in one definition: bytesOf.
+-- Two words as three bytes. Figure 13 of 004, which gives the order, is missing from our copy. Until it is read, the order is that
+-- of document 01, "A span", and it is in one definition: bytesOf.
 -- Assumes nothing.
 use Prim.Native.Nat.{ℕ, _+_, _*_, _/_, _%_}
 use mathlib.Core.Bool.{Bool, _&&_}
@@ -21,7 +21,7 @@ bytesOf a b = record { first = a % 256; second = b % 16 * 16 + a / 256 % 16; thi
 abbrev pub sameBytes : ThreeBytes → ThreeBytes → Bool
 sameBytes s t = eqb (s .first) (t .first) && (eqb (s .second) (t .second) && eqb (s .third) (t .third))
 
--- a pair of words as one number below 2 ^ 24, so that a search runs through them all
+-- a pair of words as one number below 2 ^ 24, so that a search can go through all of them
 abbrev pub pair : ℕ → TwoWords
 pair n = record { a = n % 4096; b = n / 4096 }
 
@@ -34,6 +34,6 @@ abbrev pub paperPacked : Packed → Answer ThreeBytes
 paperPacked (Bytes t) = given t
 paperPacked Above4095 = refused 7 0
 
--- the bytes of two words: 7 where either is above 4095
+-- the bytes of two words: 7 if either is above 4095
 abbrev pub packedOf : ℕ → ℕ → Answer ThreeBytes
 packedOf a b = checked (unless 7 (isWord a && isWord b) ∷ []) (bytesOf a b)

@@ -5,12 +5,12 @@ use mathlib.Core.Bool.{Bool, true, false, cond, _&&_}
 use lib.Dec.{eqb}
 use Rattle.ground.specs.Range.{within}
 
--- the samples that may be sent at a depth of so many bits
+-- the samples that may be sent at a depth, in bits
 abbrev pub allowedAtDepth : ℕ → ℕ → Bool
 allowedAtDepth depth x = cond (eqb depth 10) (within 4 1019 x) (cond (eqb depth 12) (within 16 4079 x) false)
 
 -- 004, 6.1: at ten bits a sample is shifted left by two, the low bits zero; at twelve it is the word itself. A word has twelve bits, so
--- of a number that has more, and may not be sent, the low ones count
+-- only the low twelve count of a larger number, which may not be sent anyway
 abbrev pub wordAtDepth : ℕ → ℕ → ℕ
 wordAtDepth depth x = cond (eqb depth 10) (x * 4) x % 4096
 

@@ -19,7 +19,7 @@ pub enum Packed {
     Above4095,
 }
 
-// The bytes of two words, of which twelve bits each count.
+// The bytes of two words; twelve bits of each count.
 pub fn bytes_of(a: u16, b: u16) -> ThreeBytes
     ensures { λ r. ⌜ r ≡ bytesOf a b ⌝ }
 {
@@ -43,7 +43,7 @@ pub fn pack(a: u16, b: u16) -> Packed
     Packed::Bytes(bytes_of(a, b))
 }
 
-// The words of three bytes: all of them as one number, the second word above the first.
+// The words of three bytes: taken as one number, the second word is above the first.
 pub fn unpack(t: ThreeBytes) -> TwoWords
     ensures { λ r. ⌜ r ≡ unpacked t ⌝ }
 {

@@ -15,7 +15,7 @@ pub fn allowed_sample(depth: u8, x: u16) -> bool
     false
 }
 
-// The word of a sample, of which as many bits count as the depth has.
+// The word of a sample; only as many of its bits count as the depth has.
 pub fn sample_word(depth: u8, x: u16) -> u16
     ensures { λ r. ⌜ r ≡ wordAtDepth depth x ⌝ }
 {

@@ -1,5 +1,5 @@
 -- One step of division (004, 5.3 and figure 7; document 01, "Dividing a picture"): an image is divided into four of half its lines and half
--- its samples. Lines count from 1, samples from 0. The step knows no size, so that it can be taken again.
+-- its samples. Lines count from 1, samples from 0. The step does not depend on size, so it can be repeated.
 -- Assumes nothing.
 use Prim.Native.Nat.{ℕ, _+_, _-_, _*_, _/_, _%_}
 use Rattle.picture.specs.declared.division.Quarter.{Quarter}
@@ -9,7 +9,7 @@ use Rattle.picture.specs.declared.division.Quarter.{Quarter}
 unfoldable pub imageAt : ℕ → ℕ → ℕ
 imageAt line sample = 1 + 2 * ((line + 1) % 2) + sample % 2
 
--- in their image lines keep their order, counted from 1: lines 1 and 2 give line 1
+-- lines keep their order in their image, counted from 1: lines 1 and 2 give line 1
 unfoldable pub imageLine : ℕ → ℕ
 imageLine line = (line + 1) / 2
 
@@ -17,7 +17,7 @@ imageLine line = (line + 1) / 2
 unfoldable pub imageSample : ℕ → ℕ
 imageSample sample = sample / 2
 
--- the step: from a line and a sample to the image, and line and sample there
+-- the step: from a line and a sample to the image, and the line and sample in it
 abbrev pub halved : ℕ → ℕ → Quarter
 halved line sample = record { image = imageAt line sample; line = record { 0 = imageLine line }; sample = imageSample sample }
 

@@ -33,6 +33,6 @@ abbrev pub paperPlaced : Placed → Answer Place
 paperPlaced (At p) = given p
 paperPlaced Outside = refused 2 0
 
--- the place of a sample of a picture line; 2 where the picture has no such line or no such sample
+-- the place of a sample of a picture line; 2 if the picture has no such line or no such sample
 abbrev pub placedOf : ℕ → ℕ → Answer Place
 placedOf line sample = checked (unless 2 (isPictureLine line && isSample sample) ∷ []) (placeOf line sample)

@@ -3,7 +3,7 @@ use line::stream::StreamLine;
 ghost use mathlib.Core.Path.{_≡_};
 ghost use Rattle.picture.specs.Choice.{rowOn};
 
-// One of the two rows as it was lent, whatever its length: the picture on lines 42 to 1121, the blanking on any other number.
+// One of the two rows passed in, whatever its length: the picture on lines 42 to 1121, the blanking on any other number.
 pub fn row_on<'a>(l: StreamLine, picture: &'a [u16], blanking: &'a [u16]) -> &'a [u16]
     ensures { λ r. ⌜ r ≡ rowOn (l .0) (picture .entry) (blanking .entry) ⌝ }
 {

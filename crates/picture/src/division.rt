@@ -10,14 +10,14 @@ pub struct Quarter {
     pub sample: u16,
 }
 
-// Where a sample goes. No size is asked for: an image of any size is divided in the same way.
+// Where a sample goes. No size is needed: an image of any size is divided in the same way.
 pub fn halve(line: PictureLine, sample: u16) -> Quarter
     ensures { λ r. ⌜ r ≡ halved (line .0) sample ⌝ }
 {
     let n = line::picture::number_of(line);
     let h = 1 - n % 2;
     let w = sample % 2;
-    // half of n + 1, which does not fit where n is the largest number
+    // half of n + 1, which would overflow if n is the largest number
     Quarter {
         image: (2 * h + w + 1) as u8,
         line: line::picture::picture_line(n / 2 + n % 2),

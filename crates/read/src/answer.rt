@@ -11,7 +11,7 @@ pub enum Read {
     UnknownFormat,
     // 3
     WrongInput,
-    // 4: only where there are rows.
+    // 4: only for a call with rows.
     WrongOutput,
     // 20 to 26, each with its place: a symbol for 20, else an interleaved word.
     WrongSymbol(usize),

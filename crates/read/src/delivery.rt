@@ -1,4 +1,4 @@
-// What a span delivers, the rows apart.
+// What a span delivers, apart from the rows.
 use read_test20::place::Scanned;
 use read_test21_26::call::Service;
 use window::delivery::Delivery;

@@ -1,4 +1,4 @@
-// Tests 25 and 26. The lowest place is looked for only where there is one.
+// Tests 25 and 26. The lowest place is searched for only if there is one.
 use line::stream::StreamLine;
 use read_test21_26::service::Verdict;
 use span::format::Format;
@@ -12,7 +12,7 @@ ghost use Rattle.window.specs.Inside.Fill.{fillRight};
 ghost use Rattle.read_test21_26.specs.Inside.Verdict.{firstRow};
 ghost use Rattle.read.specs.Inside.Window.{IsWindow, pictureTests, rightPicture};
 
-// Whether the words of the picture may be those of samples: on a blanking line any may.
+// Whether every word of the picture may be a sample's; on a blanking line any word may.
 fn picture_is_right(f: Format, line: StreamLine, rows: &[u16]) -> bool
     ensures { λ r. ⌜ r ≡ rightPicture f (line .0) (now (rows .entry)) ⌝ }
 {
@@ -22,7 +22,7 @@ fn picture_is_right(f: Format, line: StreamLine, rows: &[u16]) -> bool
     true
 }
 
-// Whether no fill word is other than 100, which may be known already.
+// Whether every fill word is 100, which may already be known.
 fn fill_is_right(f: Format, symbols: &[u16], filled: bool) -> bool
     requires { ⌜ IsWindow f (now symbols) ⌝ }
     requires { ⌜ (filled ≡ true → fillRight (shapeOf f) (now symbols) ≡ true) ⌝ }

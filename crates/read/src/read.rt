@@ -33,7 +33,7 @@ fn refuse(number: u8, place: usize, rows: &mut [u16]) -> Read
     crate::answer::refusal(number, place)
 }
 
-// Tests 21 to 26 of a window, whose picture is in rows.
+// Tests 21 to 26 of a window, with its picture in rows.
 fn judge_words(f: Format, symbols: &[u16], service: Service, filled: bool, rows: &[u16]) -> Verdict
     requires { ⌜ IsWindow f (now symbols) ⌝ }
     requires { ⌜ service ≡ serviceOf (shapeOf f) (now symbols) (sumsOf (shapeOf f) (now symbols)) ⌝ }
@@ -48,7 +48,7 @@ fn judge_words(f: Format, symbols: &[u16], service: Service, filled: bool, rows:
     crate::picture::judge_picture(f, symbols, service.line, filled, rows)
 }
 
-// A window for which test 20 holds, whose picture is in rows: what it delivers, and its rows, which are zero where another test does not hold.
+// A window for which test 20 holds, with its picture in rows: what it delivers, and its rows, which are zero if another test does not hold.
 fn read_words(
     f: Format,
     symbols: &[u16],

@@ -1,11 +1,11 @@
-// Symbols that are those of blanking words one after the other.
+// Runs of symbols that are nothing but blanking words.
 ghost use mathlib.Core.Path.{_≡_};
 ghost use mathlib.Core.Bool.{true};
 ghost use Prim.Native.Nat.{_+_, _≤_};
 ghost use lib.ListN.{length};
 ghost use Rattle.read_test20.specs.Inside.Blank.{Repeats, AreBlank};
 
-// Whether each symbol from the fourth on is the one three before it. Each is looked at, so that the loop takes many at a time.
+// Whether each symbol from the fourth on equals the one three before it. No early exit, so that the loop takes many at a time.
 fn repeats(symbols: &[u16], from: usize, to: usize) -> bool
     requires { ⌜ from ≤ to ⌝ }
     requires { ⌜ to ≤ length (now symbols) ⌝ }
@@ -20,7 +20,7 @@ fn repeats(symbols: &[u16], from: usize, to: usize) -> bool
     other == 0
 }
 
-// The bytes 00 01 10 (hex) of two blanking words, at the disparity at which `flips` has been gathered; they do not flip it.
+// The bytes 00 01 10 (hex) of two blanking words, at the running disparity that `flips` records; they do not flip it.
 fn begins_blank(symbols: &[u16], from: usize, flips: u32) -> bool
     requires { ⌜ from + 3 ≤ length (now symbols) ⌝ }
     ensures { λ r. ⌜ (r ≡ true → AreBlank (now (symbols .entry)) from (from + 3) flips) ⌝ }
@@ -44,7 +44,7 @@ fn begins_blank(symbols: &[u16], from: usize, flips: u32) -> bool
     false
 }
 
-// Whether those from one place to another are: the first three, and each after them as the one three before it.
+// Whether all symbols from one place to another are: the first three, and each later one equal to the one three before it.
 pub(crate) fn are_blank(symbols: &[u16], from: usize, to: usize, flips: u32) -> bool
     requires { ⌜ from ≤ to ⌝ }
     requires { ⌜ to ≤ length (now symbols) ⌝ }

@@ -1,4 +1,4 @@
-// Test 20, and with it the rows and the CRCs of a window that passes: a window whose symbols are all as they should be is taken in one pass.
+// Test 20, and with it the rows and the CRCs of a window that passes: a window whose symbols are all valid is read in one pass.
 mod blank;
 mod picture;
 pub mod place;

@@ -1,5 +1,5 @@
-// The picture words of a window, into rows stream by stream, while their symbols are seen. The CRCs are worked out from the rows afterwards
-// (crate `row_crc`), so that this loop has less to do.
+// The picture words of a window, put into rows stream by stream as their symbols are checked. The CRCs are computed from the rows
+// afterwards (crate `row_crc`), so that this loop has less to do.
 use crate::see::Six;
 use packing::bytes::TwoWords;
 ghost use mathlib.Core.Path.{_≡_};
@@ -11,25 +11,25 @@ ghost use Rattle.decoder.specs.Inside.Decoder.{decodingTable};
 ghost use Rattle.read_test20.specs.Inside.Picture.{RowsInv, Come, putPair};
 ghost use Rattle.read_test20.specs.Inside.See.{TenBits, AreBytes, GatherInv, passesBy};
 
-// Words of each stream in a piece. None is looked at after one with a fault: what is no window is soon known to be none.
+// Words of each stream in a piece. Nothing is read after a piece with a fault, so anything that is not a window is soon dismissed.
 const PIECE: usize = 120;
 
-// What is gathered after so many words of each stream.
+// What is gathered after some words of each stream.
 pub(crate) struct Passed {
     pub(crate) good: u32,
     pub(crate) flips: u32,
 }
 
-// What is gathered after the picture, or after as many words of each stream as were as they should be.
+// What is gathered after the picture, or after the words of each stream before a fault.
 pub(crate) struct Pictured {
-    // Of all words that were looked at: whether each was.
+    // Over all words that were read: whether each was valid.
     pub(crate) good: u32,
-    // After so many words, up to which each was.
+    // After this many words of each stream, all of them valid.
     pub(crate) flips: u32,
     pub(crate) words: usize,
 }
 
-// Two words into the rows of two streams.
+// Puts two words into the rows of two streams.
 fn put_pair(w: TwoWords, at: usize, rows: &mut [u16])
     requires { ⌜ 1920 + at < length (now rows) ⌝ }
     ensures size { λ _. ⌜ length (now (rows .exit)) ≡ length (now (rows .entry)) ⌝ }
@@ -39,8 +39,8 @@ fn put_pair(w: TwoWords, at: usize, rows: &mut [u16])
     rows[1920 + at] = w.b;
 }
 
-// Four words of each of two streams from j on. All of their symbols are seen before anything is put: the compiler does not know that rows and
-// symbols lie apart, and would look at each symbol only after the stores before it.
+// Four words of each of two streams from j on. All their symbols are loaded before anything is stored: the compiler does not know that rows
+// and symbols do not overlap, and would load each symbol only after the stores before it.
 fn step_two(t: &[u16; 1024], symbols: &[u16], j: usize, v: Passed, rows: &mut [u16]) -> Passed
     requires { ⌜ now t ≡ decodingTable ⌝ }
     requires { ⌜ TenBits (now symbols) ⌝ }
@@ -68,7 +68,7 @@ fn step_two(t: &[u16; 1024], symbols: &[u16], j: usize, v: Passed, rows: &mut [u
     }
 }
 
-// Words from one to another of two streams, four in a turn.
+// A range of words of two streams, four per iteration.
 fn take_two(
     t: &[u16; 1024],
     symbols: &[u16],
@@ -96,7 +96,7 @@ fn take_two(
     p
 }
 
-// Word j of four streams: put after those of two, in the same order.
+// Word j of four streams: the second two rows follow the first two, in the same order.
 fn put_six(x: Six, j: usize, rows: &mut [u16])
     requires { ⌜ j < 1920 ⌝ }
     requires { ⌜ length (now rows) ≡ 7680 ⌝ }
@@ -109,7 +109,7 @@ fn put_six(x: Six, j: usize, rows: &mut [u16])
     put_pair(high, 3840 + j, rows);
 }
 
-// Four words of each of four streams from j on, all of their symbols first.
+// Four words of each of four streams from j on, all their symbols loaded first.
 fn step_four(t: &[u16; 1024], symbols: &[u16], j: usize, v: Passed, rows: &mut [u16]) -> Passed
     requires { ⌜ now t ≡ decodingTable ⌝ }
     requires { ⌜ TenBits (now symbols) ⌝ }
@@ -133,7 +133,7 @@ fn step_four(t: &[u16; 1024], symbols: &[u16], j: usize, v: Passed, rows: &mut [
     }
 }
 
-// Words from one to another of four streams, four in a turn.
+// A range of words of four streams, four per iteration.
 fn take_four(
     t: &[u16; 1024],
     symbols: &[u16],
@@ -161,7 +161,7 @@ fn take_four(
     p
 }
 
-// Words from one to another of all streams.
+// A range of words of all streams.
 fn take_piece(
     t: &[u16; 1024],
     pairs: usize,
@@ -189,7 +189,7 @@ fn take_piece(
     take_four(t, symbols, from, to, v, rows)
 }
 
-// The picture words of all streams, piece by piece, as far as their symbols are as they should be.
+// The picture words of all streams, piece by piece, as far as their symbols are valid.
 pub(crate) fn take_picture(
     t: &[u16; 1024],
     pairs: usize,

@@ -1,4 +1,4 @@
-// The place of test 20 in a window that one pass finds wanting: symbol by symbol, from a place up to which all is as it should be.
+// The place of test 20 in a window in which the single pass found a fault: symbol by symbol, from a place before which all is valid.
 use span::format::Shape;
 use symbol::disparity::Disparity;
 ghost use mathlib.Core.Path.{_≡_};
@@ -13,7 +13,7 @@ const K28_5: u16 = 261;
 const K29_7: u16 = 266;
 
 pub struct Scanned {
-    // The first symbol at which test 20 does not hold; the number of symbols where it holds at all.
+    // The first symbol at which test 20 does not hold; the number of symbols if it holds at every one.
     pub place: usize,
     // The disparity before the window, and before that symbol.
     pub before: Disparity,
@@ -32,7 +32,7 @@ fn start_of(symbols: &[u16]) -> Disparity
     Disparity::Positive
 }
 
-// Whether a character is of the kind that stands at symbol i.
+// Whether a character is of the kind that belongs at symbol i.
 fn fits_at(p: Shape, i: usize, c: u16) -> bool
     requires { ⌜ p .«stream_pairs» ≤ 2 ⌝ }
     ensures { λ r. ⌜ r ≡ fits p i c ⌝ }
@@ -50,7 +50,7 @@ fn fits_at(p: Shape, i: usize, c: u16) -> bool
     c < 256
 }
 
-// Whether an entry is legal at the disparity of a bit, with such a character.
+// Whether a table entry is legal at the disparity of a mask bit, with such a character.
 fn holds(p: Shape, i: usize, mask: u16, e: u16) -> bool
     requires { ⌜ p .«stream_pairs» ≤ 2 ⌝ }
     ensures { λ r. ⌜ r ≡ holdsBy p i mask e ⌝ }
@@ -61,7 +61,7 @@ fn holds(p: Shape, i: usize, mask: u16, e: u16) -> bool
     false
 }
 
-// The place, where test 20 holds at every symbol before `from` and the bit of the disparity there is given.
+// The place, given that test 20 holds at every symbol before `from`, and given the mask bit of the disparity there.
 pub(crate) fn first_wrong(
     t: &[u16; 1024],
     p: Shape,

@@ -1,4 +1,4 @@
-// Symbols through the table without an early exit: what is gathered of them says afterwards whether each was a byte that is legal where it stands.
+// Symbols run through the table without an early exit: what is gathered says afterwards whether each was a byte legal at its disparity.
 use packing::bytes::ThreeBytes;
 use packing::bytes::TwoWords;
 ghost use mathlib.Core.Path.{_≡_};
@@ -7,8 +7,8 @@ ghost use lib.ListN.{length};
 ghost use Rattle.decoder.specs.Inside.Decoder.{decodingTable};
 ghost use Rattle.read_test20.specs.Inside.See.{TenBits, GatherInv, seen, seenThree, seenSix, passesBy};
 
-// The entry of a symbol, and what is gathered after it. Bits 9, 10 and 13 of `good` stay set where each symbol was legal and a byte. Bits 11
-// and 12 of `flips` are those of the disparity that is not the running one, at which a symbol need not be legal.
+// The entry of a symbol, and what is gathered after it. Bits 9, 10 and 13 of `good` stay set as long as each symbol was a legal byte. Bits
+// 11 and 12 of `flips` mark the disparity that is not the running one, at which a symbol need not be legal.
 pub(crate) struct Seen {
     pub(crate) entry: u32,
     pub(crate) good: u32,
@@ -36,7 +36,7 @@ pub(crate) struct Six {
     pub(crate) high: TwoWords,
 }
 
-// One symbol. What its entry says of the other disparity's bit does not count.
+// One symbol. What its entry says about the other disparity does not count.
 fn see(t: &[u16; 1024], s: u16, good: u32, flips: u32) -> Seen
     requires { ⌜ now t ≡ decodingTable ⌝ }
     requires { ⌜ s < 1024 ⌝ }
@@ -113,7 +113,7 @@ pub(crate) fn see_run(t: &[u16; 1024], symbols: &[u16], from: usize, to: usize, 
     k
 }
 
-// Whether each symbol that was seen is a byte that is legal where it stands.
+// Whether every symbol seen is a byte that is legal at its disparity.
 pub(crate) fn passes(good: u32) -> bool
     ensures { λ r. ⌜ r ≡ passesBy good ⌝ }
 {

@@ -1,5 +1,5 @@
-// A window whose symbols are all as they should be (document 01, refusal 20): its rows, the CRC of each stream, and its disparities. Where
-// one is not, its place.
+// A window whose symbols are all valid (document 01, refusal 20): its rows, the CRC of each stream, and its disparities. Otherwise the
+// place of the first symbol that is not.
 use crcc::sums::Sums;
 use span::format::Format;
 use span::format::Shape;
@@ -20,11 +20,11 @@ ghost use Rattle.read_test20.specs.Inside.See.{TenBits, AreBytes, maskBy
 ghost use Rattle.read_test20.specs.Inside.Whole.{Twice, AllHold, wholeIf, placeIf20, Begun, EavHolds, Tied, RunTo, Ending, Wholly};
 
 pub struct Taken {
-    // Whether the window is as it should be: then all that follows is right, and the rows are.
+    // Whether all symbols are valid: then the fields below and the rows are right.
     pub whole: bool,
-    // The first symbol that is not; the number of symbols where all are.
+    // The first symbol that is not valid; the number of symbols if all are.
     pub place: usize,
-    // Whether no fill word is other than 100; where this is false, nothing is known.
+    // Whether every fill word is known to be 100; if false, nothing is known.
     pub filled: bool,
     // The disparity before the window, and after it.
     pub before: Disparity,
@@ -33,7 +33,7 @@ pub struct Taken {
     pub sums: Sums,
 }
 
-// Whether each symbol has ten bits. Each is looked at, so that the loop takes many at a time.
+// Whether each symbol has ten bits. No early exit, so that the loop takes many at a time.
 fn are_ten_bits(symbols: &[u16]) -> bool
     ensures sound { λ r. ⌜ (r ≡ true → TenBits (now (symbols .entry))) ⌝ }
     ensures kept { λ r. ⌜ (TenBits (now (symbols .entry)) → r ≡ true) ⌝ }
@@ -47,7 +47,7 @@ fn are_ten_bits(symbols: &[u16]) -> bool
     all < 1024
 }
 
-// The disparity at which `flips` has been gathered.
+// The running disparity that `flips` records.
 fn disparity_by(flips: u32) -> Disparity
     ensures { λ r. ⌜ r ≡ ofMask (maskBy flips) ⌝ }
 {
@@ -57,7 +57,7 @@ fn disparity_by(flips: u32) -> Disparity
     Disparity::Positive
 }
 
-// K28.5 twice: what is gathered after it; 0 where something else stands there.
+// K28.5 twice: what is gathered after it; 0 if anything else is there.
 fn after_sav(symbols: &[u16]) -> u32
     requires { ⌜ 2 ≤ length (now symbols) ⌝ }
     ensures sound { λ r. ⌜ ((r ≡ 0 → ⊥) → Begun (now (symbols .entry)) r) ⌝ }
@@ -77,7 +77,7 @@ fn after_sav(symbols: &[u16]) -> u32
     0
 }
 
-// Whether K29.7 stands twice from a place on, at the disparity at which `flips` has been gathered, which it does not flip.
+// Whether K29.7 is at a place and at the next, at the running disparity that `flips` records, which it does not flip.
 fn is_eav(symbols: &[u16], at: usize, flips: u32) -> bool
     requires { ⌜ at + 2 ≤ length (now symbols) ⌝ }
     ensures sound { λ r. ⌜ (r ≡ true → EavHolds (now (symbols .entry)) at flips) ⌝ }
@@ -95,14 +95,14 @@ fn is_eav(symbols: &[u16], at: usize, flips: u32) -> bool
     false
 }
 
-// What stands after the picture: whether it is as it should be, whether the fill is known to be, and what is gathered after it.
+// What comes after the picture: whether its symbols are valid, whether the fill is known to be right, and what is gathered after it.
 struct Ended {
     whole: bool,
     filled: bool,
     flips: u32,
 }
 
-// A run of words: mostly blanking words, else any bytes.
+// A run of words: usually blanking words, otherwise any bytes.
 fn run_of(t: &[u16; 1024], symbols: &[u16], from: usize, to: usize, flips: u32) -> Ended
     requires { ⌜ now t ≡ decodingTable ⌝ }
     requires { ⌜ TenBits (now symbols) ⌝ }
@@ -157,7 +157,7 @@ fn tail_of(t: &[u16; 1024], p: Shape, symbols: &[u16], flips: u32) -> Ended
     run_of(t, symbols, fill, symbols.len(), area.flips)
 }
 
-// The EAV, the line number and the CRCC, and what stands after them.
+// The EAV, the line number and the CRCC, and what follows them.
 fn end_of(t: &[u16; 1024], p: Shape, symbols: &[u16], flips: u32) -> Ended
     requires { ⌜ Given p (now t) (now symbols) ⌝ }
     requires { ⌜ TenBits (now symbols) ⌝ }
@@ -178,14 +178,14 @@ fn end_of(t: &[u16; 1024], p: Shape, symbols: &[u16], flips: u32) -> Ended
     tail_of(t, p, symbols, k.flips)
 }
 
-// The bit of the disparity at which `flips` has been gathered.
+// The mask bit of the running disparity that `flips` records.
 fn mask_by(flips: u32) -> u16
     ensures { λ r. ⌜ r ≡ maskBy flips ⌝ }
 {
     (1536 - flips / 2048 % 4 * 512) as u16
 }
 
-// Of a window with a symbol that is not as it should be, its place and no more.
+// For a window with an invalid symbol: its place and nothing else.
 fn fault(place: usize) -> Taken
     ensures { λ r. ⌜ (r .whole ≡ false) × (r .filled ≡ false) × (r .place ≡ place) ⌝ }
 {
@@ -204,7 +204,7 @@ fn fault(place: usize) -> Taken
     }
 }
 
-// The same, looked for from the beginning.
+// The same, searched for from the beginning.
 fn fault_somewhere(t: &[u16; 1024], p: Shape, symbols: &[u16]) -> Taken
     requires { ⌜ now t ≡ decodingTable ⌝ }
     requires { ⌜ p .«stream_pairs» ≤ 2 ⌝ }
@@ -213,7 +213,7 @@ fn fault_somewhere(t: &[u16; 1024], p: Shape, symbols: &[u16]) -> Taken
     fault(crate::place::first_wrong_of_all(t, p, symbols))
 }
 
-// The same, where so many picture words of each stream are as they should be and `flips` has been gathered after them.
+// The same, given that the first `words` picture words of each stream are valid and `flips` has been gathered after them.
 fn fault_after(t: &[u16; 1024], p: Shape, symbols: &[u16], words: usize, flips: u32) -> Taken
     requires { ⌜ now t ≡ decodingTable ⌝ }
     requires { ⌜ p .«stream_pairs» ≤ 2 ⌝ }
@@ -258,7 +258,7 @@ fn take_window(t: &[u16; 1024], p: Shape, symbols: &[u16], rows: &mut [u16]) -> 
     if !e.whole {
         return fault_after(t, p, symbols, v.words, v.flips);
     }
-    // Only of a window that is as it should be: nothing else pays for its CRCs.
+    // Only for a valid window: nothing else pays for the CRCs.
     let sums = row_crc::sums::sums_of_rows(rows);
     Taken {
         whole: e.whole,
@@ -270,7 +270,7 @@ fn take_window(t: &[u16; 1024], p: Shape, symbols: &[u16], rows: &mut [u16]) -> 
     }
 }
 
-// A window with rows of its format's length; of anything else nothing is said. The table is lent once, here.
+// A window with rows of its format's length; anything else is not examined. The table is copied once, here.
 pub fn take(f: Format, symbols: &[u16], rows: &mut [u16]) -> Taken
     ensures size { λ _. ⌜ length (now (rows .exit)) ≡ length (now (rows .entry)) ⌝ }
     ensures taken { λ r. ⌜ (r .whole ≡ true → Wholly (shapeOf f) (now (symbols .entry)) r (now (rows .exit))) ⌝ }

@@ -1,4 +1,4 @@
-// What other crates ask of a window. Of what is no window of a known format they get nothing: 0.
+// What other crates ask about a window. For anything that is not a window of a known format they get 0.
 use crate::service::Verdict;
 use crcc::sums::Sums;
 use line::stream::StreamLine;
@@ -9,7 +9,7 @@ ghost use mathlib.Core.Path.{_≡_};
 ghost use lib.ListN.{length};
 ghost use Rattle.read_test21_26.specs.Inside.Call.{isWindow, serviceIf, placeIf};
 
-// Whether a window of so many symbols is one of a known format.
+// Whether this many symbols make a window of a known format.
 fn is_window(f: Format, symbols: usize) -> bool
     ensures { λ r. ⌜ r ≡ isWindow f symbols ⌝ }
 {
@@ -20,8 +20,8 @@ fn is_window(f: Format, symbols: usize) -> bool
     false
 }
 
-// What the words outside the picture say: tests 21 to 24, the line whose SAV begins the window, which is the one before the line that stream 1
-// names, the content bytes, and how many bits are wrong in all timing words.
+// What the words outside the picture say: tests 21 to 24; the line whose SAV begins the window, which is the one before the line that
+// stream 1 names; the content bytes; and the number of wrong bits in all timing words.
 pub struct Service {
     pub verdict: Verdict,
     pub line: StreamLine,
@@ -29,7 +29,7 @@ pub struct Service {
     pub repairs: Repairs,
 }
 
-// All of it, where the picture words of the streams leave these sums. The table is lent once, here.
+// All of it, given the sums that the picture words of the streams leave. The table is copied once, here.
 pub fn service_of(f: Format, symbols: &[u16], c: Sums) -> Service
     ensures { λ r. ⌜ r ≡ serviceIf f (now (symbols .entry)) c ⌝ }
 {
@@ -64,7 +64,7 @@ pub fn service_of(f: Format, symbols: &[u16], c: Sums) -> Service
     }
 }
 
-// The lowest place of a word that may not be a sample's (25), or of a fill word that is not 100 (26); the place after where all are right.
+// The lowest place of a word that may not be a sample's (25), or of a fill word that is not 100 (26); the place after all if none is wrong.
 pub fn lowest_place(number: u8, f: Format, symbols: &[u16]) -> usize
     ensures { λ r. ⌜ r ≡ placeIf number f (now (symbols .entry)) ⌝ }
 {

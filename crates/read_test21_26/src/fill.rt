@@ -6,7 +6,7 @@ ghost use Rattle.window.specs.Inside.Fill.{fillRight};
 ghost use Rattle.window.specs.Inside.Given.{Given};
 ghost use Rattle.read_test21_26.specs.Inside.Fill.{fillIf};
 
-// Test 26: whether no fill word of a window is another.
+// Test 26: whether every fill word of a window is right.
 fn is_right(t: &[u16; 1024], p: Shape, symbols: &[u16]) -> bool
     requires { ⌜ Given p (now t) (now symbols) ⌝ }
     ensures { λ r. ⌜ r ≡ fillRight p (now (symbols .entry)) ⌝ }
@@ -27,7 +27,7 @@ fn is_right(t: &[u16; 1024], p: Shape, symbols: &[u16]) -> bool
     true
 }
 
-// The same of anything that may be a window: only a window has fill.
+// The same for any symbols: only a window has fill.
 pub fn fill_is_right(f: Format, symbols: &[u16]) -> bool
     ensures { λ r. ⌜ r ≡ fillIf f (now (symbols .entry)) ⌝ }
 {

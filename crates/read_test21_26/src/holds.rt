@@ -15,8 +15,8 @@ ghost use Rattle.window.specs.Words.{wordAt};
 ghost use Rattle.window.specs.Inside.Given.{Given};
 ghost use Rattle.read_test21_26.specs.Inside.Holds.{LineKnown, holds24By, holdsAt, firstWrong, crccReceived};
 
-// The line that the two words of stream 1 name; 0 where they name none. This and `read_line_words` rule out the fault by which a recital
-// was lost: both words are one stream's and one span's, and name a line only if both are what is sent for it.
+// The line that LN0 and LN1 of stream 1 name; 0 if they name none. This and `read_line_words` rule out the fault that lost a recital: both
+// words are from one stream and one span, and name a line only if both are what is sent for it.
 pub(crate) fn next_line(t: &[u16; 1024], p: Shape, symbols: &[u16]) -> StreamLine
     requires { ⌜ Given p (now t) (now symbols) ⌝ }
     ensures { λ r. ⌜ r .0 ≡ nextLine (streams p) (wordAt p (now (symbols .entry))) ⌝ }
@@ -89,7 +89,7 @@ fn v_holds(t: &[u16; 1024], p: Shape, symbols: &[u16], next: StreamLine, k: usiz
     true
 }
 
-// The CRC of stream i of which the picture leaves c: it runs on over the EAV, XYZ repaired, and the line number.
+// The CRCC of stream i, whose picture leaves the CRC at c: it continues over the EAV, with XYZ repaired, and the line number.
 fn crcc_after(t: &[u16; 1024], p: Shape, symbols: &[u16], i: usize, c: u32) -> CrccWords
     requires { ⌜ Given p (now t) (now symbols) ⌝ }
     requires { ⌜ i < streams p ⌝ }
@@ -180,7 +180,7 @@ fn holds(
     w == span::blanking::fill_word()
 }
 
-// The lowest place at which it does not hold, from one place to another; the other where it holds at all.
+// The lowest place from one to another at which it does not hold; the end of the range if it holds at every one.
 pub(crate) fn first_wrong(
     number: u8,
     f: Format,

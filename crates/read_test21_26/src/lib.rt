@@ -1,4 +1,5 @@
-// Tests 21 to 26 of a window, and what its words say. Each test has its lowest place; that all of 25 and 26 hold is asked first, many words at a time.
+// Tests 21 to 26 of a window, and what its words say. A test that fails gives its lowest place; whether 25 and 26 hold at every place is
+// asked first, many words at a time.
 pub mod call;
 pub mod fill;
 mod holds;

@@ -1,4 +1,4 @@
-// Words out of symbols through the lent table (004, 7.1).
+// Words from symbols, through the lent table (004, 7.1).
 use packing::bytes::ThreeBytes;
 use packing::bytes::TwoWords;
 ghost use mathlib.Core.Path.{_≡_};

@@ -1,9 +1,9 @@
-// Test 25: whether the words of a picture may be those of samples.
+// Test 25: whether every word of a picture may be a sample's.
 ghost use mathlib.Core.Path.{_≡_};
 ghost use Prim.Native.Nat.{_+_, _<_};
 ghost use Rattle.read_test21_26.specs.Inside.Picture.{allAllowed, wrongFlag};
 
-// 1 where a word may not be that of a sample.
+// 1 for a word that may not be a sample's.
 fn wrong_word(depth: u8, w: u16) -> u16
     ensures { λ r. ⌜ r ≡ wrongFlag depth w ⌝ }
 {
@@ -13,7 +13,7 @@ fn wrong_word(depth: u8, w: u16) -> u16
     1
 }
 
-// Whether all may. Each is looked at, so that the loop has one exit and takes many at a time.
+// Whether all may. The loop has one exit, so that it takes many at a time.
 fn each_allowed(depth: u8, rows: &[u16]) -> bool
     ensures { λ r. ⌜ r ≡ allAllowed depth (now (rows .entry)) ⌝ }
 {
@@ -26,7 +26,7 @@ fn each_allowed(depth: u8, rows: &[u16]) -> bool
     found == 0
 }
 
-// The same, by a depth that the compiler knows in either call, so that no turn asks for it.
+// The same, with a depth that is a constant in either call, so that no iteration tests it.
 pub fn all_allowed(depth: u8, rows: &[u16]) -> bool
     ensures { λ r. ⌜ r ≡ allAllowed depth (now (rows .entry)) ⌝ }
 {

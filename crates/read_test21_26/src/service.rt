@@ -10,13 +10,13 @@ ghost use Rattle.span.specs.Layout.{ancillaryStart};
 ghost use Rattle.read_test21_26.specs.Inside.Holds.{LineKnown, holdsAt, wrongIn};
 ghost use Rattle.read_test21_26.specs.Inside.Verdict.{passed, verdictOf, firstRow, serviceTests};
 
-// The number of the test that does not hold, and its lowest place; 0 where all hold.
+// The number of the test that does not hold, and its lowest place; 0 if all hold.
 pub struct Verdict {
     pub number: u8,
     pub place: usize,
 }
 
-// One test, over words from one to another of all streams.
+// One test, over a range of words of all streams.
 fn judge_one(
     number: u8,
     f: Format,

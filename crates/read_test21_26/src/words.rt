@@ -1,4 +1,4 @@
-// The words of a window, the replaced bytes of its timing codes at their fixed values (document 01, "A span").
+// The words of a window, with the replaced bytes of its timing codes at their fixed values (document 01, "A span").
 use packing::bytes::ThreeBytes;
 use span::content::ContentBytes;
 use span::format::Shape;
@@ -10,8 +10,8 @@ ghost use Rattle.window.specs.Read.{contentIn};
 ghost use Rattle.window.specs.Words.{fixedByte, byteAt, wordAt};
 ghost use Rattle.window.specs.Inside.Given.{Given};
 
-// Byte i of a timing code that is replaced when it is sent: FF of the words FFF, and with two streams, where the third word is 000
-// already, 00 at the end.
+// Byte i of a timing code, one of the four replaced in sending: FF of the words FFF; with two streams, where the third word is already 000,
+// the last is 00.
 fn fixed_byte(pairs: usize, i: usize) -> u8
     requires { ⌜ 1 ≤ pairs ⌝ }
     requires { ⌜ pairs ≤ 2 ⌝ }

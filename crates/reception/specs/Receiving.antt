@@ -1,4 +1,4 @@
--- What is made of the spans that are delivered of a piece of five lines: which of them were heard, and their lines of the picture.
+-- What is made of the spans delivered from a piece of five lines: which lines were heard, and their lines of the picture.
 -- Assumes nothing.
 use Prim.Native.Nat.{ℕ, _+_, _-_, _*_}
 use mathlib.Core.Bool.{Bool, cond, _&&_}
@@ -17,7 +17,7 @@ use Rattle.reception.specs.Link.{link}
 abbrev pub lineHeard : Reading → ℕ
 lineHeard x = x .values .line .0
 
--- two streams joined: the row of the picture whose even samples the one has, and its odd ones the other (004, 5.3)
+-- two streams joined: the row of the picture whose even samples are in one and odd samples in the other (004, 5.3)
 unfoldable pub joinedRow : ℕ → List ℕ → List ℕ
 joinedRow t words = joined 1920 (streamIn words t) (streamIn words (t + 1))
 
@@ -36,12 +36,12 @@ flag x = 1 ∷ []
 abbrev pub isOf : ℕ → ℕ → Bool
 isOf first n = within first (first + 4) n
 
--- what a span brings is put at the place of its line among the five, each with room for so many words. A span of another line brings nothing.
+-- what a span brings is put at the place of its line among the five, each with room for `size` words. Spans of other lines bring nothing.
 abbrev pub putOne : ℕ → (Reading → List ℕ) → ℕ → List ℕ → Reading → List ℕ
 putOne size what first buffer x =
     cond (isOf first (lineHeard x)) (sets buffer (size * (lineHeard x - first)) (what x)) buffer
 
--- and so with each span that is delivered
+-- the same for each span delivered
 unfoldable pub putAll : ℕ → (Reading → List ℕ) → ℕ → List ℕ → List (Found Reading) → List ℕ
 putAll size what first buffer [] = buffer
 putAll size what first buffer (e ∷ more) = putAll size what first (putOne size what first buffer (e .reading)) more
@@ -50,7 +50,7 @@ putAll size what first buffer (e ∷ more) = putAll size what first (putOne size
 abbrev pub heardFrom : ℕ → List ℕ → List (Found Reading) → List ℕ
 heardFrom = putAll 1 flag
 
--- their picture lines, two of 3,840 words for each
+-- their picture lines, two of 3,840 words each
 abbrev pub shownFrom : ℕ → List ℕ → List (Found Reading) → List ℕ
 shownFrom = putAll 7680 brings
 
@@ -67,7 +67,7 @@ heardBy first symbols = heardFrom first (replicate 5 0) (deliveryFrom link symbo
 abbrev pub shownBy : ℕ → List ℕ → List ℕ
 shownBy first symbols = shownFrom first (replicate 38400 0) (deliveryFrom link symbols 0)
 
--- lent memory afterwards: of anything else nothing is made
+-- the lent memory afterwards; anything else leaves it as it was
 abbrev pub flagsReceived : ℕ → List ℕ → List ℕ → ℕ → List ℕ
 flagsReceived first symbols heard picture = cond (receivable first (length symbols) (length heard) picture) (heardBy first symbols) heard
 

@@ -1,4 +1,4 @@
--- What is printed: how many lines were sent, delivered and lost, and which was the first and the last that was lost.
+-- What is printed: how many lines were sent, delivered and lost, and which were the first and the last lost.
 -- Assumes nothing.
 use Prim.Native.Nat.{ℕ, zero, suc, _+_, _-_}
 use mathlib.Core.Bool.{Bool, cond, _&&_}
@@ -11,7 +11,7 @@ use Rattle.ground.specs.Search.{firstBelow}
 use Rattle.text.specs.Number.{decimal}
 use Rattle.text.specs.Put.{newline}
 
--- flags, one for each line from line 1 on: 0 for a line that is lost
+-- flags, one for each line from line 1 on: 0 for a lost line
 abbrev pub isLost : List ℕ → ℕ → Bool
 isLost heard i = eqb (getD heard i 0) 0
 
@@ -20,11 +20,11 @@ unfoldable pub delivered : List ℕ → ℕ
 delivered [] = 0
 delivered (h ∷ heard) = cond (eqb h 0) 0 1 + delivered heard
 
--- the first line that is lost; where none is, 1
+-- the first lost line; 1 if none is lost
 unfoldable pub firstLost : List ℕ → ℕ
 firstLost heard = Option·getD (firstBelow (length heard) (isLost heard)) 0 + 1
 
--- the last of the n first lines that is lost; where none is, 1
+-- the last lost line among the first n; 1 if none is lost
 unfoldable pub lastOf : List ℕ → ℕ → ℕ
 lastOf heard zero = 1
 lastOf heard (suc n) = cond (isLost heard n) (suc n) (lastOf heard n)
@@ -54,7 +54,7 @@ firstLabel = 102 ∷ 105 ∷ 114 ∷ 115 ∷ 116 ∷ 32 ∷ 108 ∷ 105 ∷ 110 
 abbrev pub lastLabel : List ℕ
 lastLabel = 108 ∷ 97 ∷ 115 ∷ 116 ∷ 32 ∷ 108 ∷ 105 ∷ 110 ∷ 101 ∷ 32 ∷ 108 ∷ 111 ∷ 115 ∷ 116 ∷ 32 ∷ []
 
--- which lines were lost, where any was
+-- which lines were lost, if any
 abbrev pub which : List ℕ → List ℕ
 which heard = item firstLabel (firstLost heard) ++ item lastLabel (lastLost heard)
 
@@ -65,7 +65,7 @@ summary heard =
     ++ (item lostLabel (length heard - delivered heard)
     ++ cond (eqb (length heard - delivered heard) 0) [] (which heard)))
 
--- ---- the call: the flags of a frame's 1,125 lines, and room for the text; for anything else nothing is put
+-- ---- the call: the flags of a frame's 1,125 lines, and room for the text; otherwise nothing is put
 abbrev pub receivable : ℕ → ℕ → Bool
 receivable heard out = eqb heard 1125 && leb 128 out
 

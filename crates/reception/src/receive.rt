@@ -1,4 +1,4 @@
-// Delivering a piece: find, read, find again, and what each span brings put at its line's place.
+// Delivering a piece: find, read, find again, and put what each span brings at its line's place.
 use line::stream::StreamLine;
 use recording::next::NextSpan;
 use window::delivery::Delivery;
@@ -10,7 +10,7 @@ ghost use Rattle.recording.specs.Recording.{deliveryFrom};
 ghost use Rattle.reception.specs.Link.{link};
 ghost use Rattle.reception.specs.Receiving.{joinedRow, brings, flag, putOne, heardFrom, shownFrom, receivable, flagsReceived, rowsReceived};
 
-// Two streams of a span joined into a row of the picture, which stands at a place.
+// Two streams of a span joined into a row of the picture, at a place.
 fn put_row(rows: &[u16], t: usize, picture: &mut [u16], at: usize)
     requires { ⌜ length (now rows) ≡ 7680 ⌝ }
     requires { ⌜ t ≤ 2 ⌝ }
@@ -56,7 +56,7 @@ fn put_span(
     }
 }
 
-// All spans, step by step from the beginning, each read into rows that are lent for it.
+// All spans, step by step from the beginning, each read into rows lent for it.
 fn receive_all(
     first: StreamLine,
     symbols: &[u16],
@@ -105,8 +105,8 @@ fn is_ready(first: StreamLine, symbols: usize, heard: usize, picture: usize) -> 
     picture == 38400
 }
 
-// The symbols of five lines, the first of which is given, as they were received: 1 for each line that is delivered, else 0; and ten rows of
-// the picture, black where a line is not delivered and on blanking lines. Of anything else nothing is made.
+// Takes the symbols of five lines as received, and the first line's number. Gives 1 for each line delivered, else 0; and ten rows of the
+// picture, black where a line is not delivered and on blanking lines. Anything else leaves the lent memory as it was.
 pub fn receive(first: StreamLine, symbols: &[u16], heard: &mut [u16], picture: &mut [u16])
     ensures heard { λ _. ⌜ now (heard .exit) ≡ flagsReceived (first .0) (now (symbols .entry)) (now (heard .entry)) (length (now (picture .entry))) ⌝ }
     ensures picture { λ _. ⌜ now (picture .exit) ≡ rowsReceived (first .0) (now (symbols .entry)) (length (now (heard .entry))) (now (picture .entry)) ⌝ }

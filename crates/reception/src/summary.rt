@@ -1,4 +1,4 @@
-// The text that is printed at the end, of flags that say which lines were heard.
+// The text printed at the end, from flags that say which lines were heard.
 ghost use mathlib.Core.Path.{_≡_};
 ghost use Prim.Native.Nat.{_+_, _≤_};
 ghost use lib.ListN.{length};
@@ -22,7 +22,7 @@ fn count(heard: &[u16]) -> usize
     n
 }
 
-// The first line that is lost.
+// The first lost line.
 fn first_lost(heard: &[u16]) -> usize
     requires { ⌜ length (now heard) ≡ 1125 ⌝ }
     ensures { λ r. ⌜ r ≡ firstLost (now (heard .entry)) ⌝ }
@@ -38,7 +38,7 @@ fn first_lost(heard: &[u16]) -> usize
     1
 }
 
-// The last line that is lost.
+// The last lost line.
 fn last_lost(heard: &[u16]) -> usize
     requires { ⌜ length (now heard) ≡ 1125 ⌝ }
     ensures { λ r. ⌜ r ≡ lastLost (now (heard .entry)) ⌝ }
@@ -68,7 +68,7 @@ fn put_item(label: &[u8], n: usize, out: &mut [u8], at: usize) -> usize
     text::put::put_text(b"\n", out, b)
 }
 
-// The lines that tell which were lost.
+// The lines of text that say which were lost.
 fn put_which(heard: &[u16], out: &mut [u8], at: usize) -> usize
     requires { ⌜ length (now heard) ≡ 1125 ⌝ }
     requires { ⌜ at + 44 ≤ length (now out) ⌝ }

@@ -43,12 +43,12 @@ paperNext NoInput = refused 3 0
 paperNext WrongOutput = refused 4 0
 paperNext NoStart = refused 5 0
 
--- what is answered of a span that is found: its place and the reader's values
+-- what is answered for a span that is found: its place and the reader's values
 abbrev pub spanned : Option (FoundAt Reading) → Option Spanned
 spanned none = none
 spanned (some e) = some (record { place = e .place; delivery = e .reading .values })
 
--- 1, 3, 4 where the rows have not the words of a span, 5
+-- 1, 3, 4 if the rows do not have the length of a span's picture, 5
 abbrev pub nextRows : Format → List ℕ → ℕ → ℕ → List Row
 nextRows f r start room =
     unless 1 (isKnown f)

@@ -1,5 +1,5 @@
--- What holds of finding spans in a recording, for a reader of the papers; `proofs/Laws` proves each. Which calls are refused, and what is found
--- and delivered, is said by demands 1 and 3 (crate demands).
+-- What holds of finding spans in a recording, for a reader of the papers; `proofs/Laws` proves each. Demands 1 and 3 (crate demands) say
+-- which calls are refused, and what is found and delivered.
 -- Assumes nothing.
 use mathlib.Core.Path.{_≡_}
 use mathlib.Core.Bool.{true}
@@ -18,7 +18,7 @@ use Rattle.recording.specs.Recording.{Reading, reading, accepts}
 use Rattle.recording.specs.Inside.Look.{mayBegin}
 
 pub record RecordingLaws : Type 0 where
-  -- symbols are read if and only if they are as many as a span has and the reader accepts them; what is read is what it answers, and the picture
+  -- symbols are read if and only if there are as many as a span has and the reader accepts them; what is read is its answer and the picture
   pub readIf :
       (f : Format) (w : List ℕ)
       → length w ≡ symbolsIn (shapeOf f)

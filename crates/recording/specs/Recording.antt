@@ -14,11 +14,11 @@ use Rattle.window.specs.declared.delivery.Delivery.{Delivery}
 use Rattle.window.specs.Read.{pictureOf, readSpan}
 use Rattle.delivery.specs.Delivery.{Found, findBy as findBy, nextBy as nextBy, deliverBy as deliverBy}
 
--- document 01: the finder takes a recording of at most 2,097,152 symbols. No law asks what the number is.
+-- document 01: the finder takes a recording of at most 2,097,152 symbols. No law depends on the number.
 unfoldable pub limit : ℕ
 limit = 2097152
 
--- what is read of a span: line, content bytes, both disparities and repairs; and the picture words
+-- what is read from a span: line, content bytes, both disparities and repairs; and the picture words
 pub record Reading : Type 0 where
   pub values : Delivery
   pub words : List ℕ
@@ -27,7 +27,7 @@ abbrev pub withWords : Answer Delivery → List ℕ → Option Reading
 withWords (refused number place) words = none
 withWords (given d) words = some (record { values = d; words = words })
 
--- what the reader reads of symbols, if it accepts them: a span's length of them, and `readSpan` answers
+-- what the reader reads from symbols, if it accepts them: there are as many as a span has, and `readSpan` does not refuse them
 unfoldable pub reading : Format → List ℕ → Option Reading
 reading f w = cond (eqb (length w) (symbolsIn (shapeOf f))) (withWords (readSpan f w) (pictureOf f w)) none
 

@@ -16,14 +16,14 @@ pub enum Found {
     WrongStart,
 }
 
-// The symbols that a recording may have.
+// The most symbols that a recording may have.
 pub fn limit() -> usize
     ensures { λ r. ⌜ r ≡ limitOf ⌝ }
 {
     2097152
 }
 
-// The first place at or after a start where the reader would accept, or none. The reader's rows are the finder's own.
+// The first place at or after a start where the reader would accept, or none. The reader writes into rows of the finder's own.
 pub fn find(f: Format, symbols: &[u16], start: usize) -> Found
     ensures { λ r. ⌜ paperFound r ≡ findOf f (now (symbols .entry)) start ⌝ }
 {

@@ -1,13 +1,13 @@
-// The quick look: one look a symbol, at the speed of memory.
+// The quick look: each symbol is examined once, at the speed of memory.
 ghost use mathlib.Core.Path.{_≡_};
 ghost use Prim.Native.Nat.{_+_, _≤_};
 ghost use lib.ListN.{length};
 ghost use Rattle.recording.specs.Inside.Look.{commaIn, gathered, commaAt, commaPair, lookAhead, mayBegin, LookInv};
 
-// Symbols that are looked at together. The compiler knows the number, and makes the loop over them flat.
+// Symbols that are examined together. The number is a constant, so that the compiler unrolls the loop over them.
 const PIECE: usize = 64;
 
-// Symbols after a start that are looked at before a span is read: starts close to each other do not cost a span each.
+// Symbols after a start that are examined before a span is read, so that starts close to each other do not cost a span each.
 const NEAR: usize = 128;
 
 // 1 for K28.5 in either form, else 0.
@@ -23,7 +23,7 @@ fn comma(s: u16) -> u16
     0
 }
 
-// 0 only where none of so many symbols is K28.5. None is asked about by itself, so that the loop has one exit.
+// 0 only if none of `count` symbols is K28.5. None is tested by itself, so that the loop has one exit.
 pub(crate) fn commas(symbols: &[u16], from: usize, count: usize) -> u16
     requires { ⌜ from + count ≤ length (now symbols) ⌝ }
     ensures { λ r. ⌜ r ≡ gathered count (commaAt (now (symbols .entry)) from) ⌝ }
@@ -37,7 +37,7 @@ pub(crate) fn commas(symbols: &[u16], from: usize, count: usize) -> u16
     found
 }
 
-// 0 only where it stands nowhere twice: so it is nearly everywhere in noise, even where K28.5 is in it.
+// 0 only if no two in a row are K28.5: so nearly everywhere in noise, even where K28.5 is in it.
 fn twice(symbols: &[u16], from: usize, count: usize) -> u16
     requires { ⌜ from + count + 1 ≤ length (now symbols) ⌝ }
     ensures { λ r. ⌜ r ≡ gathered count (commaPair (now (symbols .entry)) from) ⌝ }
@@ -51,8 +51,8 @@ fn twice(symbols: &[u16], from: usize, count: usize) -> u16
     found
 }
 
-// Whether a span may begin at a place: K28.5 stands twice, and not again near after. The third symbol is asked first, since the first of many
-// that are K28.5 is then soon passed over.
+// Whether a span may begin at a place: K28.5 is there twice, and not again soon after. The third symbol is tested by itself first, so that
+// a run of K28.5 is passed over quickly.
 fn may_begin(symbols: &[u16], i: usize) -> bool
     requires { ⌜ i + 2 + lookAhead ≤ length (now symbols) ⌝ }
     ensures { λ r. ⌜ r ≡ mayBegin (now (symbols .entry)) i ⌝ }
@@ -67,7 +67,7 @@ fn may_begin(symbols: &[u16], i: usize) -> bool
     false
 }
 
-// The first place, of those from one to another, at which a span may begin; the end where there is none.
+// The first place in a range at which a span may begin; the end of the range if there is none.
 fn look_in(symbols: &[u16], from: usize, to: usize) -> usize
     requires { ⌜ to + 2 + lookAhead ≤ length (now symbols) ⌝ }
     ensures { λ q. ⌜ LookInv (now (symbols .entry)) from q ⌝ }
@@ -82,7 +82,7 @@ fn look_in(symbols: &[u16], from: usize, to: usize) -> usize
     i
 }
 
-// The same, piece by piece: most have no K28.5. The last piece may go beyond the end.
+// The same, piece by piece: most have no K28.5. The last piece may extend beyond the end.
 pub(crate) fn look(symbols: &[u16], from: usize, to: usize) -> usize
     requires { ⌜ to + 66 + lookAhead ≤ length (now symbols) ⌝ }
     ensures { λ q. ⌜ LookInv (now (symbols .entry)) from q ⌝ }

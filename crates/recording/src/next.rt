@@ -30,7 +30,7 @@ pub struct Next {
     pub after: usize,
 }
 
-// Each word of one row into another of the same length.
+// Copies one row into another of the same length.
 fn copy(from: &[u16], to: &mut [u16])
     requires { ⌜ length (now from) ≡ length (now to) ⌝ }
     ensures { λ _. ⌜ now (to .exit) ≡ now (from .entry) ⌝ }
@@ -42,8 +42,8 @@ fn copy(from: &[u16], to: &mut [u16])
     }
 }
 
-// The next span of a recording whose rows and start are right. It is read into rows that are the call's own, since those lent stay as they
-// were where there is none.
+// The next span of a recording, with rows and start already checked. It is read into the call's own rows, since the lent ones stay as they
+// were if there is none.
 fn next_from(f: Format, symbols: &[u16], start: usize, own: &mut [u16], rows: &mut [u16]) -> Next
     requires { ⌜ isKnown f ≡ true ⌝ }
     requires { ⌜ start ≤ length (now symbols) ⌝ }
@@ -81,7 +81,7 @@ fn refused_at(answer: NextSpan, start: usize) -> Next
     }
 }
 
-// Finds from a start and reads at once, into s x 1920 words stream by stream.
+// Finds the next span from a start and reads it at once, into s x 1920 words stream by stream.
 pub fn next_span(f: Format, symbols: &[u16], start: usize, rows: &mut [u16]) -> Next
     ensures answer { λ r. ⌜ paperNext (r .answer) ≡ nextOf f (now (symbols .entry)) start (length (now (rows .entry))) ⌝ }
     ensures after { λ r. ⌜ r .after ≡ afterNext f (now (symbols .entry)) start (length (now (rows .entry))) ⌝ }

@@ -11,7 +11,7 @@ ghost use Rattle.recording.specs.Call.{spanned, wordsOr};
 ghost use Rattle.recording.specs.Recording.{nextFrom};
 ghost use Rattle.recording.specs.Inside.Seek.{soughtOf};
 
-// A span in a recording: its place, and what its reading answers.
+// A span in a recording: its place, and what reading it answers.
 pub struct Spanned {
     pub place: usize,
     pub delivery: Delivery,
@@ -22,7 +22,7 @@ pub(crate) enum Sought {
     None,
 }
 
-// The first span at or after a start. Its picture is left in rows that are the search's own: where there is none, anything may stand there.
+// The first span at or after a start. Its picture is left in the search's own rows; if there is none, they may hold anything.
 pub(crate) fn seek(f: Format, symbols: &[u16], start: usize, rows: &mut [u16]) -> Sought
     requires { ⌜ isKnown f ≡ true ⌝ }
     requires { ⌜ start ≤ length (now symbols) ⌝ }

@@ -1,5 +1,5 @@
--- What holds of the answers of the calls on recordings to C: no two answers of the library cross as the same, so the number and the fields fix
--- what was answered. `proofs/Laws` proves each.
+-- What holds of the answers to C of the calls on recordings: no two answers of the library cross as the same, so the number and the fields
+-- determine what was answered. `proofs/Laws` proves each.
 -- Assumes nothing.
 use Rattle.ground.specs.Inside.Answer.{Injective}
 use Rattle.recording.specs.declared.find.Found.{Found}
@@ -10,5 +10,5 @@ use Rattle.recording_answers.specs.Recordings.{findAnswerOf, nextAnswerO
 pub record RecordingAnswersLaws : Type 0 where
   -- finding a span
   pub findTold : Injective (λ (r : Found). findAnswerOf (paperFound r))
-  -- the next span, and where to go on
+  -- the next span, and where to continue
   pub nextTold : Injective (λ (r : Next). nextAnswerOf (paperNext (r .answer)) (r .after))

@@ -1,5 +1,5 @@
--- What the calls on a recording answer to C (document 01, "Receiving and finding"). Whether there is a span is a field of its own: none is no
--- refusal, and place 0 is a place.
+-- What the calls on a recording answer to C (document 01, "Receiving and finding"). Whether there is a span is a field of its own: finding
+-- none is not a refusal, and place 0 is a place.
 -- Assumes nothing.
 use Prim.Native.Nat.{ℕ}
 use mathlib.Core.Bool.{true, false}
@@ -15,7 +15,7 @@ findAnswerOf (refused number place) = record { number = number; found = false; p
 findAnswerOf (given none) = record { number = 0; found = false; place = 0 }
 findAnswerOf (given (some place)) = record { number = 0; found = true; place = place }
 
--- the answer, and where to go on
+-- the answer, and where to continue
 abbrev pub nextAnswerOf : Answer (Option Spanned) → ℕ → NextAnswer
 nextAnswerOf (refused number place) resume =
     record { number = number; found = false; place = 0; resume = resume; delivery = noValues }

@@ -1,4 +1,4 @@
-// What the calls on a recording answer. That no span is found is said by `found`, and place 0 is a place like any other.
+// What the calls on a recording answer. `found` says whether there is a span, and place 0 is a place like any other.
 use recording::find::Found;
 use recording::next::Next;
 use recording::next::NextSpan;

@@ -1,4 +1,4 @@
--- What holds of the rig: which lines a knock costs, which pieces are carried, and that the pieces are one signal; `proofs/Laws` proves each.
+-- What holds of the rig: which lines a knock costs, which pieces are carried, that the pieces are one signal; `proofs/Laws` proves each.
 -- Assumes nothing.
 use Prim.Native.Nat.{ℕ, _+_, _-_, _*_, _≤_, _<_}
 use mathlib.Core.Path.{_≡_}
@@ -16,8 +16,8 @@ use Rattle.rig.specs.Sending.{afterFrom}
 use Rattle.rig.specs.Inside.Sending.{sentFrom}
 
 pub record RigLaws : Type 0 where
-  -- stream line n, whose span has the symbols from 19,008 (n - 1) on and ends before 19,008 n, is lost where the knock takes one of these, and
-  -- nowhere else
+  -- stream line n, whose span has the symbols from 19,008 (n - 1) on and ends before 19,008 n, is lost if and only if the knock takes one
+  -- of these
   pub isLostWhere :
       (k : Knock) (n : ℕ)
       → 1 ≤ n
@@ -30,7 +30,7 @@ pub record RigLaws : Type 0 where
       → 1 ≤ n
       → (1 ≤ k .long → k .place < 19008 * n → 19008 * (n - 1) < k .place + k .long → ⊥)
       → lost k n ≡ false
-  -- pieces 0 to 224 are carried into five flags and ten rows of 3840; another piece meets 2, other lengths 4
+  -- pieces 0 to 224 are carried into five flags and ten rows of 3840; any other piece meets 2, other lengths 4
   pub carries :
       (piece : ℕ) (d : Disparity) (heard picture : ℕ)
       → piece < 225
@@ -43,7 +43,7 @@ pub record RigLaws : Type 0 where
       → piece < 225
       → (heard ≡ 5 → picture ≡ 38400 → ⊥)
       → carryOf piece d heard picture ≡ refused 4 0
-  -- m lines are 19,008 m symbols; lines in two runs are one signal, the disparity handed from the one to the other
+  -- m lines are 19,008 m symbols; two runs of lines are one signal, the disparity handed from one to the other
   pub lengthSent : (d : Disparity) (n m : ℕ) → length (sentFrom d n m) ≡ 19008 * m
   pub sentOn : (d : Disparity) (n a b : ℕ) → sentFrom d n (a + b) ≡ sentFrom d n a ++ sentFrom (afterFrom d n a) (n + a) b
   -- the numbers tell any two answers apart, so that a promise about them fixes the answer

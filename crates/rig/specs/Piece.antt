@@ -22,12 +22,12 @@ use Rattle.rig.specs.Sending.{afterFrom}
 abbrev pub black : List ℕ
 black = replicate 7680 0
 
--- the two lines of the test picture that stream line n carries: 2l - 1 and 2l, where l is the basic images' line on it (004, 5.3 and 6.1). No
--- blanking line carries any.
+-- the two lines of the test picture that stream line n carries: 2l - 1 and 2l, where l is the basic images' line on it (004, 5.3 and 6.1).
+-- A blanking line carries none.
 abbrev pub sentRows : ℕ → List ℕ
 sentRows n = cond (isActive n) (testRow (2 * basicLineOf n - 1) ++ testRow (2 * basicLineOf n)) black
 
--- those that arrive: of a line that is lost, black ones
+-- those that arrive: black ones for a lost line
 abbrev pub rowsAt : Knock → ℕ → List ℕ
 rowsAt k n = cond (lost k n) black (sentRows n)
 
@@ -35,7 +35,7 @@ rowsAt k n = cond (lost k n) black (sentRows n)
 unfoldable pub pictureIn : Knock → ℕ → List ℕ
 pictureIn k piece = upto 5 (λ i. rowsAt k (lineOfPiece piece i))
 
--- which of its lines were heard: 1, and 0 for a line that is lost
+-- which of its lines were heard: 1, or 0 for a lost line
 unfoldable pub heardIn : Knock → ℕ → List ℕ
 heardIn k piece = table 5 (λ i. cond (lost k (lineOfPiece piece i)) 0 1)
 
@@ -47,12 +47,13 @@ paperCarried (After d) = given d
 paperCarried NoPiece = refused 2 0
 paperCarried WrongOutput = refused 4 0
 
--- 2 where the frame has no such piece: it has 225; then 4 where there is not room for five flags and ten rows. Else the disparity after its spans.
+-- 2 if the frame, which has 225 pieces, has no such piece; then 4 if there is not room for five flags and ten rows. Otherwise the disparity
+-- after its spans.
 abbrev pub carryOf : ℕ → Disparity → ℕ → ℕ → Answer Disparity
 carryOf piece d heard picture =
     checked (unless 2 (ltb piece 225) ∷ unless 4 (eqb heard 5 && eqb picture 38400) ∷ []) (afterFrom d (lineOfPiece piece 0) 5)
 
--- lent memory afterwards: as it was where the call is refused
+-- the lent memory afterwards: as it was if the call is refused
 abbrev pub flagsCarried : Knock → ℕ → Disparity → List ℕ → ℕ → List ℕ
 flagsCarried k piece d heard picture = unlessRefused (carryOf piece d (length heard) picture) heard (heardIn k piece)
 

@@ -13,7 +13,7 @@ use Rattle.reception.specs.Link.{link}
 abbrev pub requestOn : ℕ → Request
 requestOn n = request n NoneNamed (testSamples link n)
 
--- and the disparity after them
+-- the disparity after m lines from line n on
 unfoldable pub afterFrom : Disparity → ℕ → ℕ → Disparity
 afterFrom d n zero = d
 afterFrom d n (suc m) = afterFrom (spanAfter d link (requestOn n)) (suc n) m

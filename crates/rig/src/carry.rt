@@ -17,7 +17,7 @@ pub enum Carried {
     WrongOutput,
 }
 
-// A piece that there is, with room for what comes of it. Its symbols, and the samples of a line, stand in memory that is lent for them.
+// A piece of the frame, with room for what it gives. Its symbols, and the samples of a line, are in memory lent for them.
 fn carry_in(
     piece: usize,
     d: Disparity,
@@ -43,8 +43,8 @@ fn carry_in(
     after
 }
 
-// Five lines from the first of a piece on, pieces counted from 0: which of them were heard, 1 or 0, and ten rows of the picture, black where a
-// line is lost and on blanking lines. The answer is the disparity for the next piece.
+// The five lines of a piece, pieces counted from 0: which of them were heard, 1 or 0, and ten rows of the picture, black where a line is
+// lost and on blanking lines. The answer is the disparity for the next piece.
 pub fn carry(
     piece: usize,
     d: Disparity,

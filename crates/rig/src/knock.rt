@@ -5,7 +5,7 @@ ghost use lib.ListN.{length};
 ghost use Rattle.rig.specs.Knock.{struck};
 ghost use Rattle.rig.specs.Inside.Knock.{knocked};
 
-// From which symbol of the frame on there is no light, and for how many.
+// The symbol of the frame from which there is no light, and for how many symbols.
 pub struct Knock {
     pub place: u32,
     pub long: u32,
@@ -22,7 +22,7 @@ fn is_struck(k: Knock, q: u64) -> bool
     q < begin + k.long as u64
 }
 
-// The symbols of a piece that begins at place `from` of the frame: those that are struck become 0.
+// The symbols of a piece that begins at place `from` of the frame: those struck become 0.
 pub(crate) fn strike(k: Knock, from: usize, symbols: &mut [u16])
     requires { ⌜ from + length (now symbols) ≤ 21384000 ⌝ }
     ensures { λ _. ⌜ now (symbols .exit) ≡ knocked k from (now (symbols .entry)) ⌝ }

@@ -11,7 +11,7 @@ ghost use Rattle.reception.specs.Link.{link};
 ghost use Rattle.rig.specs.Sending.{requestOn, afterFrom};
 ghost use Rattle.rig.specs.Inside.Sending.{sentFrom};
 
-// The span of a line. Its samples go into words that are lent for them.
+// The span of a line. Its samples go into words lent for them.
 fn send_line(l: StreamLine, d: Disparity, words: &mut [u16], symbols: &mut [u16]) -> Disparity
     requires { ⌜ 1 ≤ l .0 ⌝ }
     requires { ⌜ l .0 ≤ 1125 ⌝ }

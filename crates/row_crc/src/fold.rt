@@ -1,7 +1,7 @@
 // A row of 1,920 words folded into its last 139, which have the same CRC.
 //
-// X^(12 * 139) + X^(12 * 53) + X^(12 * 46) + 1 is a multiple of the code's polynomial (004, 6.4 b). So a word counts as much where it stands
-// as it does 86, 93 and 139 words further on together: it may be moved there, and no word of the next 86 is touched by it. That lets the
+// X^(12 * 139) + X^(12 * 53) + X^(12 * 46) + 1 is a multiple of the code's polynomial (004, 6.4 b). So a word counts the same where it is
+// as at 86, 93 and 139 words further on together: it may be moved there, and no word less than 86 further on is touched. That lets the
 // compiler move many words at a time, while a CRC goes word by word.
 ghost use mathlib.Core.Path.{_≡_};
 ghost use Prim.Native.Nat.{_<_};
@@ -10,11 +10,11 @@ ghost use Rattle.crcc.specs.Crcc.{crc};
 ghost use Rattle.row_crc.specs.Inside.Fold.{withMoved, Empty, FoldInv};
 ghost use Rattle.row_crc.specs.Inside.Sums.{wordsIn};
 
-// Word j that is moved is put at 139 + j. So what word i gets stands at i, which is the word 139 before it, at i + 53, the word 86 before, and at
+// A moved word j is put at 139 + j. So what word i gets is at i, which is the word 139 before it, at i + 53, the word 86 before, and at
 // i + 46, the word 93 before.
 const BEHIND: usize = 139;
 
-// Words that are folded: all but the last 139.
+// How many words are folded: all but the last 139.
 const FOLDED: usize = 1781;
 
 pub(crate) struct Two {
@@ -32,7 +32,7 @@ fn with_moved(row: &[u16], moved: &[u16], j: usize) -> u16
     row[j] ^ moved[j] ^ moved[j + 53] ^ moved[j + 46]
 }
 
-// The words of a row that are moved, each with what has been moved to it; word j is put at 139 + j.
+// Moves the first words of a row, each with what has been moved to it; word j is put at 139 + j.
 fn fold(row: &[u16], moved: &mut [u16])
     requires { ⌜ length (now row) ≡ 1920 ⌝ }
     requires { ⌜ length (now moved) ≡ 1984 ⌝ }
@@ -47,7 +47,7 @@ fn fold(row: &[u16], moved: &mut [u16])
     }
 }
 
-// The CRC of the last 139 words of two rows, a and b, each with what has been moved to it. The two run side by side.
+// The CRC of the last 139 words of two rows, a and b, each with what has been moved to it. The two are computed side by side.
 fn crc_of_last(a: &[u16], ma: &[u16], b: &[u16], mb: &[u16]) -> Two
     requires { ⌜ length (now a) ≡ 1920 ⌝ }
     requires { ⌜ length (now ma) ≡ 1984 ⌝ }

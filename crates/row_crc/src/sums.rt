@@ -3,7 +3,7 @@ use crcc::sums::Sums;
 ghost use mathlib.Core.Path.{_≡_};
 ghost use Rattle.row_crc.specs.Inside.Sums.{sumsIn};
 
-// Of two rows of 1,920 words, or of four; of rows of any other length none.
+// For two rows of 1,920 words, or four; 0 for rows of any other length.
 pub fn sums_of_rows(rows: &[u16]) -> Sums
     ensures { λ r. ⌜ r ≡ sumsIn (now (rows .entry)) ⌝ }
 {

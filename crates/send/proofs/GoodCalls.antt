@@ -1,4 +1,4 @@
--- Good calls are sent, and no others, in document 01's own numbers.
+-- Accepted calls are sent, and no others, in document 01's own numbers.
 -- Assumes nothing.
 use mathlib.Core.Path.{_≡_, refl, sym, _∙_}
 use mathlib.Core.Bool.{Bool, true, false}
@@ -23,7 +23,7 @@ use Rattle.span.specs.Stream.{Request}
 use Rattle.span.proofs.Formats.{is-known, known-told}
 use Rattle.send.specs.Send.{sendOf}
 use Rattle.send.specs.Inside.Check.{firstOutside}
-use Rattle.send.specs.Inside.Send.{Good}
+use Rattle.send.specs.Inside.Send.{Accepted}
 use Rattle.send.proofs.Checking.{outside-never}
 use Rattle.send.proofs.Refusals.{forbidden-is, send-meets-1, send-meets-2, send-meets-3, send-meets-4, send-meets-6, sends, is-good}
 
@@ -157,7 +157,7 @@ module _ (d : Disparity) (f : Format) (a : Request) (room : ℕ) where
         (eqb-true _ _)
         (λ t. absurd (never (send-meets-4 d f a room known line samples (eqb-false _ _ t))))
 
-    good : Good f a
+    good : Accepted f a
     good =
         let w = firstOutside (boundsOf f (a .line) .low) (boundsOf f (a .line) .high) (a .samples) in
         on-test (ltb w (length (a .samples)))

@@ -21,7 +21,7 @@ use Rattle.span.proofs.Formats.{known-told}
 use Rattle.span.proofs.Samples.{allowed-is}
 use Rattle.send.specs.Send.{forbidden, firstForbidden, sendOf}
 use Rattle.send.specs.Inside.Check.{firstOutside}
-use Rattle.send.specs.Inside.Send.{Good}
+use Rattle.send.specs.Inside.Send.{Accepted}
 use Rattle.send.proofs.Checking.{outsideAt, found-first, found-none}
 
 module _ (f : Format) (a : Request) where
@@ -73,7 +73,7 @@ module _ (d : Disparity) (f : Format) (a : Request) (room : ℕ) where
             pub sends : length (a .samples) ≤ w → sendOf d f a room ≡ given (spanAfter d f a)
             sends h = by-samples ∙ simp (nowhere h)
 
-            pub is-good : length (a .samples) ≤ w → Good f a
+            pub is-good : length (a .samples) ≤ w → Accepted f a
             unfolding firstForbidden
             is-good h = record {
               known = known;

@@ -37,7 +37,7 @@ use Rattle.span.proofs.Packing.{bytes-interleaved, bytes-replicate}
 use Rattle.span.proofs.Parts.{parts-from-sav, parts-from-eav, blank-area}
 use Rattle.span.proofs.Samples.{word-is, word-below}
 use Rattle.send.specs.Inside.Put.{timingChars, groupChars, scaledWords, pictureWord, pictureChars, crccAfter, crccChars, offsetAfter, put, afterPictureChars, runChars, blankingChars, wholeChars, spanPut, Fits}
-use Rattle.send.specs.Inside.Send.{Good}
+use Rattle.send.specs.Inside.Send.{Accepted}
 use Rattle.send.proofs.Passing.{sum-is}
 use Rattle.send.proofs.Putting.{Put, made, renamed, told, whole, same-group}
 use Rattle.send.proofs.Scaling.{length-words}
@@ -48,7 +48,7 @@ regroup t g h c r =
     ap (λ (l : List ℕ). t ++ l) (append-assoc g h (c ++ r) ∙ ap (λ (l : List ℕ). g ++ l) (sym (append-assoc h c r)) ∙ sym (append-assoc g (h ++ c) r))
     ∙ sym (append-assoc t (g ++ (h ++ c)) r)
 
-module _ (f : Format) (a : Request) (good : Good f a) (factor : ℕ) (is : factor ≡ boundsOf f (a .line) .factor) where
+module _ (f : Format) (a : Request) (good : Accepted f a) (factor : ℕ) (is : factor ≡ boundsOf f (a .line) .factor) where
   abbrev pairs : ℕ
   pairs = shapeOf f .«stream_pairs»
 

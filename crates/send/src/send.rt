@@ -13,7 +13,7 @@ ghost use Rattle.span.specs.Inside.Sample.{boundsOf};
 ghost use Rattle.span.specs.Span.{spanSymbols, spanAfter};
 ghost use Rattle.send.specs.Send.{request, paperSent, sendOf, sentBuffer};
 ghost use Rattle.send.specs.Inside.Put.{offsetAfter, put, scaledWords, spanPut, AreWords, Fits};
-ghost use Rattle.send.specs.Inside.Send.{Good};
+ghost use Rattle.send.specs.Inside.Send.{Accepted};
 
 pub enum Sent {
     // The disparity after the span.
@@ -80,7 +80,7 @@ fn send_scaled(
     words: &mut [u16],
     out: &mut [u16],
 ) -> Disparity
-    requires { ⌜ Good f (request (l .0) content (now samples)) ⌝ }
+    requires { ⌜ Accepted f (request (l .0) content (now samples)) ⌝ }
     requires { ⌜ factor ≡ boundsOf f (l .0) .factor ⌝ }
     requires { ⌜ length (now words) ≡ length (now samples) ⌝ }
     requires { ⌜ length (now out) ≡ symbolsIn (shapeOf f) ⌝ }
@@ -101,7 +101,7 @@ fn send_span(
     samples: &[u16],
     out: &mut [u16],
 ) -> Disparity
-    requires { ⌜ Good f (request (l .0) content (now samples)) ⌝ }
+    requires { ⌜ Accepted f (request (l .0) content (now samples)) ⌝ }
     requires { ⌜ factor ≡ boundsOf f (l .0) .factor ⌝ }
     requires { ⌜ length (now out) ≡ symbolsIn (shapeOf f) ⌝ }
     ensures after { λ r. ⌜ r ≡ spanAfter d f (request (l .0) content (now (samples .entry))) ⌝ }

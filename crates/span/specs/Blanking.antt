@@ -18,7 +18,7 @@ paperFilled Done = given tt
 paperFilled UnknownFormat = refused 1 0
 paperFilled WrongOutput = refused 4 0
 
--- 1 for an unknown format, then 4 where the row has not the samples of a span
+-- 1 for an unknown format, then 4 if the row does not have a span's number of samples
 abbrev pub fillOf : Format → List ℕ → Answer (Unit {0})
 fillOf f row = checked (unless 1 (isKnown f) ∷ unless 4 (eqb (length row) (samplesIn (shapeOf f))) ∷ []) tt
 

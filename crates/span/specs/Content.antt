@@ -5,7 +5,7 @@ use Rattle.span.specs.declared.content.Content.the-variants.{NoneNamed, 
 use Rattle.span.specs.declared.content.ContentBytes.{ContentBytes}
 use Rattle.span.specs.declared.format.Format.{Format}
 
--- the bytes that the caller names; zeros where none are named
+-- the bytes that the caller names; zeros if none are named
 abbrev pub contentOf : Format → Content → ContentBytes
 contentOf f NoneNamed = record { sav1 = 0; sav2 = 0; eav1 = 0; eav2 = 0 }
 contentOf f (Named c) = c

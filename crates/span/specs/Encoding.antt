@@ -1,4 +1,4 @@
--- A run of characters as symbols, each at the disparity that those before it leave.
+-- A run of characters as symbols, each at the disparity left by those before it.
 -- Assumes nothing.
 use Prim.Native.Nat.{ℕ}
 use mathlib.Core.List.{List, [], _∷_}

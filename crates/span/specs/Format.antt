@@ -18,12 +18,12 @@ formatFrom number depth = record { number = number; depth = depth }
 abbrev pub isKnown : Format → Bool
 isKnown f = within 1 3 (f .number) && (eqb (f .depth) 10 || eqb (f .depth) 12)
 
--- a row of the table: s, the ancillary words per stream, the fill words. s and the fill are even, and pairs are kept, since the link
+-- a row of the table: s, the ancillary words per stream, the fill words. s and the fill are even and kept as pairs, since the link
 -- takes words two at a time.
 abbrev pub tableRow : ℕ → ℕ → ℕ → Shape
 tableRow s a g = record { «stream_pairs» = s / 2; ancillary = a; «fill_pairs» = g / 2 }
 
--- the table, from format 1 on; what is no format has no streams
+-- the table, from format 1 on; anything that is not a format has no streams
 abbrev pub formats : List Shape
 formats = tableRow 0 0 0 ∷ tableRow 2 268 880 ∷ tableRow 2 708 1056 ∷ tableRow 4 708 2112 ∷ []
 
@@ -41,7 +41,7 @@ streams p = 2 * p .«stream_pairs»
 abbrev pub samplesIn : Shape → ℕ
 samplesIn p = 1920 * streams p
 
--- the words of one stream from a SAV to before the next, fill apart
+-- the words of one stream from one SAV up to the next, without the fill
 abbrev pub wordsPerStream : Shape → ℕ
 wordsPerStream p = ancillaryStart + p .ancillary
 

@@ -1,4 +1,4 @@
--- What holds of a span, for a reader of the papers; `proofs/Laws` proves each. Streams count from 0 here, so the paper's stream 1 is stream 0.
+-- Laws of a span, for a reader of the papers; `proofs/Laws` proves each. Streams count from 0 here, so the paper's stream 1 is stream 0.
 -- Assumes nothing.
 use Prim.Native.Nat.{ℕ, _+_, _*_, _≤_, _<_}
 use mathlib.Core.Path.{_≡_}
@@ -65,7 +65,7 @@ pub record SpanLaws : Type 0 where
       → (columns (format 1 depth) ≡ 2 ∷ 268 ∷ 880 ∷ 7920 ∷ 3840 ∷ [])
       × (columns (format 2 depth) ≡ 2 ∷ 708 ∷ 1056 ∷ 9504 ∷ 3840 ∷ [])
       × (columns (format 3 depth) ≡ 4 ∷ 708 ∷ 2112 ∷ 19008 ∷ 7680 ∷ [])
-  -- the lengths call answers it at 10 and 12 bits, and refuses whatever else is asked for with 1
+  -- the lengths call answers these at 10 and 12 bits, and refuses anything else with 1
   pub lengths120 :
       (depth : ℕ) → (depth ≡ 10) ⊎ (depth ≡ 12) → lengthsOf (format 1 depth) ≡ given (record { samples = 3840; symbols = 7920 })
   pub lengths100 :
@@ -80,7 +80,7 @@ pub record SpanLaws : Type 0 where
   pub images120 : (depth : ℕ) → (two (format 1 depth) 1 ≡ 1 ∷ 2 ∷ []) × (two (format 1 depth) 2 ≡ 3 ∷ 4 ∷ [])
   pub images100 : (depth : ℕ) → (two (format 2 depth) 1 ≡ 1 ∷ 2 ∷ []) × (two (format 2 depth) 2 ≡ 3 ∷ 4 ∷ [])
   pub images50 : (depth pair : ℕ) → four (format 3 depth) pair ≡ 1 ∷ 2 ∷ 3 ∷ 4 ∷ []
-  -- the content bytes are those that a call names, and zeros where it names none (document 01, "Sending")
+  -- the content bytes are those that a call names, and zeros if it names none (document 01, "Sending")
   pub namedAsGiven : (f : Format) (c : ContentBytes) → contentOf f (Named c) ≡ c
   pub noneNamedZeros : (f : Format) → contentOf f NoneNamed ≡ record { sav1 = 0; sav2 = 0; eav1 = 0; eav2 = 0 }
   -- the words of each stream (document 01, "A span"; 004, 6.1 to 6.8): the SAV with V of the line,
@@ -98,7 +98,7 @@ pub record SpanLaws : Type 0 where
       → (i : ℕ)
       → i < 1920
       → wordOf f a (4 + i) t ≡ sampleWord f (a .line) t (getD (a .samples) (1920 * t + i) 0)
-  -- the EAV with V of the line after, that line's number,
+  -- the EAV with V of the next line, that line's number,
   pub eavWords :
       (f : Format) (a : Request) (t : ℕ)
       → t < streams (shapeOf f)
@@ -154,16 +154,16 @@ pub record SpanLaws : Type 0 where
       → (eavAt (shapeOf f) ≤ 3 * q + i → eavAt (shapeOf f) + 4 ≤ 3 * q + i)
       → getD (spanChars f a) (3 * q + i) 0
       ≡ getD (bytesListed (bytesOf (getD (spanWords f a) (2 * q) 0) (getD (spanWords f a) (2 * q + 1) 0))) i 0
-  -- each symbol is that of its character, at the disparity that those before it leave
+  -- each symbol is that of its character, at the disparity left by those before it
   pub symbolAt :
       (f : Format) (a : Request)
       → IsFormat f
       → (d : Disparity) (i : ℕ)
       → i < symbolsIn (shapeOf f)
       → getD (spanSymbols d f a) i 0 ≡ symbolOf (afterRun d (take i (spanChars f a))) (getD (spanChars f a) i 0)
-  -- a fresh signal is its spans' characters as one run from negative disparity (004, 7.1.1 and 7.1.2)
+  -- a fresh signal is its spans' characters encoded as one run from negative disparity (004, 7.1.1 and 7.1.2)
   pub signalIs : (f : Format) (spans : List Request) → signal f spans ≡ symbolsFrom Negative (allChars f spans)
-  -- the bounds and the factor that the code goes by say the same as the rule of each sample
+  -- the bounds and the factor that the code uses agree with the rule for each sample
   pub boundsAgree :
       (f : Format)
       → IsFormat f
@@ -175,5 +175,5 @@ pub record SpanLaws : Type 0 where
       → (n t x : ℕ)
       → allowed f n t x ≡ true
       → sampleWord f n t x ≡ x * boundsOf f n .factor
-  -- the paper's number and values tell any two answers apart, so that a promise about them fixes the answer
+  -- the paper's number and values tell any two answers apart, so that a contract about them fixes the answer
   pub lengthsTold : Injective paperLengths

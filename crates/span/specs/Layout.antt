@@ -4,15 +4,15 @@ use Prim.Native.Nat.{ℕ}
 
 -- ---- in the words of one stream, the first of the SAV being word 0
 
--- four words of SAV
+-- after four words of SAV
 abbrev pub pictureStart : ℕ
 pictureStart = 4
 
--- 1,920 words of the picture
+-- after 1,920 words of the picture
 abbrev pub eavStart : ℕ
 eavStart = 1924
 
--- four words of EAV: the line number, LN0 and LN1
+-- after four words of EAV: the line number, LN0 and LN1
 abbrev pub lineStart : ℕ
 lineStart = 1928
 

@@ -1,5 +1,5 @@
--- Document 01's own numbers: which formats and depths there are, and how long a span of each is. Laws that say which calls are good are stated
--- in these, and not in what is made of the table of formats.
+-- Document 01's own numbers: which formats and depths there are, and how long a span of each is. Laws that say which calls are good are
+-- stated with these, not with what is computed from the table of formats.
 -- Assumes nothing.
 use Prim.Native.Nat.{ℕ, _≤_}
 use mathlib.Core.Path.{_≡_}
@@ -10,7 +10,7 @@ use Rattle.span.specs.declared.format.Format.{Format}
 abbrev pub IsFormat : Format → Type 0
 IsFormat f = (1 ≤ f .number) × (f .number ≤ 3) × ((f .depth ≡ 10) ⊎ (f .depth ≡ 12))
 
--- x is the first, second or third number where the format is 1, 2 or 3
+-- x is a, b or c for format 1, 2 or 3
 abbrev pub Of : ℕ → ℕ → ℕ → ℕ → ℕ → Type 0
 Of a b c number x = ((number ≡ 1) × (x ≡ a)) ⊎ (((number ≡ 2) × (x ≡ b)) ⊎ ((number ≡ 3) × (x ≡ c)))
 

@@ -11,10 +11,10 @@ use Rattle.span.specs.declared.format.Format.{Format}
 abbrev pub blankWord : Format → ℕ
 blankWord f = 0x100
 
--- may stream t of line n carry sample x: on an active line what the depth allows, on a blanking line the blanking word alone
+-- whether stream t of line n may carry sample x: on an active line what the depth allows, on a blanking line only the blanking word
 abbrev pub allowed : Format → ℕ → ℕ → ℕ → Bool
 allowed f n t x = cond (isActive n) (allowedAt (f .depth) x) (eqb x (blankWord f))
 
--- the word sent for it: on an active line by the depth, on a blanking line as it is
+-- the word sent for it: on an active line by the depth, on a blanking line unchanged
 abbrev pub sampleWord : Format → ℕ → ℕ → ℕ → ℕ
 sampleWord f n t x = cond (isActive n) (wordAt (f .depth) x) x

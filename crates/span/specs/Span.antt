@@ -26,7 +26,7 @@ across s words j = table s (λ t. getD (words t) j 0)
 unfoldable pub interleaved : ℕ → ℕ → (ℕ → List ℕ) → List ℕ
 interleaved s n words = upto n (across s words)
 
--- 7.1: a word of the fill
+-- 7.1: the fill word
 abbrev pub fillWord : ℕ
 fillWord = 0x100
 
@@ -52,7 +52,7 @@ bytes [] = []
 bytes (a ∷ []) = []
 bytes (a ∷ b ∷ words) = bytesListed (bytesOf a b) ++ bytes words
 
--- 7.1, figures 14 and 16: of the first four bytes of an interleaved timing code two become a special character and two content bytes
+-- 7.1, figures 14 and 16: of the first four bytes of an interleaved timing code, two become special characters and two content bytes
 abbrev pub synchronised : Special → ℕ → ℕ → List ℕ → List ℕ
 synchronised k content1 content2 code = numberOf k ∷ numberOf k ∷ content1 ∷ content2 ∷ drop 4 code
 
@@ -75,7 +75,7 @@ spanSymbols d f a = symbolsFrom d (spanChars f a)
 unfoldable pub spanAfter : Disparity → Format → Request → Disparity
 spanAfter d f a = afterRun d (spanChars f a)
 
--- spans one after the other, the disparity handed on
+-- spans one after the other, the disparity carried over
 unfoldable pub signalFrom : Disparity → Format → List Request → List ℕ
 signalFrom d f [] = []
 signalFrom d f (a ∷ more) = spanSymbols d f a ++ signalFrom (spanAfter d f a) f more

@@ -1,4 +1,4 @@
--- What one stream carries from the SAV of line n to before the next SAV, fill apart (document 01, "A span"; 004, 6.1 to 6.8 and table 4).
+-- What one stream carries from the SAV of line n up to the next SAV, without fill (document 01, "A span"; 004, 6.1 to 6.8 and table 4).
 -- Streams count from 0 here, so the paper's stream 1 is stream 0.
 -- Assumes nothing.
 use Prim.Native.Nat.{ℕ, _+_, _*_}
@@ -37,8 +37,8 @@ eav a = timingCode (vOf (lineAfter (a .line))) true
 abbrev pub lineNumber : Request → List ℕ
 lineNumber a = ln0 (lineAfter (a .line)) ∷ ln1 (lineAfter (a .line)) ∷ []
 
--- 6.4: the CRCC is over what stands from after the SAV to the last line-number word, so the picture words are those of the line before
--- the number
+-- 6.4: the CRCC covers everything after the SAV up to the last line-number word, so its picture words are those of the line before the
+-- numbered one
 unfoldable pub register : Format → Request → ℕ → ℕ
 unfolding picture ln0 ln1
 register f a t = crc 0 (picture f a t ++ (eav a ++ lineNumber a))

@@ -1,4 +1,4 @@
-// The words that stand where there is no picture, and a row of them for the choice of row to lend (document 01, "Sending").
+// The words sent where there is no picture, and a row of them for the choice of row (document 01, "Sending").
 use crate::format::Format;
 ghost use mathlib.Core.Path.{_≡_};
 ghost use Rattle.span.specs.Sample.{blankWord};
@@ -20,7 +20,7 @@ pub fn blank_word(f: Format) -> u16
     0x100
 }
 
-// A word of the fill (004, 7.1).
+// The fill word (004, 7.1).
 pub fn fill_word() -> u16
     ensures { λ r. ⌜ r ≡ fillWord ⌝ }
 {

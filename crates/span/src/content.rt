@@ -12,7 +12,7 @@ pub struct ContentBytes {
     pub eav2: u8,
 }
 
-// What a caller says about them.
+// What a caller asks for.
 pub enum Content {
     NoneNamed,
     Named(ContentBytes),

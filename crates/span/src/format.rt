@@ -2,7 +2,7 @@
 ghost use mathlib.Core.Path.{_≡_};
 ghost use Rattle.span.specs.Format.{formatFrom, isKnown as known, shapeOf};
 
-// The number of the format and the depth in bits, any numbers: the calls that take a format refuse what is unknown.
+// The number of the format and the depth in bits, which may be any numbers: the calls that take a format refuse an unknown one.
 pub struct Format {
     number: u8,
     depth: u8,
@@ -35,14 +35,14 @@ pub fn is_known(f: Format) -> bool
     false
 }
 
-// The bits of a sample.
+// The bits per sample.
 pub fn depth_of(f: Format) -> u8
     ensures { λ r. ⌜ r ≡ f .depth ⌝ }
 {
     f.depth
 }
 
-// What it means; nothing of everything where it is unknown.
+// The shape of a format; all zeros if it is unknown.
 pub fn shape_of(f: Format) -> Shape
     ensures { λ r. ⌜ r ≡ shapeOf f ⌝ }
 {

@@ -15,7 +15,7 @@ pub enum Lengths {
     Unknown,
 }
 
-// The lengths of a format's spans; nothing for an unknown one.
+// The lengths of a format's spans; zeros for an unknown one.
 pub fn span_lengths(f: Format) -> SpanLengths
     ensures { λ r. ⌜ r ≡ record { samples = samplesIn (shapeOf f); symbols = symbolsIn (shapeOf f) } ⌝ }
 {

@@ -1,5 +1,5 @@
-// What a span is: formats and their lengths, content bytes, the samples that a line may carry. Most of this crate is its definitions
-// (specs/) and the laws of what stands where (proofs/).
+// What a span is: formats and their lengths, content bytes, the samples that a line may carry. Most of this crate is definitions
+// (specs/) and laws of what is where in a span (proofs/).
 pub mod blanking;
 pub mod content;
 pub mod fit;

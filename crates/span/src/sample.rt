@@ -4,7 +4,7 @@ use line::stream::StreamLine;
 ghost use mathlib.Core.Path.{_≡_};
 ghost use Rattle.span.specs.Inside.Sample.{boundsOf};
 
-// The lowest and the highest sample allowed, and the factor that makes a sample the word sent.
+// The lowest and the highest sample allowed, and the factor that turns a sample into the word sent.
 pub struct Bounds {
     pub low: u16,
     pub high: u16,
@@ -17,7 +17,7 @@ fn between(low: u16, high: u16, factor: u16) -> Bounds
     Bounds { low, high, factor }
 }
 
-// Those of a line: by the depth on an active line; the blanking word alone, as it is, on any other.
+// The bounds of a line: by the depth on an active line; only the blanking word, unchanged, on any other.
 pub fn bounds_of(f: Format, l: StreamLine) -> Bounds
     ensures { λ r. ⌜ r ≡ boundsOf f (l .0) ⌝ }
 {

@@ -1,5 +1,5 @@
--- What the calls on one span answer to C (document 01, "Sending", "Receiving and finding" and its table of refusals). What has no meaning in
--- a refusal is 0 or false.
+-- What the calls on one span answer to C (document 01, "Sending", "Receiving and finding" and its table of refusals). Fields meaningless in
+-- a refusal are 0 or false.
 -- Assumes nothing.
 use mathlib.Core.Bool.{false}
 use Rattle.ground.specs.Answer.{Answer, refused, given}
@@ -12,7 +12,7 @@ use Rattle.span_answers.specs.declared.spans.SendAnswer.{SendAnswer}
 use Rattle.span_answers.specs.declared.spans.ReadAnswer.{ReadAnswer}
 use Rattle.symbol.specs.Disparity.{isPositive}
 
--- what a span says of itself
+-- what a span says about itself
 abbrev pub valuesOf : Delivery → Values
 valuesOf d =
     record {
@@ -23,7 +23,7 @@ valuesOf d =
       repairs = d .repairs .count;
     }
 
--- where there is none
+-- if there is no span
 abbrev pub noValues : Values
 noValues =
     record {

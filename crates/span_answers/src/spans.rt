@@ -25,7 +25,7 @@ pub struct SendAnswer {
     pub place: u64,
 }
 
-// What a span says of itself.
+// What a span says about itself.
 #[repr(C)]
 pub struct Values {
     pub line: u32,
@@ -57,7 +57,7 @@ pub fn values_of(d: Delivery) -> Values
     }
 }
 
-// Where there is no span.
+// If there is no span.
 pub fn no_values() -> Values
     ensures { λ r. ⌜ r ≡ nothing ⌝ }
 {

@@ -1,4 +1,4 @@
--- Steps through a recording: what one gives, and what a run of them gives (document 01, "Which form goes where" and "Receiving and finding").
+-- Steps through a recording: what one gives, and what a run does (document 01, "Which form goes where" and "Receiving and finding").
 -- Assumes nothing.
 use Prim.Native.Nat.{ℕ, zero, suc}
 use mathlib.Core.List.{List, [], _∷_}
@@ -13,7 +13,7 @@ use Rattle.recording.specs.Recording.{Reading}
 use Rattle.recording.specs.Call.{nextOf, afterNext, rowsNext}
 use Rattle.stepping.specs.declared.reader.Reader.{Reader}
 
--- ---- one step of a reader, with rows lent: what it answers, the reader afterwards, the rows afterwards. It is the next span from the reader's place.
+-- ---- one step of a reader, with rows lent: its answer, the reader and the rows afterwards. It is the next span from the reader's place.
 abbrev pub answerOf : Format → Reader → List ℕ → Answer (Option Spanned)
 answerOf f r rows = nextOf f (now (r .symbols)) (r .place) (length rows)
 
@@ -23,12 +23,12 @@ movedOf f r rows = record { symbols = r .symbols; place = afterNext f (now (r .s
 abbrev pub rowsAfterStep : Format → Reader → List ℕ → List ℕ
 rowsAfterStep f r rows = rowsNext f (now (r .symbols)) (r .place) rows
 
--- ---- a run of steps, with the same rows lent again and again
+-- ---- a run of steps, with the same rows lent each time
 pub record Step : Type 0 where
   pub answer : Answer (Option Spanned)
   pub rows : List ℕ
 
--- k steps from place p of a recording: of each its answer, and the rows after it
+-- k steps from place p of a recording: the answer of each, and the rows after it
 unfoldable pub runFrom : ℕ → Format → List ℕ → ℕ → List ℕ → List Step
 runFrom zero f r p rows = []
 runFrom (suc k) f r p rows =
@@ -38,11 +38,11 @@ runFrom (suc k) f r p rows =
 abbrev pub spanStep : Found Reading → Step
 spanStep e = record { answer = given (some (record { place = e .place; delivery = e .reading .values })); rows = e .reading .words }
 
--- the step at the end, which leaves the rows
+-- the step at the end, which leaves the rows as they were
 abbrev pub endStep : List ℕ → Step
 endStep rows = record { answer = given none; rows = rows }
 
--- the rows after the last of some spans; those lent where there is none
+-- the rows after the last of some spans; the lent ones if there is none
 abbrev pub lastRows : List ℕ → List (Found Reading) → List ℕ
 lastRows rows [] = rows
 lastRows rows (e ∷ more) = lastRows (e .reading .words) more

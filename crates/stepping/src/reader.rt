@@ -1,5 +1,5 @@
-// A reader that holds the recording and its place, and gives one span at a time. The work is `next_span`'s; each function here is thin,
-// since its proof is a walk of what it is compiled to.
+// A reader that holds the recording and its place, and gives one span at a time. `next_span` does the work; each function here is thin,
+// since its proof walks through what it compiles to.
 use recording::next::NextSpan;
 use span::format::Format;
 ghost use mathlib.Core.Path.{_≡_};
@@ -19,15 +19,15 @@ pub fn new<'a>(symbols: &'a [u16]) -> Reader<'a>
     Reader { symbols, place: 0 }
 }
 
-// Where it is.
+// The reader's place.
 pub fn place<'a>(r: Reader<'a>) -> usize
     ensures { λ n. ⌜ n ≡ r .entry .place ⌝ }
 {
     r.place
 }
 
-// One step: the next span from the reader's place on, into rows of s x 1920 words, and the reader moves to that span's end. At the end,
-// and where the call is refused, rows and place stay.
+// One step: the next span from the reader's place on, into rows of s x 1920 words, and the reader moves to that span's end. At the end, and
+// if the call is refused, rows and place stay as they were.
 pub fn step<'s, 'a, 'r>(r: &'s mut Reader<'a>, f: Format, rows: &'r mut [u16]) -> NextSpan
     ensures answer { λ a. ⌜ paperNext a ≡ answerOf f (now (r .entry)) (now (rows .entry)) ⌝ }
     ensures moved { λ _. ⌜ now (r .exit) ≡ movedOf f (now (r .entry)) (now (rows .entry)) ⌝ }

@@ -1,6 +1,6 @@
 -- The blocks of the code as its tables print them, the bit sent first on the left: abcdei of the 5b/6b table, fghj of the 3b/4b table.
 -- Each table has a column for negative and one for positive disparity before the block.
--- The code is that of ANSI INCITS 230, which 004, 7.1.1 and 7.1.2 name.
+-- The code is that of ANSI INCITS 230, named by 004, 7.1.1 and 7.1.2.
 -- Assumes nothing.
 use Prim.Native.Nat.{ℕ}
 use mathlib.Core.List.{List, [], _∷_}
@@ -35,7 +35,7 @@ unfoldable pub alternate : Disparity → ℕ
 alternate Negative = 0b0111
 alternate Positive = 0b1000
 
--- the x at which a byte x.7 takes it
+-- the x for which a byte x.7 takes it
 unfoldable pub alternateAt : Disparity → List ℕ
 alternateAt Negative = 17 ∷ 18 ∷ 20 ∷ []
 alternateAt Positive = 11 ∷ 13 ∷ 14 ∷ []

@@ -30,7 +30,7 @@ numberOf «K30_7» = 267
 abbrev pub isSpecial : ℕ → Bool
 isSpecial c = not (ltb c 256)
 
--- A character is called Dx.y or Kx.y. Of a byte, x is its low five bits and y its high three.
+-- A character is called Dx.y or Kx.y. For a byte, x is its low five bits and y its high three.
 unfoldable pub xOf : ℕ → ℕ
 xOf c =
     cond (isSpecial c) (getD (28 ∷ 28 ∷ 28 ∷ 28 ∷ 28 ∷ 28 ∷ 28 ∷ 28 ∷ 23 ∷ 27 ∷ 29 ∷ 30 ∷ []) (c - 256) 0) (c % 32)
@@ -43,11 +43,11 @@ abbrev pub specialNames : List Special
 specialNames =
     «K28_0» ∷ «K28_1» ∷ «K28_2» ∷ «K28_3» ∷ «K28_4» ∷ «K28_5» ∷ «K28_6» ∷ «K28_7» ∷ «K23_7» ∷ «K27_7» ∷ «K29_7» ∷ «K30_7» ∷ []
 
--- the special character with number 256 + n; the first where there is none
+-- the special character with number 256 + n; the first if there is none
 unfoldable pub nth : ℕ → Special
 nth n = getD specialNames n «K28_0»
 
--- a character by what the paper calls it: a byte, or a special character by name
+-- a character as the paper calls it: a byte, or a special character by name
 pub data Character : Type 0 where
   byte : ℕ → Character
   special : Special → Character

@@ -1,5 +1,5 @@
 -- The symbol of each character, the disparity after it, and the character of each symbol.
--- A symbol is a number of ten bits, the bit sent first lowest (document 01, "A span"; 004, 7.1.1 and 7.1.2: sent from the LSB on).
+-- A symbol is a ten-bit number whose lowest bit is sent first (document 01, "A span"; 004, 7.1.1 and 7.1.2: sent LSB first).
 -- Assumes nothing.
 use Prim.Native.Nat.{ℕ, zero, suc, _+_, _*_, _/_, _%_, _^_}
 use mathlib.Core.Bool.{Bool, false, _&&_, _||_, cond}
@@ -40,12 +40,12 @@ unfoldable pub afterOf : Disparity → ℕ → Disparity
 unfolding betweenOf fourOf onesIn
 afterOf d c = afterBlock 4 (betweenOf d c) (fourOf (betweenOf d c) c)
 
--- n bits the other way round
+-- n bits in reverse order
 unfoldable pub reversed : ℕ → ℕ → ℕ
 reversed zero b = 0
 reversed (suc n) b = b % 2 * 2 ^ n + reversed n (b / 2)
 
--- the symbol of character c, where the disparity before it is d: abcdeifghj, with a lowest
+-- the symbol of character c, where the disparity before it is d: abcdeifghj, a being the lowest bit
 unfoldable pub symbolOf : Disparity → ℕ → ℕ
 unfolding reversed sixOf fourOf betweenOf
 symbolOf d c = reversed 10 (sixOf d c * 2 ^ 4 + fourOf (betweenOf d c) c)

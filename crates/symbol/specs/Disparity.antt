@@ -11,13 +11,13 @@ use Rattle.symbol.specs.declared.disparity.Disparity.the-variants.{Negat
 abbrev pub fresh : Disparity
 fresh = Negative
 
--- after a block of so many bits: positive where it has more ones than zeros, negative where it has more zeros, else as it was
+-- after a block of this many bits: positive if it has more ones than zeros, negative if it has more zeros, else unchanged
 abbrev pub afterBlock : ℕ → Disparity → ℕ → Disparity
 afterBlock bits d block =
     cond (ltb bits (2 * onesIn bits block)) Positive
     (cond (ltb (2 * onesIn bits block) bits) Negative d)
 
--- whether it is the positive one
+-- whether it is positive
 abbrev pub isPositive : Disparity → Bool
 isPositive Negative = false
 isPositive Positive = true

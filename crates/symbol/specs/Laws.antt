@@ -1,4 +1,4 @@
--- What holds of the 8B/10B code, for a reader of the papers; `proofs/Laws` proves each. The characters are numbered below 268.
+-- Laws of the 8B/10B code, for a reader of the papers; `proofs/Laws` proves each. The characters are numbered below 268.
 -- Assumes nothing.
 use Prim.Native.Nat.{ℕ, _-_, _≤_, _<_}
 use mathlib.Core.Path.{_≡_}
@@ -18,10 +18,10 @@ pub record SymbolLaws : Type 0 where
   -- decoding a character's symbol gives the character, and encoding what was decoded gives the symbol (004, 7.1.1 and 7.1.2)
   pub decodeEncode : (d : Disparity) (c : ℕ) → c < 268 → charOf d (symbolOf d c) ≡ some c
   pub encodeDecode : (d : Disparity) (s c : ℕ) → charOf d s ≡ some c → symbolOf d c ≡ s
-  -- a number that is no character's symbol at a disparity is illegal there, and no other is
+  -- a number is illegal at a disparity if and only if it is not the symbol of any character there
   pub illegalIf : (d : Disparity) (s : ℕ) → ((c : ℕ) → c < 268 → symbolOf d c ≡ s → ⊥) → charOf d s ≡ none
   pub illegalOnlyIf : (d : Disparity) (s : ℕ) → charOf d s ≡ none → (c : ℕ) → c < 268 → symbolOf d c ≡ s → ⊥
-  -- no two characters share a symbol, at one disparity or at two: a byte never looks like a special character
+  -- no two characters share a symbol, at the same disparity or at different ones: a byte never looks like a special character
   pub oneCharacter : (d e : Disparity) (b c : ℕ) → b < 268 → c < 268 → symbolOf d b ≡ symbolOf e c → b ≡ c
   pub dataOrSpecial : (d e : Disparity) (b k : ℕ) → b < 256 → 256 ≤ k → k < 268 → symbolOf d b ≡ symbolOf e k → ⊥
   -- a symbol has ten bits, and four to six of them are ones
@@ -31,15 +31,15 @@ pub record SymbolLaws : Type 0 where
   pub turnsBoth : (d : Disparity) (c : ℕ) → c < 268 → afterOf d c ≡ flippedIf (flips c) d
   -- read at the opposite disparity, a symbol of a character with two forms is illegal
   pub opposedIllegal : (d : Disparity) (c : ℕ) → c < 268 → TwoForms c → charOf (opposite d) (symbolOf d c) ≡ none
-  -- a character's symbol with one bit inverted is illegal, or is another's and leaves the opposite disparity
+  -- a character's symbol with one bit inverted is illegal, or is another character's and leaves the opposite disparity
   pub flip :
       (d : Disparity) (c k : ℕ)
       → c < 268
       → k < 10
       → let s = inverted k (symbolOf d c) in
       (charOf d s ≡ none) ⊎ ((b : ℕ) × (charOf d s ≡ some b) × (afterOf d b ≡ opposite (afterOf d c)))
-  -- and it is no form of that character itself
+  -- and it is never a form of the same character
   pub flipNoForm : (d e : Disparity) (c k : ℕ) → c < 268 → k < 10 → inverted k (symbolOf d c) ≡ symbolOf e c → ⊥
-  -- the twelve special characters have the numbers 256 to 267, each its own
+  -- the twelve special characters have the numbers 256 to 267, no two the same
   pub specialNumbers : (k : Special) → (256 ≤ numberOf k) × (numberOf k < 268) × (nth (numberOf k - 256) ≡ k)
   pub specialTold : Injective numberOf

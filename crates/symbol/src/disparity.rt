@@ -15,7 +15,7 @@ pub fn before_fresh_signal() -> Disparity
     Disparity::Negative
 }
 
-// The opposite of d where it flips, else d.
+// The opposite of d if it flips, else d.
 pub fn flipped_if(flips: bool, d: Disparity) -> Disparity
     ensures { λ r. ⌜ r ≡ flippedIf flips d ⌝ }
 {

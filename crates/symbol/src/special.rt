@@ -1,4 +1,4 @@
-// The twelve special characters of the code, by the names that the code gives them.
+// The twelve special characters, under the code's own names.
 ghost use mathlib.Core.Path.{_≡_};
 ghost use Rattle.symbol.specs.Character.{numberOf, nth};
 
@@ -17,7 +17,7 @@ pub enum Special {
     K30_7,
 }
 
-// The number of a special character among the characters.
+// The character number of a special character.
 pub fn number(k: Special) -> u16
     ensures { λ r. ⌜ r ≡ numberOf k ⌝ }
 {
@@ -53,7 +53,7 @@ const NAMES: [Special; 12] = [
     Special::K30_7,
 ];
 
-// The special character with number 256 + n; K28.0 where there is none.
+// The special character with number 256 + n; K28.0 if there is none.
 pub fn named(n: u16) -> Special
     ensures { λ r. ⌜ r ≡ nth n ⌝ }
 {

@@ -1,4 +1,4 @@
--- What holds of numbers as text, for one who reads what the programs print; `proofs/Laws` proves each.
+-- What holds of numbers as text, for anyone who reads what the programs print; `proofs/Laws` proves each.
 -- Assumes nothing.
 use Prim.Native.Nat.{ℕ, _-_, _^_, _≤_, _<_}
 use mathlib.Core.Path.{_≡_}

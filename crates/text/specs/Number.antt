@@ -6,8 +6,8 @@ use mathlib.Core.List.{List}
 use lib.Dec.{ltb}
 use Rattle.io.specs.Digits.{digits}
 
--- how many decimal digits a number takes: one below ten, else one more than its tenth takes. `most` bounds the steps, and the number itself is
--- bound enough: they are the fewest digits that hold it (law `places-fewest`).
+-- how many decimal digits a number takes: one below ten, else one more than a tenth of it takes. `most` bounds the steps, and the number
+-- itself is bound enough: they are the fewest digits that hold it (law `places-fewest`).
 abbrev pub placesIn : ℕ → ℕ → ℕ
 placesIn zero n = 1
 placesIn (suc most) n = cond (ltb n 10) 1 (suc (placesIn most (n / 10)))

@@ -1,4 +1,4 @@
--- A text, as ASCII codes, that is put into a lent buffer.
+-- Text, as ASCII codes, put into a lent buffer.
 -- Assumes nothing.
 use Prim.Native.Nat.{ℕ, _+_}
 use mathlib.Core.Bool.{Bool, cond}
@@ -13,11 +13,11 @@ space = 32
 abbrev pub newline : ℕ
 newline = 10
 
--- whether so much room has place for it from a place on
+-- whether it fits into this much room from a place on
 abbrev pub hasRoom : ℕ → ℕ → List ℕ → Bool
 hasRoom room at text = leb (at + length text) room
 
--- where it ends, and the buffer afterwards; where it does not fit, nothing is put
+-- where it ends, and the buffer afterwards; if it does not fit, nothing is put
 abbrev pub endOf : ℕ → ℕ → List ℕ → ℕ
 endOf room at text = cond (hasRoom room at text) (at + length text) at
 

@@ -8,7 +8,7 @@ use Rattle.ground.specs.Written.{table}
 abbrev pub wordInBytes : List ℕ → ℕ → ℕ
 wordInBytes bytes k = getD bytes (2 * k) 0 + getD bytes (2 * k + 1) 0 * 256
 
--- how many there are in so many bytes, up to so many: an odd last byte and what follows is ignored
+-- how many there are in this many bytes, up to a limit: an odd last byte, and what follows the limit, is ignored
 abbrev pub countOf : ℕ → ℕ → ℕ
 countOf most bytes = min most (bytes / 2)
 

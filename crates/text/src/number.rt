@@ -1,4 +1,4 @@
-// Numbers in digits, put as text is.
+// Numbers in digits, put as text.
 ghost use mathlib.Core.Path.{_≡_};
 ghost use lib.ListN.{length};
 ghost use Rattle.text.specs.Number.{decimal, hexadecimal};

@@ -11,7 +11,7 @@ pub fn word_of(low: u8, high: u8) -> u16
     low as u16 + high as u16 * 256
 }
 
-// The words of some bytes, from the start of a lent row on, as many as there are and as fit; answers how many. An odd last byte is none.
+// The words in some bytes, from the start of a lent row on, as many as there are and fit; answers how many. An odd last byte is ignored.
 pub fn read_words(bytes: &[u8], words: &mut [u16]) -> usize
     ensures count { λ r. ⌜ r ≡ countOf (length (now (words .entry))) (length (now (bytes .entry))) ⌝ }
     ensures read { λ r. ⌜ now (words .exit) ≡ sets (now (words .entry)) 0 (wordsInBytes r (now (bytes .entry))) ⌝ }

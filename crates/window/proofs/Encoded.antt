@@ -309,10 +309,10 @@ module _ (f : Format) (known : isKnown f ≡ true) (words : List ℕ) (long : le
 
   -- words that meet test 21 do
   pub restored-told : ((k : ℕ) → k < 2 * pairsIn (shapeOf f) → placed s (holds21 s (wordIn words)) k ≡ true) → Restored (shapeOf f) words
-  restored-told spanTests =
+  restored-told tests =
       restored-words
-      (λ t l. let code = sav-told f (wordIn words) t l spanTests in (code .0, code .1))
-      (λ t l. let code = eav-told f (wordIn words) t l spanTests in (code .0, code .1))
+      (λ t l. let code = sav-told f (wordIn words) t l tests in (code .0, code .1))
+      (λ t l. let code = eav-told f (wordIn words) t l tests in (code .0, code .1))
 
 -- ---- what it is read as
 

@@ -33,7 +33,7 @@ pub record AreContent (c : ContentBytes) : Type 0 where
   pub eav1 : c .eav1 < 256
   pub eav2 : c .eav2 < 256
 
--- a window is the encoding, from disparity d, of so many twelve-bit words and of content bytes
+-- a window is the encoding, from disparity d, of a span's twelve-bit words and content bytes
 pub record Encodes (f : Format) (w : List ℕ) (d : Disparity) (c : ContentBytes) (words : List ℕ) : Type 0 where
   pub symbols : w ≡ symbolsFrom d (charsOf (shapeOf f) c words)
   pub content : AreContent c
@@ -44,7 +44,7 @@ pub record Encodes (f : Format) (w : List ℕ) (d : Disparity) (c : ContentBytes
 abbrev pub wordIn : List ℕ → ℕ → ℕ
 wordIn words k = getD words k 0
 
--- words that meet tests 21 to 26: a window is read if it is the encoding of such words, and only then (laws `exact-if`, `exact-only-if`)
+-- words that pass tests 21 to 26: a window is read if and only if it is the encoding of such words (laws `exact-if`, `exact-only-if`)
 pub record Meets (f : Format) (word : ℕ → ℕ) : Type 0 where
   pub timing : (k : ℕ) → k < 2 * pairsIn (shapeOf f) → placed (streams (shapeOf f)) (holds21 (streams (shapeOf f)) word) k ≡ true
   pub lineNumber : (k : ℕ) → k < 2 * pairsIn (shapeOf f) → placed (streams (shapeOf f)) (holds22 (streams (shapeOf f)) word) k ≡ true
@@ -59,7 +59,7 @@ pub record Meets (f : Format) (word : ℕ → ℕ) : Type 0 where
 abbrev pub IsXyz : ℕ → Type 0
 IsXyz j = (j ≡ savXyz) ⊎ (j ≡ eavXyz)
 
--- twelve-bit words that are those of a span that is sent, apart from its XYZ
+-- twelve-bit words that are those of a sent span, apart from its XYZ
 pub record Disturbed (f : Format) (a : Request) (words : List ℕ) : Type 0 where
   pub long : length words ≡ 2 * pairsIn (shapeOf f)
   pub small : (k : ℕ) → k < length words → getD words k 0 < 4096
@@ -70,6 +70,6 @@ pub record Disturbed (f : Format) (a : Request) (words : List ℕ) : Type 0 wher
       → (k / streams (shapeOf f) ≡ eavXyz → ⊥)
       → wordIn words k ≡ wordIn (spanWords f a) k
 
--- in how many bits the word at place k is not the one sent
+-- in how many bits the word at place k differs from the one sent
 abbrev pub wrongAt : Format → Request → List ℕ → ℕ → ℕ
 wrongAt f a words k = distance (wordIn words k) (wordIn (spanWords f a) k)

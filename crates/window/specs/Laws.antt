@@ -1,4 +1,4 @@
--- What holds of reading a window, for a reader of the papers; `proofs/Laws` proves each. Words and streams count from 0, so the paper's
+-- Laws of reading a window, for a reader of the papers; `proofs/Laws` proves each. Words and streams count from 0, so the paper's
 -- stream 1 is stream 0.
 -- Assumes nothing.
 use Prim.Native.Nat.{ℕ, _+_, _*_, _≤_, _<_}
@@ -39,7 +39,7 @@ use Rattle.window.specs.Inside.Encoded.{Sendable, requestAgain}
 abbrev pub Holds : ℕ → (ℕ → Bool) → Type 0
 Holds n holds = (k : ℕ) → k < n → holds k ≡ true
 
--- k is the lowest at which it does not
+-- k is the lowest place at which it does not hold
 pub record Fails (n : ℕ) (holds : ℕ → Bool) (k : ℕ) : Type 0 where
   pub place : k < n
   pub there : holds k ≡ false
@@ -72,26 +72,26 @@ module _ (f : Format) (w : List ℕ) where
   abbrev test26 : ℕ → Bool
   test26 = placed (streams (shapeOf f)) (holds26 (streams (shapeOf f)) (wordAt (shapeOf f) w) f)
 
-  -- a test of the symbols, and one of the words, holds everywhere
+  -- the test of the symbols holds everywhere; a test of the words does
   abbrev Scanned : Type 0
   Scanned = Holds (symbolsIn (shapeOf f)) test20
 
   abbrev Held : (ℕ → Bool) → Type 0
   Held = Holds (2 * pairsIn (shapeOf f))
 
-  -- k is the lowest word at which a test does not
+  -- k is the lowest word at which a test does not hold
   abbrev Met : (ℕ → Bool) → ℕ → Type 0
   Met = Fails (2 * pairsIn (shapeOf f))
 
 -- Which windows are judged and read, and what each refusal is (document 01, "Receiving and finding" and its table of refusals).
 pub record WindowRefusals : Type 0 where
-  -- an unknown format is refused with 1, another number of symbols with 3; any other window goes through tests 20 to 26
+  -- an unknown format is refused with 1, a wrong number of symbols with 3; any other window goes through tests 20 to 26
   pub judgeMeets1 : (f : Format) (w : List ℕ) → (IsFormat f → ⊥) → judgeOf f w ≡ refused 1 0
   pub judgeMeets3 : (f : Format) (w : List ℕ) → IsFormat f → (Symbols f (length w) → ⊥) → judgeOf f w ≡ refused 3 0
   pub judged : (f : Format) (w : List ℕ) → IsFormat f → Symbols f (length w) → judgeOf f w ≡ readSpan f w
   -- into rows of the right length a window is read as it is judged
   pub readAsJudged : (f : Format) (w : List ℕ) (room : ℕ) → Samples f room → readOf f w room ≡ judgeOf f w
-  -- the rows: as they were after 1, 3 and 4, all zero after 20 to 26, the picture of a window that is delivered
+  -- the rows: unchanged after refusals 1, 3 and 4, all zero after 20 to 26, the picture if the window is delivered
   pub rowsAfter1 : (f : Format) (w entry : List ℕ) → (IsFormat f → ⊥) → rowsRead f w entry ≡ entry
   pub rowsAfter3 : (f : Format) (w entry : List ℕ) → IsFormat f → (Symbols f (length w) → ⊥) → rowsRead f w entry ≡ entry
   pub rowsAfter4 :
@@ -167,10 +167,10 @@ pub record WindowRefusals : Type 0 where
       → readSpan f w ≡ refused 26 k
   -- and there are no other numbers
   pub numbers : (f : Format) (w : List ℕ) (number place : ℕ) → readSpan f w ≡ refused number place → (20 ≤ number) × (number ≤ 26)
-  -- which words each test judges: at every other word it holds, so no word of the ancillary area is judged, and no picture word of a blanking
-  -- line. 21: SAV and EAV,
+  -- which words each test judges: at every other word it holds, so no word of the ancillary area is judged, and no picture word of a
+  -- blanking line. 21: SAV and EAV,
   pub judged21 : (s : ℕ) (word : ℕ → ℕ) (j t : ℕ) → holds21 s word j t ≡ false → (j < 4) ⊎ ((1924 ≤ j) × (j ≤ 1927))
-  -- 22: the line numbers; whether stream 1 names a line is asked at its LN0, and not at its LN1,
+  -- 22: the line numbers; whether stream 1 names a line is judged at its LN0, not at its LN1,
   pub judged22 : (s : ℕ) (word : ℕ → ℕ) (j t : ℕ) → holds22 s word j t ≡ false → (1928 ≤ j) × (j ≤ 1929)
   pub nameless :
       (s : ℕ) (word : ℕ → ℕ) → lineOf (wordOf s word 1928 0) (wordOf s word 1929 0) ≡ none → holds22 s word 1928 0 ≡ false
@@ -189,11 +189,11 @@ pub record WindowRefusals : Type 0 where
   -- an XYZ with at most one wrong bit does not pass for one with the other H (004, 6.2)
   pub otherH : (w : ℕ) (v h : Bool) → distance w (timing v h) ≤ 1 → hasH (not h) (nearest w) ≡ false
 
--- What a window that is read has, and what a span that is sent is read as.
+-- What holds for a window that is read, and how a sent span is read.
 pub record WindowLaws : Type 0 where
   -- there is one answer for a window
   pub delivered : (f : Format) (w : List ℕ) (r : Delivery) → readSpan f w ≡ given r → r ≡ deliveryOf f w
-  -- stream 1 has the words of a line m, and the line before m is answered (document 01, "A span"); every other stream has the same two words
+  -- stream 1 has the words of a line m, and the line before m is answered (document 01, "A span"); all other streams have the same words
   pub lineAnswered :
       (f : Format) (w : List ℕ) (r : Delivery)
       → IsFormat f
@@ -219,7 +219,7 @@ pub record WindowLaws : Type 0 where
       → word f w 1928 0 ≡ ln0 128
       → word f w 1929 0 ≡ ln1 127
       → ⊥
-  -- K28.5 stands at its first two symbols and K29.7 at the first two of its EAV, and neither anywhere else (004, 7.1)
+  -- K28.5 is at its first two symbols and K29.7 at the first two of its EAV, and neither is anywhere else (004, 7.1)
   pub k28At :
       (f : Format) (w : List ℕ) (r : Delivery)
       → IsFormat f
@@ -250,16 +250,16 @@ pub record WindowLaws : Type 0 where
       → (e : Disparity)
       → symbolAt w i ≡ symbolOf e (numberOf «K29_7»)
       → (eavAt (shapeOf f) ≤ i) × (i ≤ eavAt (shapeOf f) + 1)
-  -- the four bytes that are replaced in SAV and EAV are those of every timing code, whatever V and H (7.1, figures 14 and 16)
+  -- the four bytes that are replaced in SAV and EAV are the same in every timing code, whatever V and H (7.1, figures 14 and 16)
   pub fixedBytes :
       (half : ℕ)
       → 1 ≤ half
       → (v h : Bool) (i : ℕ)
       → i < 4
       → getD (bytes (interleaved (2 * half) 4 (λ _. timingCode v h))) i 0 ≡ fixedByte (2 * half) i
-  -- a span that is sent meets tests 21 to 26
+  -- a sent span passes tests 21 to 26
   pub sentMeets : (f : Format) (a : Request) → Sendable f a → Meets f (wordIn (spanWords f a))
-  -- one with one of the ten bits of one symbol inverted is refused
+  -- a sent span with one of the ten bits of one symbol inverted is refused
   pub invertedRefused :
       (f : Format) (a : Request) (d : Disparity) (i k : ℕ)
       → Sendable f a
@@ -276,7 +276,7 @@ pub record WindowLaws : Type 0 where
       → w
       ≡ symbolsFrom (startOf w)
       (charsOf (shapeOf f) (contentIn (shapeOf f) w) (table (2 * pairsIn (shapeOf f)) (wordAt (shapeOf f) w)))
-  -- where nothing was repaired, and the ancillary area, and a blanking line, are blank, what it answers may be sent, and is sent as the window
+  -- if nothing was repaired, and the ancillary area and any blanking line are blank, the answer may be sent, and is sent as the same window
   pub sentAgain :
       (f : Format) (w : List ℕ) (r : Delivery)
       → IsFormat f

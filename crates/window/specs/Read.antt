@@ -18,7 +18,7 @@ use Rattle.window.specs.Scan.{byteOf, symbolAt, startOf, runningAt, hold
 use Rattle.window.specs.Tests.{holds21, holds22, holds23, holds24, holds25, holds26, lineRead, repairCount, rows}
 use Rattle.window.specs.Words.{wordAt}
 
--- a test of n places: it fails at the lowest at which it does not hold
+-- a test of n places: it fails at the lowest place at which it does not hold
 abbrev pub lowest : ℕ → ℕ → (ℕ → Bool) → Row
 lowest number n holds = record { number = number; fails = firstBelow n (λ k. not (holds k)) }
 
@@ -53,11 +53,11 @@ contentIn p w =
       eav2 = byteOf (symbolAt w (eavAt p + 3));
     }
 
--- the repairs of a span with so many wrong bits
+-- the repairs of a span with this many wrong bits
 abbrev pub repairsOf : ℕ → Repairs
 repairsOf count = record { count = count }
 
--- what is answered where all tests hold
+-- what is answered if all tests hold
 unfoldable pub deliveryOf : Format → List ℕ → Delivery
 deliveryOf f w =
     let p = shapeOf f in
@@ -84,7 +84,7 @@ abbrev pub judgeOf : Format → List ℕ → Answer Delivery
 judgeOf f w =
     checked (unless 1 (isKnown f) ∷ unless 3 (eqb (length w) (symbolsIn (shapeOf f))) ∷ spanTests f w) (deliveryOf f w)
 
--- reading it into rows that have so much room
+-- reading it into rows with room for this many words
 abbrev pub readOf : Format → List ℕ → ℕ → Answer Delivery
 readOf f w room =
     checked
@@ -94,7 +94,7 @@ readOf f w room =
     ∷ spanTests f w)
     (deliveryOf f w)
 
--- the rows afterwards: as they were where the number is below 20, else zero; the picture of a span that is delivered
+-- the rows afterwards: unchanged after a refusal below 20, zero after any other, the picture if the span is delivered
 abbrev pub rowsLeft : {A : Type 0} → Answer A → List ℕ → List ℕ → List ℕ
 rowsLeft (refused number place) entry made = cond (ltb number 20) entry (replicate (length entry) 0)
 rowsLeft (given a) entry made = made

@@ -17,7 +17,7 @@ use Rattle.decoder.specs.Meaning.{meantBy}
 use Rattle.span.specs.declared.format.Shape.{Shape}
 use Rattle.span.specs.Format.{eavAt}
 
--- the character that a symbol stands for, at whichever disparity it is legal (at both it is the same: law `one-meaning`); 0 for no symbol
+-- the character that a symbol stands for, at whichever disparity it is legal (if at both, it is the same: law `one-meaning`); 0 if none
 unfoldable pub meant : ℕ → ℕ
 meant s = Option·getD (meantBy s) 0
 
@@ -38,12 +38,12 @@ unfoldable pub runningAt : List ℕ → ℕ → Disparity
 runningAt w zero = startOf w
 runningAt w (suc i) = afterOf (runningAt w i) (meant (symbolAt w i))
 
--- what kind of character stands at symbol i of a span: K28.5 at the first two, K29.7 at the first two of the EAV, else a byte
+-- character c is of the kind expected at symbol i of a span: K28.5 at the first two, K29.7 at the first two of the EAV, else a byte
 unfoldable pub fits : Shape → ℕ → ℕ → Bool
 fits p i c =
     cond (ltb i 2) (eqb c (numberOf «K28_5»))
     (cond (within (eavAt p) (eavAt p + 1) i) (eqb c (numberOf «K29_7»)) (ltb c 256))
 
--- 20: symbol i is legal at the running disparity, and of the kind that stands there
+-- 20: symbol i is legal at the running disparity, and of the kind expected there
 unfoldable pub holds20 : Shape → List ℕ → ℕ → Bool
 holds20 p w i = isSome (charOf (runningAt w i) (symbolAt w i)) && fits p i (meant (symbolAt w i))

@@ -1,6 +1,6 @@
 -- Tests 21 to 26 over the words of a span alone (document 01, "Receiving and finding" and its table of refusals). There are s streams,
--- and `word k` is the word at interleaved place k; word j of stream t, both from 0, stands at s * j + t. Each test is stated at every j and
--- t, and holds where it asks nothing.
+-- and `word k` is the word at interleaved place k; word j of stream t, both from 0, is at s * j + t. Each test is stated for every j and
+-- t, and holds where it has nothing to check.
 -- Assumes nothing.
 use Prim.Native.Nat.{ℕ, zero, suc, _+_, _-_, _*_}
 use mathlib.Core.Bool.{Bool, true, false, not, cond, _&&_}
@@ -22,11 +22,11 @@ use Rattle.packing.specs.Sample.{allowedWord}
 
 -- ---- one word
 
--- two tests that agree
+-- whether two tests agree
 abbrev pub same : Bool → Bool → Bool
 same a b = cond a b (not b)
 
--- may stream t of line n bring word w: on an active line what the depth allows, on a blanking line any
+-- whether stream t of line n may bring word w: on an active line what the depth allows, on a blanking line anything
 abbrev pub mayBring : Format → ℕ → ℕ → ℕ → Bool
 mayBring f n t w = cond (isActive n) (allowedWord (f .depth) w) true
 
@@ -61,7 +61,7 @@ module _ (s : ℕ) (word : ℕ → ℕ) where
   unfoldable pub lineRead : ℕ
   lineRead = lineBefore nextLine
 
-  -- 22: stream 1 names a line, asked at its LN0, and every other stream has the same two words
+  -- 22: stream 1 names a line, checked at its LN0, and every other stream has the same two words
   unfoldable pub holds22 : ℕ → ℕ → Bool
   holds22 j t =
       cond (within lineStart (lineStart + 1) j) (cond (eqb j lineStart && eqb t 0) (isSome named) (eqb (wordOf j t) (wordOf j 0))) true
@@ -72,7 +72,7 @@ module _ (s : ℕ) (word : ℕ → ℕ) where
       cond (eqb j savXyz) (same (vIn (wordOf j t)) (vOf lineRead))
       (cond (eqb j eavXyz) (same (vIn (wordOf j t)) (vOf nextLine)) true)
 
-  -- 24: each CRCC word is the one worked out over what the stream has from after the SAV to its last line-number word, XYZ repaired
+  -- 24: each CRCC word is the one computed over the stream from after the SAV to its last line-number word, with XYZ repaired
   unfoldable pub registerOf : ℕ → ℕ
   registerOf t =
       crc 0 (column pictureStart 1920 t ++ (column eavStart 3 t ++ (repaired (wordOf eavXyz t) ∷ column lineStart 2 t)))
@@ -90,7 +90,7 @@ module _ (s : ℕ) (word : ℕ → ℕ) where
   unfoldable pub holds26 : Format → ℕ → ℕ → Bool
   holds26 f j t = cond (ltb j (ancillaryStart + shapeOf f .ancillary)) true (eqb (wordOf j t) fillWord)
 
-  -- how many bits were wrong in all timing words
+  -- how many bits were wrong in all timing words together
   unfoldable pub repairCount : ℕ
   repairCount = sumOf s (λ t. wrongBits (wordOf savXyz t) + wrongBits (wordOf eavXyz t))
 

@@ -1,9 +1,9 @@
-// What the reading of a span answers (document 01, "Receiving and finding").
+// What reading a span answers (document 01, "Receiving and finding").
 use line::stream::StreamLine;
 use span::content::ContentBytes;
 use symbol::disparity::Disparity;
 
-// What was wrong in the timing words and put right: in all of them together so many bits, which is the sum of the words' distances.
+// What was corrected in the timing words: the number of wrong bits in all of them together, which is the sum of the words' distances.
 pub struct Repairs {
     pub count: u8,
 }

@@ -1,2 +1,2 @@
-// A window of symbols that is read as a span: what its reading answers. Most of this crate is its definitions (specs/) and laws (proofs/).
+// A window of symbols read as a span: what reading it answers. Most of this crate is definitions (specs/) and laws (proofs/).
 pub mod delivery;

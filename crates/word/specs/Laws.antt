@@ -1,4 +1,4 @@
--- What holds of the words of a stream, for a reader of the papers; `proofs/Laws` proves each.
+-- Laws of the words of a stream, for a reader of the papers; `proofs/Laws` proves each.
 -- Assumes nothing.
 use Prim.Native.Nat.{ℕ, _-_, _/_, _%_, _^_, _≤_, _<_}
 use mathlib.Core.Path.{_≡_}
@@ -18,20 +18,20 @@ use Rattle.word.specs.Word.{guarded}
 pub record WordLaws : Type 0 where
   -- what the definitions give is what the paper says (document 01, "Values to hold against it")
   pub paperValues : map (λ (v : Value). v .gives) values ≡ map (λ (v : Value). v .says) values
-  -- b11 is the opposite of b10, and the other bits are as they were given (004, tables 8 and 9)
+  -- b11 is the opposite of b10, and the other bits are as given (004, tables 8 and 9)
   pub guardOpposite : (w : ℕ) → guarded w / 2048 ≡ 1 - guarded w / 1024 % 2
   pub guardKept : (w : ℕ) → guarded w % 2048 ≡ w % 2048
-  -- V stands at b9 of a timing word and H at b8 (table 6), so different V or H give different words
+  -- V is b9 of a timing word and H is b8 (table 6), so different V or H give different words
   pub vTold : (v h : Bool) → timing v h / 2 ^ 9 % 2 ≡ bit v
   pub hTold : (v h : Bool) → timing v h / 2 ^ 8 % 2 ≡ bit h
   -- any two of the four legal timing words differ in four bits (6.2)
   pub legalApart : (i j : ℕ) → i < 4 → j < 4 → distance (legalWord i) (legalWord j) ≡ cond (eqb i j) 0 4
-  -- a timing word as it is sent is repaired to itself, at distance 0
+  -- a timing word as sent is repaired to itself, at distance 0
   pub sentWhole : (v h : Bool) → repairOf (timing v h) ≡ given (record { word = timing v h; distance = 0 })
   -- repair refuses a number above 4095 with 7, and a word that is two bits or more from every legal word with 8
   pub repairMeets7 : (w : ℕ) → 4095 < w → repairOf w ≡ refused 7 0
   pub repairMeets8 : (w : ℕ) → w ≤ 4095 → ((v h : Bool) → 1 < distance w (timing v h)) → repairOf w ≡ refused 8 0
-  -- lines 1 to 1125 have their words, and no other number has (6.3; refusal 2)
+  -- lines 1 to 1125 have words, and no other number does (6.3; refusal 2)
   pub lineGood : (n : ℕ) → 1 ≤ n → n ≤ 1125 → numberedOf n ≡ given (lineWords n)
   pub noLine0 : numberedOf 0 ≡ refused 2 0
   pub noLine : (n : ℕ) → 1125 < n → numberedOf n ≡ refused 2 0
@@ -39,7 +39,7 @@ pub record WordLaws : Type 0 where
   pub different : (m n : ℕ) → m < 2048 → n < 2048 → ln0 m ≡ ln0 n → ln1 m ≡ ln1 n → m ≡ n
   -- reading the words of a line gives that line
   pub readSent : (n : ℕ) → 1 ≤ n → n ≤ 1125 → namedOf (ln0 n) (ln1 n) ≡ given (record { 0 = n })
-  -- a number above 4095 is refused with 7, and words that are not, both of them, those of one line with 22
+  -- a number above 4095 is refused with 7, and two words that are not both those of one line with 22
   pub readMeets7 : (a b : ℕ) → (4095 < a) ⊎ (4095 < b) → namedOf a b ≡ refused 7 0
   pub readMeets22 :
       (a b : ℕ)
@@ -49,7 +49,7 @@ pub record WordLaws : Type 0 where
       → namedOf a b ≡ refused 22 0
   -- the lost recital: LN0 of line 128 and LN1 of line 127 name no line
   pub recital : namedOf (ln0 128) (ln1 127) ≡ refused 22 0
-  -- the paper's number and values tell any two answers of a call apart, so that a promise about them fixes the answer
+  -- the paper's number and values tell any two answers of a call apart, so that a contract about them fixes the answer
   pub repairTold : Injective paperRepair
   pub numberedTold : Injective paperNumbered
   pub namedTold : Injective paperNamed

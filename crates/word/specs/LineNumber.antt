@@ -16,7 +16,7 @@ use Rattle.word.specs.declared.line_number.Named.{Named}
 use Rattle.word.specs.declared.line_number.Named.the-variants.{Line, Above4095, Nameless}
 use Rattle.word.specs.Word.{isWord, guarded}
 
--- table 8: LN0 has L6 to L0 at b10 to b4; LN1 has L10 to L7 at b7 to b4; b11 is the opposite of b10; what is reserved is 0
+-- table 8: LN0 has L6 to L0 at b10 to b4; LN1 has L10 to L7 at b7 to b4; b11 is the opposite of b10; reserved bits are 0
 unfoldable pub ln0 : ℕ → ℕ
 ln0 n = guarded (n % 2 ^ 7 * 2 ^ 4)
 
@@ -31,7 +31,7 @@ abbrev pub paperNumbered : Numbered → Answer LineWords
 paperNumbered (Words w) = given w
 paperNumbered NoLine = refused 2 0
 
--- the words of stream line n; 2 where it is not 1 to 1125
+-- the words of stream line n; 2 if it is not 1 to 1125
 abbrev pub numberedOf : ℕ → Answer LineWords
 numberedOf n = checked (unless 2 (isLine n) ∷ []) (lineWords n)
 
@@ -48,7 +48,7 @@ paperNamed (Line l) = given l
 paperNamed Above4095 = refused 7 0
 paperNamed Nameless = refused 22 0
 
--- the line that two words name: 7 where either is above 4095, then 22 where there is none
+-- the line that two words name: 7 if either is above 4095, then 22 if there is none
 abbrev pub namedOf : ℕ → ℕ → Answer StreamLine
 namedOf a b =
     checked (unless 7 (isWord a && isWord b) ∷ unless 22 (isSome (lineOf a b)) ∷ []) (record { 0 = Option·getD (lineOf a b) 0 })

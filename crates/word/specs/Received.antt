@@ -1,4 +1,4 @@
--- A timing word as received: with one wrong bit it is taken for the legal word that is near (document 01, "Words of a stream"; 004, 6.2).
+-- A timing word as received: with one wrong bit it is taken for the legal word near it (document 01, "Words of a stream"; 004, 6.2).
 -- Assumes nothing.
 use Prim.Native.Nat.{ℕ, _/_, _%_}
 use mathlib.Core.Bool.{Bool, false, cond}
@@ -9,7 +9,7 @@ use Rattle.word.specs.Repair.{distance, legalWord, nearest}
 use Rattle.word.specs.Timing.{timingCode}
 use Rattle.ground.specs.Bit.{bit}
 
--- H of the legal word that is near is h
+-- H of the near legal word is h
 abbrev pub hasH : Bool → Option ℕ → Bool
 hasH h none = false
 hasH h (some vh) = eqb (vh % 2) (bit h)

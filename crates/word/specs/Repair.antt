@@ -15,7 +15,7 @@ use Rattle.word.specs.declared.repair.Repair.the-variants.{Word, Above40
 use Rattle.word.specs.Timing.{timing}
 use Rattle.word.specs.Word.{isWord}
 
--- in how many of all twelve bits two words differ
+-- in how many of the twelve bits two words differ
 unfoldable pub distance : ℕ → ℕ → ℕ
 unfolding onesIn
 distance a b = onesIn 12 (a ⊕ b)
@@ -28,7 +28,7 @@ legalWord vh = timing (eqb (vh / 2) 1) (eqb (vh % 2) 1)
 abbrev pub near : ℕ → ℕ → Bool
 near w vh = leb (distance w (legalWord vh)) 1
 
--- VH of the legal word that is near, if there is one
+-- VH of the near legal word, if there is one
 unfoldable pub nearest : ℕ → Option ℕ
 nearest w = firstBelow 4 (near w)
 
@@ -38,7 +38,7 @@ paperRepair (Word r) = given r
 paperRepair Above4095 = refused 7 0
 paperRepair BeyondRepair = refused 8 0
 
--- the legal word and the distance; 7 above 4095, then 8 where none is near
+-- the legal word and the distance; 7 above 4095, then 8 if none is near
 abbrev pub repairOf : ℕ → Answer Repaired
 repairOf w =
     let legal = legalWord (Option·getD (nearest w) 0) in

@@ -4,7 +4,7 @@ use Prim.Native.Nat.{ℕ, _+_, _-_, _*_, _/_, _%_, _^_}
 use mathlib.Core.Bool.{Bool}
 use lib.Dec.{ltb}
 
--- a word has twelve bits, b11 to b0 (refusal 7 is for what has more)
+-- a word has twelve bits, b11 to b0 (a larger number is refused with 7)
 abbrev pub isWord : ℕ → Bool
 isWord w = ltb w 4096
 

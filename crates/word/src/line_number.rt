@@ -22,7 +22,7 @@ pub enum Named {
     Nameless,
 }
 
-// The two words of a line, of whose number eleven bits count.
+// The two words of a line; eleven bits of its number count.
 pub fn words_of(l: StreamLine) -> LineWords
     ensures { λ r. ⌜ r ≡ lineWords (l .0) ⌝ }
 {
@@ -57,9 +57,9 @@ fn are_words_of(given: StreamLine, ln0: u16, ln1: u16) -> bool
 }
 
 // The line that two words name: the only one for which exactly these words are sent. This rules out the reading by which a recital was
-// lost, that takes the number's bits where it finds them and puts them together: out of LN0 of line 128 (800) and LN1 of line 127 (800)
-// it makes line 0. Here 800 800 names no line, and neither do words with a wrong guard bit, with a reserved bit set, or with a number
-// above 1125. Both words are one stream's; that all streams say the same is the span reader's to ask.
+// lost, which joins the number's bits without checking the rest: from LN0 of line 128 (800) and LN1 of line 127 (800) it makes line 0.
+// Here 800 800 names no line, and neither do words with a wrong guard bit, with a reserved bit set, or with a number above 1125. Both
+// words are from one stream; that all streams agree is for the span reader to check.
 pub fn read_line_words(ln0: u16, ln1: u16) -> Named
     ensures { λ r. ⌜ paperNamed r ≡ namedOf ln0 ln1 ⌝ }
 {

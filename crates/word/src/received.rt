@@ -1,4 +1,4 @@
-// What a timing word says, with one wrong bit put right. Of each word twelve bits count.
+// What a timing word says, with one wrong bit corrected. Twelve bits of each word count.
 use crate::repair::Repair;
 ghost use mathlib.Core.Path.{_≡_};
 ghost use Prim.Native.Nat.{_%_, _≤_};
@@ -6,7 +6,7 @@ ghost use mathlib.Core.Option.{Option·getD};
 ghost use Rattle.word.specs.Repair.{nearest};
 ghost use Rattle.word.specs.Received.{isTiming, repaired, vIn, wrongBits};
 
-// VH of the legal word that is near, 0 to 3; 4 where none is.
+// VH of the near legal word, 0 to 3; 4 if there is none.
 fn nearest_vh(w: u16) -> u16
     ensures { λ r. ⌜ r ≡ Option·getD (nearest (w % 4096)) 4 ⌝ }
 {
@@ -44,7 +44,7 @@ pub fn v_in(w: u16) -> bool
     nearest_vh(w) / 2 == 1
 }
 
-// The word as repaired; where none is near, that of VH 00.
+// The word as repaired; if no legal word is near, that of VH 00.
 pub fn repaired_word(w: u16) -> u16
     ensures { λ r. ⌜ r ≡ repaired (w % 4096) ⌝ }
 {
@@ -52,7 +52,7 @@ pub fn repaired_word(w: u16) -> u16
     crate::timing::timing_word(vh / 2 == 1, vh % 2 == 1)
 }
 
-// In how many bits it was wrong.
+// How many of its bits were wrong.
 pub fn wrong_bits(w: u16) -> u8
     ensures count { λ r. ⌜ r ≡ wrongBits (w % 4096) ⌝ }
     ensures few { λ r. ⌜ r ≤ 12 ⌝ }

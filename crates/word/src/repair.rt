@@ -1,4 +1,4 @@
-// Repair of a timing word: one wrong bit is put right, two are refused (004, 6.2).
+// Repair of a timing word: one wrong bit is corrected, two are refused (004, 6.2).
 ghost use mathlib.Core.Path.{_≡_};
 ghost use Prim.Native.Nat.{min};
 ghost use Rattle.word.specs.Repair.{distance, paperRepair, repairOf};
@@ -17,7 +17,7 @@ pub enum Repair {
     BeyondRepair,
 }
 
-// In how many of twelve bits two words differ; 2 where it is more. A number without its lowest one is 0 where it has no other.
+// In how many of twelve bits two words differ; 2 if in more. A number with its lowest set bit cleared is 0 if it had no other.
 fn difference(a: u16, b: u16) -> u8
     ensures { λ r. ⌜ r ≡ min 2 (distance a b) ⌝ }
 {
@@ -31,7 +31,7 @@ fn difference(a: u16, b: u16) -> u8
     2
 }
 
-// The legal word that is at most one bit from a given one. No two are: the law one-near.
+// The legal word at most one bit from a given one. There are never two: law one-near.
 pub fn repair_timing_word(w: u16) -> Repair
     ensures { λ r. ⌜ paperRepair r ≡ repairOf w ⌝ }
 {

@@ -1,4 +1,4 @@
--- What the calls on words answer to C (document 01, "Words of a stream"; refusals 2, 7, 8 and 22). What has no meaning in a refusal is 0.
+-- What the calls on words answer to C (document 01, "Words of a stream"; refusals 2, 7, 8 and 22). Fields meaningless in a refusal are 0.
 -- Assumes nothing.
 use Prim.Native.Nat.{ℕ}
 use Rattle.ground.specs.Answer.{Answer, refused, given}

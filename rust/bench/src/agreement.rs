@@ -1,9 +1,9 @@
-//! That versions answer the same, whatever form their answers have.
+//! Whether versions answer the same, although their answers have different types.
 
 use brazulint::Delivery;
 use plain::read::Delivered;
 
-/// Whether a span was read as the plain reader does, but for its rows.
+/// Whether a span was read as the plain reader reads it, apart from its rows.
 pub fn same(own: &Delivery, plain: &Delivered) -> bool {
     let content = [own.content.sav1, own.content.sav2, own.content.eav1, own.content.eav2];
     let disparities = (own.positive_before, own.positive_after) == (plain.positive_before, plain.positive_after);

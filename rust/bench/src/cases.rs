@@ -1,19 +1,19 @@
-//! The lines that are sent and read to be measured.
+//! The lines that are sent and read in the measurements.
 
 use chance::Random;
 use outside::spans::sent_symbols;
 use plain::span::{shape, Shape};
 
-/// Spans in one turn.
+/// Spans in one run.
 pub const SPANS: usize = 8;
 
-/// Turns of which the best counts.
+/// Runs, of which the best counts.
 pub const TURNS: usize = 3_000;
 
 /// What the wire carries, in millions of symbols a second: 120 times 1,125 spans of 7,920 symbols, and as many in the other formats.
 pub const WIRE: f64 = 1069.2;
 
-/// What it carries of the picture in format 1, in millions of samples a second: in each of these spans the 3,840 of a picture row.
+/// What it carries of the picture in format 1, in millions of samples a second: the 3,840 of a picture row in each of these spans.
 pub const WIRE_SAMPLES: f64 = 518.4;
 
 pub struct Case {

@@ -1,4 +1,4 @@
-//! Versions in plain Rust written to be fast, as fast as we could: what the library's speed is held against.
+//! Versions in plain Rust written to be as fast as we could make them: what the library's speed is compared with.
 
 pub mod picture;
 pub mod read;

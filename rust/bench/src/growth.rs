@@ -1,4 +1,4 @@
-//! How the time of a symbol grows with the length of a recording, also where it is made to keep the finder busy.
+//! How the time per symbol grows with the length of a recording, also for one made to keep the finder busy.
 
 use crate::fast::read::judge::Judge;
 use crate::fast::read::{recording, tables};
@@ -8,15 +8,15 @@ use chance::Random;
 use plain::span::shape;
 use std::time::Instant;
 
-/// The lengths: 2^16 and five times the double.
+/// The lengths: 2^16, doubled five times.
 pub const SHORTEST: usize = 16;
 pub const LENGTHS: usize = 6;
 
-/// Turns at least, and seconds that turns go on for.
+/// The fewest runs, and the seconds for which runs are repeated.
 const TURNS: usize = 4;
 const SECONDS: f64 = 6.0;
 
-/// Nanoseconds of a symbol at each length.
+/// Nanoseconds per symbol at each length.
 pub struct Growth {
     pub label: &'static str,
     pub library: [f64; LENGTHS],
@@ -59,7 +59,7 @@ fn grown(label: &'static str, symbols: &[u16]) -> Growth {
         turns += 1;
         for k in 0..LENGTHS {
             let part = &symbols[..1 << SHORTEST << k];
-            // The shorter ones more often: a turn of theirs is soon over, and soon disturbed.
+            // The shorter ones more often: a run of theirs is soon over, and easily disturbed.
             for _ in 0..1 << (LENGTHS - 1 - k).min(2) {
                 library[k].time(|| _ = places(part, by_library));
                 fast[k].time(|| _ = places(part, |symbols, start| by_fast(&mut judge, symbols, start)));

@@ -1,5 +1,5 @@
 //! The library measured against plain Rust: against `plain`, which goes place by place and bit by bit, and against versions written to be
-//! fast. In one run, on the same input, both built for release.
+//! fast. In one run, on the same input, all built for release.
 
 pub mod agreement;
 pub mod cases;

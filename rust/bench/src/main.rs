@@ -1,5 +1,5 @@
-//! Measures the library against plain Rust, prints the tables of docs/BENCHMARKS.md, and writes its plot to the file that is named. What
-//! is measured is told on standard error as it comes.
+//! Measures the library against plain Rust, prints the tables of docs/BENCHMARKS.md, and writes its plot to the named file. Each
+//! measurement is reported on standard error as it comes.
 
 use bench::{growth, memory, operations, plot, tables};
 use std::process::ExitCode;

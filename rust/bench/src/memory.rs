@@ -1,4 +1,4 @@
-//! What the memory gives, for scale: rows copied, and the symbols of a recording added.
+//! The speed of memory, for scale: rows copied, and the symbols of a recording added up.
 
 use crate::recordings::noise;
 use crate::tables::grouped;
@@ -6,7 +6,7 @@ use crate::timing::Least;
 use chance::Random;
 use std::hint::black_box;
 
-/// Samples copied, so many times in one turn; millions a second.
+/// Samples copied, `times` times in one run; millions a second.
 fn copied(samples: usize, times: usize, turns: usize) -> f64 {
     let (from, mut to, mut least) = (Random(2).numbers(samples, 65_536), vec![0; samples], Least::NONE);
     for _ in 0..turns {

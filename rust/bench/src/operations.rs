@@ -1,5 +1,5 @@
 //! What is measured: each operation by the library, by the version written to be fast and by the plain one. Before that, all of them are
-//! tried once on what is measured, and have to agree.
+//! tried once on the measured input, and have to agree.
 
 mod delivering;
 mod finding;
@@ -11,7 +11,7 @@ mod sending;
 use crate::cases::WIRE;
 use crate::timing::Three;
 
-/// The speeds in one case, in millions a second: of samples in split and join, else of symbols.
+/// The speeds in one case, in millions a second: of samples for split and join, otherwise of symbols.
 pub struct Speeds {
     pub operation: &'static str,
     pub case: String,
@@ -23,7 +23,7 @@ pub struct Speeds {
 }
 
 impl Speeds {
-    /// Of a work with so many samples or symbols in it. What was measured is told at once.
+    /// From an operation on `count` samples or symbols. What was measured is printed at once.
     fn told(operation: &'static str, case: impl Into<String>, wire: f64, three: Three, count: usize) -> Speeds {
         let (case, [library, fast, plain]) = (case.into(), [three.library, three.fast, three.plain].map(|time| time.rate(count)));
         eprintln!("{operation}, {case}, M/s: library {library:.0}, fast {fast:.0}, plain {plain:.0}, the wire {wire:.0}");

@@ -1,4 +1,4 @@
-//! The plot of docs/BENCHMARKS.md, as the text of an SVG: above, the speeds of sending and reading; below, the time of a symbol by length.
+//! The plot of docs/BENCHMARKS.md, as the text of an SVG: above, the speeds of sending and reading; below, the time per symbol by length.
 
 use crate::cases::WIRE;
 use crate::growth::{Growth, LENGTHS, SHORTEST};
@@ -20,7 +20,7 @@ fn line(points: &[(f64, f64)], colour: &str, width: f64) -> String {
     format!("<polyline points=\"{}\" fill=\"none\" stroke=\"{colour}\" stroke-width=\"{width}\"/>\n", points.join(" "))
 }
 
-/// The anchor is start, middle or end: what of the text is at x.
+/// The anchor is start, middle or end: which part of the text is at x.
 fn text(x: f64, y: f64, anchor: &str, size: u32, words: &str) -> String {
     format!("<text x=\"{x:.1}\" y=\"{y:.1}\" text-anchor=\"{anchor}\" font-size=\"{size}\">{words}</text>\n")
 }
@@ -38,7 +38,7 @@ impl Panel {
         self.top + self.height * (1.0 - part)
     }
 
-    /// A line across, and what stands for it at the left.
+    /// A line across, with its label at the left.
     fn rule(&self, part: f64, label: &str) -> String {
         let y = self.y(part);
         line(&[(self.left, y), (self.left + self.width, y)], "#dddddd", 1.0) + &text(self.left - 6.0, y + 4.0, "end", 11, label)
@@ -66,7 +66,7 @@ fn bars(speeds: &[Speeds]) -> String {
         for (v, rate) in [s.library, s.fast, s.plain].into_iter().enumerate() {
             let (x, y) = (left + bar * v as f64, panel.y(rate / top));
             svg += &rectangle(x, y, bar - 2.0, panel.y(0.0) - y, VERSIONS[v].1);
-            // White behind the number, for where it would stand on a line.
+            // White behind the number, in case it is on a line.
             svg += &rectangle(x, y - 14.0, bar - 2.0, 13.0, "#ffffff");
             svg += &text(x + bar / 2.0 - 1.0, y - 4.0, "middle", 10, &grouped(rate));
         }
@@ -81,7 +81,7 @@ fn bars(speeds: &[Speeds]) -> String {
     svg
 }
 
-/// Both axes go by powers: lengths of two, and nanoseconds of ten.
+/// Both axes are logarithmic: lengths by powers of two, nanoseconds by powers of ten.
 fn curves(panel: &Panel, title: &str, decades: (i32, i32), times: &[[f64; LENGTHS]]) -> String {
     let (low, high) = decades;
     let part = |time: f64| (time.log10() - f64::from(low)) / f64::from(high - low);
@@ -95,7 +95,7 @@ fn curves(panel: &Panel, title: &str, decades: (i32, i32), times: &[[f64; LENGTH
         svg += &text(x(k), panel.y(0.0) + 18.0, "middle", 11, &format!("2^{}", SHORTEST + k));
     }
     svg += &text(panel.left + panel.width / 2.0, panel.y(0.0) + 36.0, "middle", 11, "symbols in the recording");
-    // From broad to narrow: where two are the same, both are seen.
+    // From broad to narrow: where two coincide, both are seen.
     for (kind, (times, colour)) in times.iter().zip(COLOURS).enumerate() {
         let points: Vec<(f64, f64)> = times.iter().enumerate().map(|(k, &time)| (x(k), panel.y(part(time)))).collect();
         svg += &line(&points, colour, 5.0 - 0.5 * kind as f64);
@@ -126,6 +126,6 @@ pub fn svg(speeds: &[Speeds], growth: &[Growth]) -> String {
     let open = format!(
         "<svg xmlns=\"http://www.w3.org/2000/svg\" viewBox=\"0 0 {WIDTH} {HEIGHT}\" font-family=\"sans-serif\" fill=\"#222222\">\n"
     );
-    // White, so that it can be read where the page is dark too.
+    // White, so that it can also be read on a dark page.
     open + &rectangle(0.0, 0.0, WIDTH, HEIGHT, "#ffffff") + &bars(speeds) + &growths(growth) + "</svg>\n"
 }

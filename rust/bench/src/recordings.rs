@@ -1,4 +1,4 @@
-//! Recordings of the longest length, some of them made to keep the finder busy (01, "Receiving and finding").
+//! Recordings of the greatest length, some of them made to keep the finder busy (01, "Receiving and finding").
 
 use chance::Random;
 use outside::spans::{made_characters, made_words, sent_symbols};
@@ -33,13 +33,13 @@ pub fn commas() -> Vec<u16> {
     (0..LIMIT).map(|i| COMMAS[i % 2]).collect()
 }
 
-/// K28.5 K28.5 byte, again and again: every third place looks like the start of a span.
+/// K28.5 K28.5 byte, repeated: every third place looks like the start of a span.
 pub fn false_starts() -> Vec<u16> {
     let characters: Vec<u16> = (0..LIMIT).map(|i| if i % 3 == 2 { 0 } else { K28_5 }).collect();
     symbols(false, &characters).0
 }
 
-/// The first so many symbols of an active line's span, again and again: places so far apart look like the start of a span for as long.
+/// The first `count` symbols of an active line's span, repeated: every `count` places there seems to be a span for that many symbols.
 pub fn beginnings(count: usize) -> Vec<u16> {
     let (mut random, shape) = (Random(8), span_shape());
     let words = made_words(&mut random, shape, DEPTH, 100);
@@ -48,13 +48,13 @@ pub fn beginnings(count: usize) -> Vec<u16> {
     symbols(false, &characters).0
 }
 
-/// Spans one behind the other, all as they should be.
+/// Spans one after another, all sent correctly.
 pub fn sent_spans() -> Vec<u16> {
     let (mut random, shape) = (Random(9), span_shape());
     repeated(|| sent_symbols(&mut random, shape, DEPTH, 100, false))
 }
 
-/// The last byte of the last fill word is another: test 20 passes, and test 26 fails at the last place.
+/// The last byte of the last fill word is wrong: test 20 passes, and test 26 fails at the last place.
 pub fn wrong_last_fills() -> Vec<u16> {
     let (last, last_word) = (span_shape().symbols() - 1, span_shape().words() - 1);
     spoilt_spans(|characters| characters[last] ^= 1, (26, last_word as u64))
@@ -66,7 +66,7 @@ pub fn late_special_characters() -> Vec<u16> {
     spoilt_spans(|characters| characters[place] = K29_7, (20, place as u64))
 }
 
-/// Spans one behind the other, each with a character changed. The refusal of each, with its place, is given.
+/// Spans one after another, each with a character changed. The refusal of each, with its place, is given.
 fn spoilt_spans(change: impl Fn(&mut [u16]), refused: Refused) -> Vec<u16> {
     let (mut random, shape) = (Random(5), span_shape());
     repeated(|| {

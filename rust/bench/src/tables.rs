@@ -3,7 +3,7 @@
 use crate::growth::{Growth, LENGTHS, SHORTEST};
 use crate::operations::Speeds;
 
-/// A whole number with a comma before each three digits.
+/// A whole number with a comma between groups of three digits.
 pub fn grouped(number: f64) -> String {
     let digits = format!("{number:.0}");
     let pieces: Vec<&str> = digits.as_bytes().rchunks(3).rev().map(|piece| std::str::from_utf8(piece).expect("digits")).collect();

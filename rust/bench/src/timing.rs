@@ -1,8 +1,8 @@
-//! How time is taken.
+//! How time is measured.
 
 use std::time::Instant;
 
-/// What the processor has given to this thread so far, in seconds: it stands still while another program is let in.
+/// The processor time of this thread so far, in seconds: it does not advance while another program runs.
 fn given() -> f64 {
     #[repr(C)]
     struct Time {
@@ -14,17 +14,17 @@ fn given() -> f64 {
     }
     const OF_THREAD: i32 = 3;
     let mut time = Time { seconds: 0, nanoseconds: 0 };
-    // Sound: it is the struct of x86-64 Linux, and lent until the call has ended.
+    // Sound: it is the struct of x86-64 Linux, and borrowed until the call has ended.
     assert_eq!(unsafe { clock_gettime(OF_THREAD, &mut time) }, 0);
     time.seconds as f64 + time.nanoseconds as f64 / 1e9
 }
 
-/// Seconds from which on a work is long. A short one has a turn now and then in which no other program is let in; a long one may have none.
-/// But the processor's account was seen to be ten microseconds short, so short works go by the clock alone.
+/// Seconds from which on a task is long. A short one has a run now and then in which no other program gets in; a long one may have none.
+/// But the processor time was seen to be ten microseconds short, so short tasks go by the clock alone.
 const LONG: f64 = 0.005;
 
-/// The least time that a work has taken, in seconds. Works that are compared take their turns one after the other, so that what else the
-/// machine does meets them alike.
+/// The least time that a task has taken, in seconds. Tasks that are compared run in alternation, so that whatever else the machine does
+/// affects them alike.
 #[derive(Clone, Copy)]
 pub struct Least(f64);
 
@@ -32,7 +32,7 @@ impl Least {
     /// Nothing was timed yet.
     pub const NONE: Least = Least(f64::MAX);
 
-    /// By the clock, and a long work by the processor where another program was let in.
+    /// By the clock, and for a long task by processor time if another program got in.
     pub fn time(&mut self, work: impl FnOnce()) {
         let (before, start) = (given(), Instant::now());
         work();
@@ -45,16 +45,16 @@ impl Least {
         self.0
     }
 
-    /// Millions a second, of so many in a work.
+    /// Millions a second, for `count` in a task.
     pub fn rate(self, count: usize) -> f64 {
         count as f64 / self.0 / 1e6
     }
 }
 
-/// The simple version has a turn once in so many: it would take most of the time.
+/// The plain version runs only once in this many: otherwise it would take most of the time.
 const SELDOM: usize = 20;
 
-/// The same work by each of the three versions.
+/// The same task by each of the three versions.
 pub struct Three {
     pub library: Least,
     pub fast: Least,
@@ -62,7 +62,7 @@ pub struct Three {
 }
 
 impl Three {
-    /// The versions in turns.
+    /// The versions in alternation.
     pub fn time(turns: usize, mut library: impl FnMut(), mut fast: impl FnMut(), mut plain: impl FnMut()) -> Three {
         let mut three = Three { library: Least::NONE, fast: Least::NONE, plain: Least::NONE };
         for turn in 0..turns {

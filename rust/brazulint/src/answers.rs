@@ -1,4 +1,4 @@
-//! The structs of the header, field for field. What each field means stands there; a field without meaning is 0 or false.
+//! The structs of the header, field for field. The header says what each field means; a field without meaning is 0 or false.
 
 use crate::refusal::Refusal;
 
@@ -16,7 +16,7 @@ macro_rules! structs {
 structs! {
     /// The content bytes of a span: 1 and 2 of the SAV, then of the EAV.
     Content { sav1: u8, sav2: u8, eav1: u8, eav2: u8 }
-    /// What a span says of itself.
+    /// What a span says about itself.
     Delivery { line: u32, content: Content, positive_before: bool, positive_after: bool, repairs: u32 }
     /// The lengths of a span: samples of all streams, and symbols. Refusal 1.
     LengthsAnswer { number: u32, samples: usize, symbols: usize }
@@ -40,7 +40,7 @@ structs! {
     CrccAnswer { number: u32, crc: u32, crcc0: u32, crcc1: u32 }
     /// Refusals 7 and 20.
     DecodeAnswer { number: u32, character: u32, positive_after: bool }
-    /// Refuses nothing; `known` is false for a number that is no character.
+    /// Refuses nothing; `known` is false for a number that is not a character.
     EncodeAnswer { known: bool, symbol: u32, positive_after: bool }
 }
 
@@ -119,7 +119,7 @@ impl DecodeAnswer {
 }
 
 impl EncodeAnswer {
-    /// The symbol and the running disparity after it; none for a number that is no character.
+    /// The symbol and the running disparity after it; none for a number that is not a character.
     pub fn result(self) -> Option<(u32, bool)> {
         self.known.then_some((self.symbol, self.positive_after))
     }

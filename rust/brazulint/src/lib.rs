@@ -1,7 +1,7 @@
 //! A safe wrapper over `libadapter.a`, the link code of a 10G video link (ITU-R BT.2077 Part 2, GY/T 347.2-2021). The calls are those of
 //! `include/brazulint.h`, on slices; the header says what each one answers and refuses.
 //!
-//! A line is sent, and found in what was recorded:
+//! A line is sent, and found in the recording:
 //!
 //! ```
 //! fn main() -> Result<(), brazulint::Refusal> {
@@ -42,8 +42,8 @@ pub const K30_7: u32 = 267;
 
 /// A call of the header.
 ///
-/// SAFETY: every pointer given below is that of a slice, with the slice's own length behind it, and the slice is borrowed until the call
-/// has ended. What is written is borrowed as `&mut`, so it overlaps nothing else. The library takes all numbers and all contents.
+/// SAFETY: every pointer given below is that of a slice, followed by the slice's own length, and the slice is borrowed until the call has
+/// ended. What is written is borrowed as `&mut`, so it overlaps nothing else. The library takes all numbers and all contents.
 macro_rules! call {
     ($name:ident($($argument:expr),*)) => {
         unsafe { raw::$name($($argument),*) }
@@ -100,7 +100,7 @@ pub fn find(format: u32, depth: u32, symbols: &[u16], start: u64) -> FindAnswer 
     call!(brazulint_find(format, depth, symbols.as_ptr(), symbols.len(), start))
 }
 
-/// Finds a span and reads it into `rows` at once; go on from `resume`.
+/// Finds a span and reads it into `rows` at once; continue from `resume`.
 pub fn next(format: u32, depth: u32, symbols: &[u16], start: u64, rows: &mut [u16]) -> NextAnswer {
     call!(brazulint_next(format, depth, symbols.as_ptr(), symbols.len(), start, rows.as_mut_ptr(), rows.len()))
 }

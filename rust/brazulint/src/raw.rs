@@ -1,5 +1,5 @@
-//! The calls of the header as they are. A buffer is a pointer and the number of its elements; where the number is 0 the pointer may be
-//! null. A buffer that is written overlaps no other buffer of the same call.
+//! The calls of the header as they are. A buffer is a pointer and the number of its elements; if the number is 0 the pointer may be null. A
+//! buffer that is written overlaps no other buffer of the same call.
 
 use crate::answers::*;
 

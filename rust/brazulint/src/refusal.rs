@@ -11,7 +11,7 @@ pub struct Refusal {
 }
 
 impl Refusal {
-    /// The refusal of an answer, unless its number is 0. For the calls that answer a number alone the place is 0.
+    /// The refusal of an answer, unless its number is 0. For the calls that answer only a number the place is 0.
     pub fn check(number: u32, place: u64) -> Result<(), Refusal> {
         match number {
             0 => Ok(()),

@@ -1,4 +1,4 @@
-//! Numbers by chance, the same at every run with the same seed.
+//! Random numbers, the same in every run with the same seed.
 
 pub struct Random(pub u64);
 
@@ -12,7 +12,7 @@ impl Random {
         self.next() as usize % limit
     }
 
-    /// From low to high, both of them included.
+    /// From low to high, both included.
     pub fn within(&mut self, low: u32, high: u32) -> u32 {
         low + self.below((high - low + 1) as usize) as u32
     }
@@ -21,7 +21,7 @@ impl Random {
         from[self.below(from.len())]
     }
 
-    /// Once in so many times.
+    /// True once in `times` calls on average.
     pub fn seldom(&mut self, times: usize) -> bool {
         self.below(times) == 0
     }

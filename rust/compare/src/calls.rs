@@ -148,7 +148,7 @@ pub fn next(r: &mut Report, format: u32, depth: u32, symbols: &[u16], start: u64
     r.buffer(call, &rows, left);
 }
 
-/// All spans of a recording: the library's by steps of next, plain's by finding and reading.
+/// All spans of a recording: from the library by steps of next, from plain by finding and reading.
 pub fn deliver(r: &mut Report, format: u32, depth: u32, symbols: &[u16]) {
     let plain = plain::recording::delivery(format, depth, symbols).expect("a known format and a short recording");
     let [samples, span] = plain::span::lengths(format, depth).expect("a known format");

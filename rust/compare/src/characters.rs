@@ -1,4 +1,4 @@
-//! The code, every number: all characters, all symbols, and numbers that would be one if they were cut short.
+//! The code, every number: all characters, all symbols, and numbers that would be one if they were truncated.
 
 use crate::calls;
 use crate::report::Report;
@@ -16,7 +16,7 @@ pub fn run() -> Report {
     r
 }
 
-/// Numbers next to powers of two, a legal byte or symbol above them too.
+/// Numbers next to powers of two, also a legal byte or symbol above them.
 fn far() -> impl Iterator<Item = u32> {
     let powers = [1 << 12, 1 << 15, 1 << 16, 1 << 24, 1 << 31];
     let near = powers.into_iter().flat_map(|power: u32| (power - 300..=power + 1100).step_by(7).chain([power - 1, power, power + 0x17C]));

@@ -5,7 +5,7 @@ use chance::Random;
 use plain::code::{encode, meaning};
 use plain::words::{words_of, xyz};
 
-/// At which stage a change is made.
+/// The stage at which a change is made.
 #[derive(Clone, Copy)]
 pub enum Change {
     /// To the words, before the CRCC may be mended.
@@ -120,7 +120,7 @@ fn another_fixed(random: &mut Random, draft: &mut Draft) {
     any_of(random, draft, first, first + 3);
 }
 
-/// Puts any word at one of the words from first to before end.
+/// Replaces one of the words from first up to end, which is excluded, with any word.
 fn any_of(random: &mut Random, draft: &mut Draft, first: usize, end: usize) {
     let at = draft.at(first + random.below(end - first), stream(random, draft));
     draft.words[at] = random.below(4096) as u16;
@@ -142,7 +142,7 @@ fn each_xyz(random: &mut Random, draft: &mut Draft) {
     }
 }
 
-/// The legal XYZ with V or H, or both, turned.
+/// The legal XYZ with V or H, or both, inverted.
 fn turned(word: u16, bits: u16) -> u16 {
     let turned = word ^ bits;
     xyz(turned & 0x200 != 0, turned & 0x100 != 0)
@@ -192,7 +192,7 @@ fn all_lines(draft: &mut Draft, words: [u16; 2]) {
 
 // ---- Row and fill.
 
-/// The words next to both ends of what samples have: 16 to 4079.
+/// The words next to both ends of the range of samples, 16 to 4079.
 fn row_word(random: &mut Random, draft: &mut Draft) {
     let k = random.pick(&[4, 5, 1000, 1922, 1923]);
     let at = draft.at(k, stream(random, draft));
@@ -228,7 +228,7 @@ fn no_symbol(random: &mut Random, _: &Draft, all: &mut [u16]) {
     all[random.below(all.len())] = random.pick(&symbols);
 }
 
-/// The other of a character's two symbols, at the first place from a random one on that has two; often at the start.
+/// The other of a character's two symbols, at the first place from a random one on where there are two; often at the start.
 fn other_form(random: &mut Random, _: &Draft, all: &mut [u16]) {
     let from = random.pick(&[0, 1, random.0 as usize % all.len()]);
     for symbol in &mut all[from..] {

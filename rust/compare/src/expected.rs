@@ -1,4 +1,4 @@
-//! What the library must answer, field for field, for what plain answers. A field without meaning is 0 or false.
+//! What the library must answer, field for field, given what plain answers. A field without meaning is 0 or false.
 
 use brazulint::*;
 use plain::picture::Place;
@@ -6,7 +6,7 @@ use plain::read::Delivered;
 use plain::words::{Crcc, Repaired};
 use plain::Answer;
 
-/// The number of an answer that is a number alone.
+/// The number of an answer that is only a number.
 pub fn number<T>(plain: &Answer<T>) -> u32 {
     plain.as_ref().err().map_or(0, |refused| refused.0)
 }
@@ -46,7 +46,7 @@ pub fn find(plain: Answer<Option<u64>>) -> FindAnswer {
     }
 }
 
-/// `symbols` is how long a span is. Where none is delivered, by a refusal too, one goes on from where one was.
+/// `symbols` is the length of a span. If none is delivered, also after a refusal, the place to continue from is the start.
 pub fn next(plain: &Answer<Option<(u64, Delivered)>>, start: u64, symbols: u64) -> NextAnswer {
     match plain {
         Ok(Some((place, d))) => NextAnswer { number: 0, found: true, place: *place, resume: *place + symbols, delivery: delivery(d) },

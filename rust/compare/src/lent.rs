@@ -7,10 +7,10 @@ pub enum Left<'a> {
     Holds(&'a [u16]),
 }
 
-/// So many elements stand on each side of a lent buffer, which no call may touch.
+/// How many elements are on each side of a lent buffer, which no call may touch.
 const BESIDE: usize = 32;
 
-/// A buffer to be lent to a call, filled with a pattern, as is what stands beside it.
+/// A buffer to be lent to a call, filled with a pattern, as are the elements on each side.
 pub struct Lent {
     all: Vec<u16>,
 }
@@ -25,7 +25,7 @@ impl Lent {
         &mut self.all[BESIDE..end]
     }
 
-    /// The first place at which it does not hold what a call must leave, and what stands there. Before the buffer places are negative.
+    /// The first place at which it does not hold what a call must leave, and what is there. Places before the buffer are negative.
     pub fn wrong(&self, left: Left) -> Option<(i64, u16)> {
         let mut expected = Lent::new(self.all.len() - 2 * BESIDE);
         match left {
@@ -33,7 +33,7 @@ impl Lent {
             Left::Zero => expected.lend().fill(0),
             Left::Holds(plain) => expected.lend().copy_from_slice(plain),
         }
-        // Most are the same, and whole buffers are compared faster than their elements.
+        // Most are the same, and comparing whole buffers is faster than comparing their elements.
         if self.all == expected.all {
             return None;
         }

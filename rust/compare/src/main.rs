@@ -1,4 +1,4 @@
-//! Holds the library against the plain implementation: `compare list`, `compare NAME [--seed N] [--calls N]`, `compare night [MINUTES]`.
+//! Compares the library with the plain implementation: `compare list`, `compare NAME [--seed N] [--calls N]`, `compare night [MINUTES]`.
 
 mod calls;
 mod characters;
@@ -24,7 +24,7 @@ use std::process::ExitCode;
 
 type Comparison = fn() -> Report;
 
-/// All comparisons but the one by chance.
+/// All comparisons except the random one.
 const COMPARISONS: [(&str, Comparison); 11] = [
     ("vectors", vectors::run),
     ("characters", characters::run),
@@ -52,7 +52,7 @@ fn main() -> ExitCode {
     }
 }
 
-/// Whether all was the same; none where the arguments make no sense.
+/// Whether all was the same; none if the arguments make no sense.
 fn run(arguments: &[&str]) -> Option<bool> {
     match arguments {
         ["list"] => {

@@ -33,7 +33,7 @@ fn places(r: &mut Report) {
     }
 }
 
-/// Every three of the lengths, so each buffer is wrong alone and with the others, and good rows with any contents.
+/// Every combination of three lengths, so each buffer is wrong alone and with the others, and good rows with any contents.
 fn rows(part: usize, r: &mut Report) {
     let mut random = Random(0x33 + part as u64);
     for row in LENGTHS.into_iter().skip(part).step_by(2) {

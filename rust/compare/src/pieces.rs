@@ -23,7 +23,7 @@ const PIECES: [Piece; 13] = [
     |random, format, depth| changed(random, format, depth, inverted),
 ];
 
-/// Pieces by chance, until there are as many symbols.
+/// Random pieces, until there are that many symbols.
 pub fn any_recording(random: &mut Random, format: u32, depth: u32, symbols: usize) -> Vec<u16> {
     let mut recording = Vec::new();
     while recording.len() < symbols {
@@ -40,7 +40,7 @@ pub fn noise(random: &mut Random) -> Vec<u16> {
     random.numbers(count, limit)
 }
 
-/// Symbols that follow each other as they may, special characters among them.
+/// Symbols in a legal sequence, special characters among them.
 fn legal_noise(random: &mut Random) -> Vec<u16> {
     let characters = (0..random.below(3000)).map(|_| random.within(0, 267) as u16).collect::<Vec<_>>();
     plain::span::symbols(random.flip(), &characters).0
@@ -53,7 +53,7 @@ fn cut(random: &mut Random, format: u32, depth: u32) -> (Vec<u16>, Vec<u16>) {
     (front, rest)
 }
 
-/// A run of K28.5: in one form, in the other, or by turns.
+/// A run of K28.5: in one form, in the other, or alternating.
 fn commas(random: &mut Random) -> Vec<u16> {
     let forms = [false, true].map(|positive| encode(positive, K28_5.into()).expect("K28.5 has a symbol").0);
     let (from, turns) = (random.below(2), random.below(2));
@@ -61,7 +61,7 @@ fn commas(random: &mut Random) -> Vec<u16> {
     (0..count).map(|i| forms[(from + i * turns) % 2]).collect()
 }
 
-/// A span that is right but for one late fault: in the CRCC, the row, the fill, or the last symbol.
+/// A span that is right except for one late fault: in the CRCC, the row, the fill, or the last symbol.
 fn near_span(random: &mut Random, format: u32, depth: u32) -> Vec<u16> {
     let draft = Draft::by_chance(random, format, depth);
     let late = ["a bit of CRCC1", "a word at the end of what samples have", "the last fill word", "nothing"];
@@ -74,7 +74,7 @@ fn near_span(random: &mut Random, format: u32, depth: u32) -> Vec<u16> {
     symbols
 }
 
-/// A span that is begun and not ended, with a whole one right behind.
+/// A span that is begun and not ended, with a whole one right after it.
 fn begun_and_whole(random: &mut Random, format: u32, depth: u32) -> Vec<u16> {
     [cut(random, format, depth).0, any_sent(random, format, depth)].concat()
 }
@@ -102,7 +102,7 @@ pub fn inverted(random: &mut Random, mut symbols: Vec<u16>) -> Vec<u16> {
     symbols
 }
 
-/// Places to start from: the ends, next to where spans may stand, and any.
+/// Places to start from: the ends, next to where spans may be, and any.
 pub fn any_start(random: &mut Random, format: u32, length: usize) -> u64 {
     let span = shape_of(format).symbols();
     let start = match random.below(6) {

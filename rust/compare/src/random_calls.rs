@@ -1,4 +1,4 @@
-//! Calls of all kinds by chance: mostly cheap ones, some with spans, a few with recordings.
+//! Random calls of all kinds: mostly cheap ones, some with spans, a few with recordings.
 
 use crate::calls;
 use crate::damage::DAMAGES;
@@ -12,7 +12,7 @@ use plain::words::words_of;
 pub const SEED: u64 = 20_210_347;
 pub const CALLS: u64 = 150_000;
 
-/// At least as many calls, half of them in each thread.
+/// At least `calls` calls, half of them in each thread.
 pub fn run(seed: u64, calls: u64) -> Report {
     in_two(|part, r| {
         let mut random = Random(seed.wrapping_mul(2).wrapping_add(part as u64));
@@ -93,7 +93,7 @@ fn any_rows(r: &mut Report, random: &mut Random) {
     }
 }
 
-/// Formats, depths and lengths of which often one is wrong, with short buffers mostly.
+/// Formats, depths and lengths, of which one is often wrong; mostly with short buffers.
 fn wrong_lengths(r: &mut Report, random: &mut Random) {
     let format = if random.seldom(6) { number(random) } else { random.within(1, 3) };
     let depth = if random.seldom(6) { number(random) } else { random.pick(&[10, 12]) };

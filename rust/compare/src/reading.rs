@@ -1,4 +1,4 @@
-//! Reading spans as they were sent, and damaged in every way, by one change and by two.
+//! Reading spans as they were sent, and damaged in every way, with one change and with two.
 
 use crate::calls;
 use crate::damage::{damaged, DAMAGES};
@@ -7,7 +7,7 @@ use crate::spans::{shape_of, Draft, EDGES, KINDS};
 use chance::Random;
 use std::sync::atomic::{AtomicU64, Ordering};
 
-/// So often each refusal must be met, and a delivery with a repair.
+/// How often each refusal must be met, and a delivery with a repair.
 const OFTEN: u64 = 50;
 
 /// How often each of 20 to 26 was met, and how often a delivery had repairs.
@@ -97,8 +97,8 @@ fn pairs(part: usize, r: &mut Report, met: &Met) {
     }
 }
 
-/// Every bit of every word of SAV, EAV, line number and CRCC, on lines where V changes and where it does not. Behind what the CRCC covers
-/// it stays as it is; else it is mended or not.
+/// Every bit of every word of SAV, EAV, line number and CRCC, on lines where V changes and where it does not. For a word that the CRCC does
+/// not cover, the CRCC stays as it is; otherwise it is mended or not.
 fn service_bits(part: usize, r: &mut Report) {
     let mut random = Random(0xFF + part as u64);
     for (format, depth) in KINDS.into_iter().skip(part).step_by(2) {
@@ -119,7 +119,7 @@ fn service_bits(part: usize, r: &mut Report) {
     }
 }
 
-/// Words next to what samples have, at either end of a row and within it, on lines of the picture and of blanking; the CRCC fits.
+/// Words just outside what samples have, at either end of a row and within it, on lines of the picture and of blanking; the CRCC fits.
 fn row_limits(part: usize, r: &mut Report, met: &Met) {
     let mut random = Random(0x111 + part as u64);
     for kind in KINDS {

@@ -27,7 +27,7 @@ fn any_recordings(part: usize, r: &mut Report) {
     }
 }
 
-/// All three calls over a recording by chance.
+/// All three calls over a random recording.
 pub fn search(r: &mut Report, random: &mut Random, format: u32, depth: u32, symbols: usize) {
     let recording = any_recording(random, format, depth, symbols);
     calls::deliver(r, format, depth, &recording);
@@ -38,7 +38,7 @@ pub fn search(r: &mut Report, random: &mut Random, format: u32, depth: u32, symb
     }
 }
 
-/// A sent span at places 0, 1, 2 and on among noise.
+/// A sent span at places 0, 1, 2 and so on among noise.
 fn at_every_place(part: usize, r: &mut Report) {
     let mut random = Random(0x202 + part as u64);
     for place in (part..260).step_by(2) {
@@ -55,7 +55,7 @@ fn at_every_place(part: usize, r: &mut Report) {
     }
 }
 
-/// What was sent in one span, and what must be said of it.
+/// What was sent in one span, and what must be answered for it.
 struct Sent {
     symbols: Vec<u16>,
     rows: Vec<u16>,
@@ -84,7 +84,7 @@ fn delivery(asked: Asked, positive_after: bool) -> Delivery {
     Delivery { line: asked.line, content, positive_before: asked.positive, positive_after, repairs: 0 }
 }
 
-/// One inverted bit in sent spans alone: exactly the other spans are delivered, with what was sent. This asks the library alone.
+/// One inverted bit in sent spans alone: exactly the other spans are delivered, with what was sent. This calls only the library.
 fn one_bit(part: usize, r: &mut Report) {
     let mut random = Random(0x303 + part as u64);
     for round in 0..300 {

@@ -1,4 +1,4 @@
-//! Calls that are refused before anything is done, and calls next to them: one thing wrong, and two, so that the order is seen.
+//! Calls that are refused before anything is done, and calls close to them: one thing wrong, and two, so that the order is seen.
 
 use crate::calls;
 use crate::expected;
@@ -66,7 +66,7 @@ fn sends(part: usize, r: &mut Report) {
     });
 }
 
-/// Good samples with one or two that are next to what may be sent, or far from it.
+/// Good samples with one or two that are just outside what may be sent, or far outside.
 fn samples(part: usize, r: &mut Report) {
     let mut random = Random(0x77 + part as u64);
     for (format, depth) in KINDS.into_iter().skip(part).step_by(2) {
@@ -85,7 +85,7 @@ fn samples(part: usize, r: &mut Report) {
     }
 }
 
-/// Reading and judging with every length of both buffers; the symbols are noise, zeros or a sent span that is cut.
+/// Reading and judging with every length of both buffers; the symbols are noise, zeros or a sent span cut short.
 fn reads(part: usize, r: &mut Report) {
     let mut random = Random(0x88 + part as u64);
     let sent = any_sent(&mut random, 3, 12);
@@ -117,7 +117,7 @@ fn starts(part: usize, r: &mut Report) {
     });
 }
 
-/// Recordings of the greatest length and of one symbol more, one with a span at its very end.
+/// Recordings of the greatest length and one symbol longer, one with a span at its very end.
 fn long_recordings(part: usize, r: &mut Report) {
     let mut random = Random(0xAA + part as u64);
     let (format, depth) = [(1, 12), (3, 10)][part];
@@ -140,11 +140,11 @@ fn long_recordings(part: usize, r: &mut Report) {
     }
 }
 
-/// Where a number of elements is 0 the pointer may be null.
+/// If a number of elements is 0 the pointer may be null.
 fn nulls(r: &mut Report) {
     let (from, to) = (null(), null_mut());
     let asked = Asked { format: 1, depth: 12, line: 42, positive: false, content: None };
-    // SAFETY: every pointer is null with 0 elements behind it, which the header allows for each of these calls.
+    // SAFETY: every pointer is null with 0 as its number of elements, which the header allows for each of these calls.
     unsafe {
         let sent = expected::send(&plain::span::send(asked, &[], 0));
         r.answer(|| "send of nothing".into(), raw::brazulint_send(1, 12, 42, false, from, 0, to, 0), sent);

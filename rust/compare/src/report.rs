@@ -3,13 +3,13 @@
 use crate::lent::{Left, Lent};
 use std::fmt::Debug;
 
-/// So many differences are told; the others are counted.
+/// How many differences are printed; the others are only counted.
 const TOLD: usize = 10;
 
 #[derive(Default)]
 pub struct Report {
     pub calls: u64,
-    /// What is being compared, to be told with a difference.
+    /// What is being compared, to be printed with a difference.
     pub context: String,
     differences: Vec<String>,
     untold: u64,
@@ -31,7 +31,7 @@ impl Report {
         }
     }
 
-    /// Something that must hold whatever plain says.
+    /// Something that must hold regardless of what plain says.
     pub fn holds(&mut self, what: impl Fn() -> String, holds: bool) {
         if !holds {
             self.differs(what());
@@ -57,7 +57,7 @@ impl Report {
         }
     }
 
-    /// Prints the one line, or what differs. Answers whether all was the same.
+    /// Prints one line, or what differs. Answers whether all was the same.
     pub fn print(&self, name: &str, seed: Option<u64>) -> bool {
         let seed = seed.map_or(String::new(), |seed| format!(", seed {seed}"));
         if self.differences.is_empty() {
@@ -73,7 +73,7 @@ impl Report {
     }
 }
 
-/// Does the work in two threads, which are told whether they are 0 or 1, and puts what they found together.
+/// Does the work in two threads, numbered 0 and 1, and merges what they found.
 pub fn in_two(work: impl Fn(usize, &mut Report) + Sync) -> Report {
     let half = |part: usize| {
         let mut report = Report::default();

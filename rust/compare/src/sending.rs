@@ -12,7 +12,7 @@ pub fn run() -> Report {
     r
 }
 
-/// With content bytes and without, at both disparities by turns.
+/// With content bytes and without, at both disparities alternately.
 fn every_line(part: usize, r: &mut Report) {
     let mut random = Random(0x44 + part as u64);
     for (format, depth) in KINDS {
@@ -27,7 +27,7 @@ fn every_line(part: usize, r: &mut Report) {
     }
 }
 
-/// From line 1090 on, over the end of the frame, where line 1 follows 1125, and into the picture. Depth 10 in one half, 12 in the other.
+/// From line 1090 on, past the end of the frame, where line 1 follows 1125, and into the picture. Depth 10 in one half, 12 in the other.
 fn chains(part: usize, r: &mut Report) {
     let mut random = Random(0x55 + part as u64);
     for format in 1..=3 {

@@ -1,4 +1,4 @@
-//! Spans by chance, as words that can still be changed.
+//! Random spans, as words that can still be changed.
 
 use chance::Random;
 use plain::span::{characters, row_words, shape, symbols, words, Asked, Shape};
@@ -26,7 +26,7 @@ pub fn any_content(random: &mut Random) -> [u8; 4] {
     [(); 4].map(|()| random.next() as u8)
 }
 
-/// Samples that may be sent, the ends of the range often.
+/// Samples that may be sent, often the ends of the range.
 pub fn any_samples(random: &mut Random, format: u32, depth: u32, line: u32) -> Vec<u16> {
     let count = shape_of(format).samples();
     if !is_active(line) {
@@ -41,7 +41,7 @@ pub fn any_samples(random: &mut Random, format: u32, depth: u32, line: u32) -> V
     (0..count).map(|_| sample() as u16).collect()
 }
 
-/// A span as it is sent.
+/// A random span as it is sent.
 pub fn any_sent(random: &mut Random, format: u32, depth: u32) -> Vec<u16> {
     Draft::by_chance(random, format, depth).symbols()
 }
@@ -69,12 +69,12 @@ impl Draft {
         Draft::of_line(random, format, depth, line)
     }
 
-    /// Where word k of stream t stands.
+    /// The place of word k of stream t.
     pub fn at(&self, k: usize, t: usize) -> usize {
         k * self.shape.streams + t
     }
 
-    /// Sets the CRCC of every stream to that of its words, the XYZ of the EAV repaired.
+    /// Sets the CRCC of every stream to that of its words, with the XYZ of the EAV repaired.
     pub fn mend(&mut self) {
         for t in 0..self.shape.streams {
             let mut run: Vec<u16> = (4..1930).map(|k| self.words[self.at(k, t)]).collect();
@@ -95,7 +95,7 @@ impl Draft {
     }
 }
 
-/// What is asked of the sender, by chance.
+/// A random request to the sender.
 pub fn any_asked(random: &mut Random, format: u32, depth: u32, line: u32, positive: bool) -> Asked {
     let content = random.flip().then(|| any_content(random));
     Asked { format, depth, line, positive, content }

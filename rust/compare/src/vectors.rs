@@ -1,4 +1,4 @@
-//! Published values: the code as its standard prints it, and the values of document 01 that are to be run. None of them was made by a
+//! Published values: the code as its standard prints it, and the values of document 01 that are to be run. None of them was computed by a
 //! program of this repository.
 
 use crate::calls;
@@ -65,7 +65,7 @@ const BYTES: [(u32, u32, &str, &str); 53] = [
     (0, 5, "100111 1010", "011000 1010"),
     (0, 6, "100111 0110", "011000 0110"),
     (0, 7, "100111 0001", "011000 1110"),
-    // The alternate form of .7 stands in the first three at negative disparity, and in the next three at positive.
+    // The alternate form of .7 is in the first three at negative disparity, and in the next three at positive.
     (17, 7, "100011 0111", "100011 0001"),
     (18, 7, "010011 0111", "010011 0001"),
     (20, 7, "001011 0111", "001011 0001"),
@@ -112,7 +112,7 @@ fn code(r: &mut Report) {
     }
 }
 
-/// One form, both ways. More ones than zeros leave the disparity positive, fewer negative, as many as it was.
+/// One form, both ways. More ones than zeros leave the disparity positive, fewer leave it negative, as many leave it unchanged.
 fn form(r: &mut Report, character: u32, positive: bool, symbol: u32) {
     let positive_after = match symbol.count_ones() {
         5 => positive,

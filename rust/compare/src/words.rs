@@ -64,7 +64,7 @@ fn pairs(part: usize, r: &mut Report) {
     }
 }
 
-/// Runs of many lengths; in every third a word above 4095.
+/// Runs of many lengths; every third has a word above 4095.
 fn runs(part: usize, r: &mut Report) {
     let mut random = Random(0x22 + part as u64);
     let lengths = (0..=80).chain([100, 127, 128, 129, 255, 256, 1000, 1919, 1920, 1921, 1925, 1926, 1927, 4095, 4096, 10_000, 40_000]);

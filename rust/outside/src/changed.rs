@@ -1,4 +1,4 @@
-//! Spans by chance that are changed in any way, or not: words before the CRCC is worked out or after it, characters, symbols.
+//! Random spans, changed in any way or not: words before or after the CRCC is computed, characters, symbols.
 
 use crate::spans::{made_characters, made_words};
 use chance::Random;
@@ -33,7 +33,7 @@ fn word_place(random: &mut Random, shape: Shape) -> usize {
     random.pick(&[bounds[part], bounds[part + 1] - 1, inside, inside, inside])
 }
 
-/// One bit or two inverted, or another word: XYZ, line number, an end of what is allowed, any.
+/// One bit or two inverted, or another word: XYZ, line number, an end of the allowed range, any.
 fn change_word(random: &mut Random, word: u16) -> u16 {
     let legal = [xyz(false, false), xyz(false, true), xyz(true, false), xyz(true, true)];
     let (bit, other) = (1 << random.below(12), 1 << random.below(12));
@@ -56,7 +56,7 @@ fn change_words(random: &mut Random, shape: Shape, words: &mut [u16]) {
     }
 }
 
-/// One or several picture words next to what an active line may carry, or that it may carry at another depth.
+/// One or several picture words just outside what an active line may carry, or that it may carry at another depth.
 fn spoil_picture(random: &mut Random, shape: Shape, words: &mut [u16]) {
     let (first, end) = (ROW_AT * shape.streams, EAV_AT * shape.streams);
     for _ in 0..random.pick(&[1, 1, 2, 9]) {
@@ -111,12 +111,12 @@ fn change_symbols(random: &mut Random, shape: Shape, symbols: &mut [u16]) {
     }
 }
 
-/// Words that nobody judges: those of the picture on a blanking line, and those of the ancillary area.
+/// Words that no test judges: those of the picture on a blanking line, and those of the ancillary area.
 fn put_foreign(random: &mut Random, words: &mut [u16]) {
     words.iter_mut().for_each(|word| *word = random.next() as u16 % 4096);
 }
 
-/// The symbols of a span, sent as it should be or changed in any way.
+/// The symbols of a span, sent correctly or changed in any way.
 pub fn random_symbols(random: &mut Random, shape: Shape, depth: u32) -> Vec<u16> {
     let s = shape.streams;
     let any = random.within(1, 1125);

@@ -1,5 +1,5 @@
-//! What the programs that work out or check the library's printed output share: running a program, chance, and spans to read. Everything
-//! that is known of the link comes from `plain`; nothing comes from the library.
+//! What the programs that compute or check the library's printed output share: running a program, random numbers, and spans to read.
+//! Everything known about the link comes from `plain`; nothing comes from the library.
 
 pub mod changed;
 pub mod printed;

@@ -1,14 +1,14 @@
-//! What a program writes of an input.
+//! What a program writes for an input.
 
 use std::io::{Read, Write};
 use std::process::{Command, Stdio};
 
-/// What the program writes when the input arrives in pieces. It may stop reading where it has enough.
+/// What the program writes when the input arrives in pieces. It may stop reading once it has enough.
 pub fn written(program: &str, input: &[u8], piece: usize) -> Vec<u8> {
     written_by(Command::new(program), input, piece)
 }
 
-/// The same of a program with arguments, or in a folder of its own.
+/// The same for a program with arguments, or in a folder of its own.
 pub fn written_by(mut command: Command, input: &[u8], piece: usize) -> Vec<u8> {
     let mut child = command.stdin(Stdio::piped()).stdout(Stdio::piped()).spawn().expect("the program starts");
     let mut stdin = child.stdin.take().unwrap();
@@ -21,7 +21,7 @@ pub fn written_by(mut command: Command, input: &[u8], piece: usize) -> Vec<u8> {
     bytes
 }
 
-/// The same of a program that prints text.
+/// The same for a program that prints text.
 pub fn printed(program: &str, input: &[u8], piece: usize) -> String {
     String::from_utf8(written(program, input, piece)).expect("the program prints text")
 }

@@ -1,11 +1,11 @@
-//! Spans to read, by chance and as they should be sent (01, "A span" and "Sending").
+//! Random spans to read, sent correctly (01, "A span" and "Sending").
 
 use chance::Random;
 use plain::span::{characters, symbols, words, Shape, ROW};
 use plain::words::{is_active, BLANKING};
 
-/// The words of all streams, stream by stream, that a line may carry: of all values, or of the ends alone. Chance is asked in the order in
-/// which the words are sent, so that the stored inputs stay what they are.
+/// The words of all streams, stream by stream, that a line may carry: all values, or only the ends of the range. Random numbers are drawn
+/// in the order in which the words are sent, so that the stored inputs stay what they are.
 fn rows(random: &mut Random, shape: Shape, depth: u32, line: u32) -> Vec<u16> {
     let ends_alone = random.seldom(4);
     let mut rows = vec![BLANKING; shape.samples()];
@@ -29,7 +29,7 @@ pub fn made_words(random: &mut Random, shape: Shape, depth: u32, line: u32) -> V
     words(shape, line, &rows).expect("a stream line")
 }
 
-/// Its characters, with content bytes by chance.
+/// Its characters, with random content bytes.
 pub fn made_characters(random: &mut Random, shape: Shape, words: &[u16]) -> Vec<u16> {
     let [[sav1, sav2], [eav1, eav2]] = [(); 2].map(|()| (random.next() as u16).to_le_bytes());
     characters(shape, words, [sav1, sav2, eav1, eav2])

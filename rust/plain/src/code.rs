@@ -37,7 +37,7 @@ fn inverse(symbols: &[(u16, bool)]) -> Vec<Option<(u16, bool)>> {
     characters
 }
 
-/// The symbol of a character, and the disparity after it. None for a number that is no character.
+/// The symbol of a character, and the disparity after it. None for a number that is not a character.
 pub fn encode(positive: bool, character: u32) -> Option<(u16, bool)> {
     code().symbols[positive as usize].get(character as usize).copied()
 }
@@ -47,7 +47,7 @@ pub fn meaning(positive: bool, symbol: u16) -> Option<(u16, bool)> {
     code().characters[positive as usize].get(symbol as usize).copied().flatten()
 }
 
-/// The single decoder: 7 above 1023, and 20 where the symbol is not legal at this disparity (01, "Refusal numbers").
+/// The single decoder: 7 above 1023, and 20 if the symbol is not legal at this disparity (01, "Refusal numbers").
 pub fn decode(positive: bool, symbol: u32) -> Answer<(u16, bool)> {
     refuse_unless(symbol <= 1023, 7)?;
     meaning(positive, symbol as u16).ok_or((20, 0))

@@ -26,7 +26,7 @@ pub fn place(line: u32, sample: u32) -> Answer<Place> {
     Ok(Place { image, line: of_image, stream_line: of_image + 41, sample: sample / 2 })
 }
 
-/// The even samples of a row, and the odd ones. The rooms are how long the outputs are that the caller has.
+/// The even samples of a row, and the odd ones. `rooms` are the lengths of the caller's outputs.
 pub fn split(row: &[u16], rooms: [usize; 2]) -> Answer<[Vec<u16>; 2]> {
     refuse_unless(row.len() == 3840, 3)?;
     refuse_unless(rooms == [1920, 1920], 4)?;

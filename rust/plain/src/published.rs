@@ -14,7 +14,7 @@ struct Letters {
     k: bool,
 }
 
-/// The disparity is false for negative and true for positive. Gives the ten bits, a lowest, and the disparity after.
+/// The disparity is false for negative and true for positive. Gives the ten bits, bit a lowest, and the disparity after.
 pub fn encode(byte: u8, k: bool, disparity: bool) -> (u16, bool) {
     let bit = |n: u32| byte >> n & 1 == 1;
     let v = Letters { a: bit(0), b: bit(1), c: bit(2), d: bit(3), e: bit(4), f: bit(5), g: bit(6), h: bit(7), k };
@@ -35,7 +35,7 @@ pub fn encode(byte: u8, k: bool, disparity: bool) -> (u16, bool) {
         (e || l13) && !x24,
         l22 && !e || e && !d && !c && !(a && b) || e && l40 || k && x28 || e && !d && c && !b && !a,
     ];
-    // They belong to positive entering disparity, or to negative; neither where the block serves both.
+    // They belong to positive entering disparity, or to negative; to neither if the block serves both.
     let six_of_positive = x24 || !e && !l22 && !l31;
     let six_of_negative = k || e && !l22 && !l13 || !e && !d && c && b && a;
     let six_turns = six_of_positive || k || e && !l22 && !l13;

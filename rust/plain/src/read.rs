@@ -5,7 +5,7 @@ use crate::span::{shape, Shape, ROW};
 use crate::words::{crcc_of, is_active, line_before, named, nearest, Repaired, BLANKING};
 use crate::{refuse_unless, Answer};
 
-/// What a span says of itself, and its rows stream by stream.
+/// What a span says about itself, and its rows stream by stream.
 #[derive(Clone, Debug, PartialEq, Eq)]
 pub struct Delivered {
     pub line: u32,
@@ -16,7 +16,7 @@ pub struct Delivered {
     pub rows: Vec<u16>,
 }
 
-/// The words of a span by word and stream, both counted from 0: word k of stream t stands at k * s + t.
+/// The words of a span by word and stream, both counted from 0: word k of stream t is at k * s + t.
 struct Words {
     s: usize,
     all: Vec<u16>,
@@ -69,7 +69,7 @@ fn characters(shape: Shape, symbols: &[u16]) -> Answer<(Vec<u16>, bool, bool)> {
     Ok((characters, before, disparity))
 }
 
-/// Whether a character is of the kind that stands at a symbol.
+/// Whether a character is of the kind that belongs at a symbol.
 fn fits(shape: Shape, at: usize, character: u16) -> bool {
     let eav = shape.eav_symbol();
     if at < 2 {
@@ -81,7 +81,7 @@ fn fits(shape: Shape, at: usize, character: u16) -> bool {
     }
 }
 
-/// The words of a span, the replaced four bytes of SAV and EAV at their fixed values: FFF, then 000 with two streams and FFF with four.
+/// The words of a span, the four replaced bytes of SAV and EAV at their fixed values: FFF, then 000 with two streams and FFF with four.
 fn words(shape: Shape, characters: &[u16]) -> Words {
     let mut bytes = characters.to_vec();
     let fixed = [0xFF, 0xFF, 0xFF, if shape.streams == 2 { 0x00 } else { 0xFF }];
@@ -116,7 +116,7 @@ fn test_v(words: &Words, line: u32, next: u32) -> Answer<()> {
     words.each(23, [EAV_AT + 3], |_, t| words.eav(t).is_some_and(|r| r.v != is_active(next)))
 }
 
-/// 24: the CRCC is worked out over restored and repaired words, from behind the SAV to the last line word.
+/// 24: the CRCC is computed over restored and repaired words, from after the SAV to the last line word.
 fn test_crcc(words: &Words) -> Answer<()> {
     let repaired = |k: usize, t: usize| match k {
         _ if k == EAV_AT + 3 => words.eav(t).map_or(words.at(k, t), |r| r.word),
@@ -127,13 +127,13 @@ fn test_crcc(words: &Words) -> Answer<()> {
     words.each(24, CRCC_AT..CRCC_AT + 2, |k, t| words.at(k, t) == worked_out[t][k - CRCC_AT])
 }
 
-/// 25: on an active line every word of the row is that of a sample.
+/// 25: on an active line every word of the row is a sample's.
 fn test_samples(words: &Words, depth: u32, line: u32) -> Answer<()> {
     let sample = |word: u16| (16..=4079).contains(&word) && (depth == 12 || word & 0b11 == 0);
     words.each(25, ROW_AT..EAV_AT, |k, t| !is_active(line) || sample(words.at(k, t)))
 }
 
-/// 26: the fill stands behind all streams.
+/// 26: the fill comes after all streams.
 fn test_fill(shape: Shape, words: &Words) -> Answer<()> {
     match (shape.words_before_fill()..shape.words()).find(|&place| words.all[place] != BLANKING) {
         Some(place) => Err((26, place as u64)),
@@ -161,7 +161,7 @@ pub fn window(shape: Shape, depth: u32, symbols: &[u16]) -> Answer<Delivered> {
     Ok(Delivered { line, content, positive_before, positive_after, repairs, rows })
 }
 
-/// The reader with rows; the room is how long they are.
+/// The reader with rows; `room` is their length.
 pub fn read(format: u32, depth: u32, symbols: &[u16], room: usize) -> Answer<Delivered> {
     let shape = shape(format, depth)?;
     refuse_unless(symbols.len() == shape.symbols(), 3)?;

@@ -7,7 +7,7 @@ use crate::{refuse_unless, Answer};
 /// The longest recording.
 pub const LIMIT: usize = 2_097_152;
 
-/// The first place from `start` on at which the reader accepts, and what it reads there. Fewer symbols than a span has are none.
+/// The first place from `start` on at which the reader accepts, and what it reads there. Fewer symbols than a span has are not a span.
 fn first(shape: Shape, depth: u32, symbols: &[u16], start: usize) -> Option<(usize, Delivered)> {
     let accepted = |place: usize| {
         let symbols = symbols.get(place..place + shape.symbols())?;

@@ -20,7 +20,7 @@ impl Shape {
         self.streams * ROW
     }
 
-    /// SAV, row, EAV, line number, CRCC and ancillary words stand before the fill.
+    /// SAV, row, EAV, line number, CRCC and ancillary words come before the fill.
     pub fn words_before_fill(self) -> usize {
         self.streams * (4 + ROW + 4 + 2 + 2 + self.ancillary)
     }
@@ -34,13 +34,13 @@ impl Shape {
         self.words() / 2 * 3
     }
 
-    /// The symbol at which the EAV starts, behind SAV and row.
+    /// The symbol at which the EAV starts, after SAV and row.
     pub fn eav_symbol(self) -> usize {
         self.streams * (4 + ROW) / 2 * 3
     }
 }
 
-/// The shape of a format; 1 where format or depth is unknown.
+/// The shape of a format; 1 if format or depth is unknown.
 pub fn shape(format: u32, depth: u32) -> Answer<Shape> {
     refuse_unless(depth == 10 || depth == 12, 1)?;
     match format {
@@ -51,8 +51,8 @@ pub fn shape(format: u32, depth: u32) -> Answer<Shape> {
     }
 }
 
-/// The words of one stream, from the SAV of a line to before the fill. EAV, line number and CRCC are those of the next line; the CRCC runs
-/// from behind the SAV to the last line word (004, 6.4).
+/// The words of one stream, from the SAV of a line up to the fill. EAV, line number and CRCC are those of the next line; the CRCC runs from
+/// after the SAV to the last line word (004, 6.4).
 fn stream(shape: Shape, line: u32, row: &[u16]) -> Answer<Vec<u16>> {
     let next = line_after(line);
     let mut words = timing_code(line, false).to_vec();
@@ -64,7 +64,7 @@ fn stream(shape: Shape, line: u32, row: &[u16]) -> Answer<Vec<u16>> {
     Ok(words)
 }
 
-/// The words of a span: the streams word by word, stream 1 first, and the fill behind them. The rows have twelve-bit words.
+/// The words of a span: the streams word by word, stream 1 first, and the fill after them. The rows have twelve-bit words.
 pub fn words(shape: Shape, line: u32, rows: &[u16]) -> Answer<Vec<u16>> {
     let streams = rows.chunks(ROW).map(|row| stream(shape, line, row)).collect::<Answer<Vec<_>>>()?;
     let mut words: Vec<u16> = (0..streams[0].len()).flat_map(|k| streams.iter().map(move |stream| stream[k])).collect();
@@ -77,7 +77,7 @@ pub fn bytes_of(a: u16, b: u16) -> [u16; 3] {
     [a & 0xFF, (b & 0xF) << 4 | a >> 8, b >> 4]
 }
 
-/// The characters of a span: its bytes, of which the first four of SAV and EAV are replaced (004, 7.1.1).
+/// The characters of a span: its bytes, with the first four of SAV and EAV replaced (004, 7.1.1).
 pub fn characters(shape: Shape, words: &[u16], content: [u8; 4]) -> Vec<u16> {
     let mut characters: Vec<u16> = words.chunks(2).flat_map(|two| bytes_of(two[0], two[1])).collect();
     let [sav1, sav2, eav1, eav2] = content.map(u16::from);
@@ -99,8 +99,8 @@ pub fn symbols(positive: bool, characters: &[u16]) -> (Vec<u16>, bool) {
     (symbols, disparity)
 }
 
-/// The word of a sample: itself on a blanking line, where it is one of twelve bits already, or shifted at depth 10 (004, 6.1). None where
-/// the sample may not be sent (01, "Words of a stream" and "Sending").
+/// The word of a sample: itself on a blanking line, where it already has twelve bits, or shifted at depth 10 (004, 6.1). None if the sample
+/// may not be sent (01, "Words of a stream" and "Sending").
 fn word_of(depth: u32, line: u32, sample: u16) -> Option<u16> {
     match (is_active(line), depth) {
         (false, _) => (sample == BLANKING).then_some(sample),
@@ -115,7 +115,7 @@ pub fn row_words(depth: u32, line: u32, samples: &[u16]) -> Answer<Vec<u16>> {
     samples.iter().enumerate().map(word).collect()
 }
 
-/// What is asked of the sender. Where no content bytes are named, zeros are sent.
+/// What is asked of the sender. If no content bytes are named, zeros are sent.
 #[derive(Clone, Copy, Debug)]
 pub struct Asked {
     pub format: u32,
@@ -141,7 +141,7 @@ pub fn lengths(format: u32, depth: u32) -> Answer<[usize; 2]> {
     shape(format, depth).map(|shape| [shape.samples(), shape.symbols()])
 }
 
-/// The row that is sent on a blanking line, of all streams: 100 (hex) at either depth.
+/// The row sent on a blanking line, of all streams: 100 (hex) at either depth.
 pub fn blanking_row(format: u32, depth: u32, room: usize) -> Answer<Vec<u16>> {
     let shape = shape(format, depth)?;
     refuse_unless(room == shape.samples(), 4)?;

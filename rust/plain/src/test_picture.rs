@@ -1,4 +1,4 @@
-//! The test picture (docs/DECISIONS.md, "The test picture"): rings round the middle, and what a link of the first images carries of it.
+//! The test picture (docs/DECISIONS.md, "The test picture"): rings around the middle, and what a link of the first images carries of it.
 
 use crate::picture::place;
 use crate::span::{Shape, ROW};

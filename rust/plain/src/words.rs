@@ -2,7 +2,7 @@
 
 use crate::{refuse_unless, Answer};
 
-/// 004, 6.8: what stands where nothing else does.
+/// 004, 6.8: the word sent where there is nothing else to send.
 pub const BLANKING: u16 = 0x100;
 
 /// 004, table 5.
@@ -79,7 +79,7 @@ pub fn words_of(line: u32) -> [u16; 2] {
     [guarded(ln0), guarded(ln1)]
 }
 
-/// The single call: 2 for a number that is no stream line.
+/// The single call: 2 for a number that is not a stream line.
 pub fn line_words(line: u32) -> Answer<[u16; 2]> {
     refuse_unless((1..=1125).contains(&line), 2)?;
     Ok(words_of(line))
@@ -103,8 +103,8 @@ pub struct Crcc {
     pub words: [u16; 2],
 }
 
-/// 004, 6.4: the message, lowest bit of each word first, and eighteen zeros behind it, divided by X^18 + X^5 + X^4 + 1. What is left is
-/// the CRCC, the coefficient of X^17 first.
+/// 004, 6.4: the message, lowest bit of each word first, followed by eighteen zeros, divided by X^18 + X^5 + X^4 + 1. The remainder is the
+/// CRCC, the coefficient of X^17 first.
 pub fn crcc_of(words: &[u16]) -> Crcc {
     const TERMS_BELOW_THE_HIGHEST: [usize; 4] = [0, 13, 14, 18];
     let mut bits: Vec<bool> = words.iter().flat_map(|word| (0..12).map(move |n| word >> n & 1 == 1)).collect();
@@ -124,7 +124,7 @@ fn crcc_word(nine: &[bool]) -> u16 {
     guarded(nine.iter().enumerate().map(|(i, &bit)| (bit as u16) << (i + 2)).sum())
 }
 
-/// The single call: 7 where a word is above 4095.
+/// The single call: 7 if a word is above 4095.
 pub fn crcc(words: &[u16]) -> Answer<Crcc> {
     refuse_unless(words.iter().all(|&word| word <= 4095), 7)?;
     Ok(crcc_of(words))

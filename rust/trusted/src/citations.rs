@@ -1,9 +1,9 @@
-//! The clauses that comments cite: `004, 6.4 and table 9`, `document 01, "A span"`, `ANSI INCITS 230`. A clause of 004 that a comment begins
-//! with, as in `6.8: the blanking word`, needs no `004` before it.
+//! The clauses that comments cite: `004, 6.4 and table 9`, `document 01, "A span"`, `ANSI INCITS 230`. A clause of 004 at the beginning of
+//! a comment, as in `6.8: the blanking word`, needs no `004` before it.
 
 const PAPERS: [&str; 4] = ["004", "document 01", "ANSI INCITS 230", "IEEE 802.3"];
 
-/// A word of a list of clauses with what is behind it: a number, a title in quotes, or what joins them.
+/// A word of a list of clauses with what follows it: a number, a title in quotes, or what joins them.
 fn part(text: &str) -> Option<(&str, &str)> {
     if let Some(rest) = text.strip_prefix('"') {
         return rest.find('"').map(|end| text.split_at(end + 2));
@@ -32,7 +32,7 @@ fn list_length(text: &str) -> usize {
     length
 }
 
-/// A clause of 004 at the beginning of a comment, with a colon behind it.
+/// A clause of 004 at the beginning of a comment, followed by a colon.
 fn at_beginning(text: &str) -> Option<String> {
     let length = list_length(text);
     let clause = &text[..length];
@@ -54,7 +54,7 @@ pub fn citations(comments: &[String]) -> Vec<String> {
     found.extend(comments.iter().filter_map(|comment| at_beginning(comment)));
     let bare = |one: &String| ["004", "document 01"].contains(&one.as_str());
     let told = |one: &String| found.iter().any(|other| other.starts_with(&format!("{one}, ")));
-    // A paper by its name alone says nothing beside a clause of it.
+    // A paper's bare name adds nothing to a clause of it.
     let mut kept: Vec<String> = Vec::new();
     for one in found.iter().filter(|one| !bare(one) || !told(one)) {
         if !kept.contains(one) {

@@ -47,7 +47,7 @@ fn sentence(text: &str) -> &str {
 }
 
 impl List<'_> {
-    /// What of a file a part reaches; every part where none is given.
+    /// What a part reaches in a file; what any part does if none is given.
     fn nodes<'b>(&'b self, file: &'b File, part: Option<Part>) -> impl Iterator<Item = usize> + 'b {
         let counts = move |id: &usize| self.reached.part.get(id).is_some_and(|p| part.is_none() || part == Some(*p));
         file.nodes.iter().copied().filter(counts)
@@ -101,7 +101,7 @@ impl List<'_> {
         Ok(())
     }
 
-    /// The files of a crate, each behind those of the crate that it uses.
+    /// The files of a crate, each after those of the crate that it uses.
     fn ordered(&self, krate: &str) -> Vec<&File> {
         let mut left: Vec<&File> = self.project.files.iter().filter(|f| f.krate == krate && f.spec().is_some()).collect();
         let mut ordered = Vec::new();
@@ -162,7 +162,7 @@ impl List<'_> {
         Ok(())
     }
 
-    /// The files of laws: what of them no root reaches.
+    /// The files of laws: what no root reaches in them.
     fn laws(&self, out: &mut String) -> std::fmt::Result {
         writeln!(out, "## Laws: what is proved, and nothing rests on\n")?;
         let files: Vec<&File> = self.project.files.iter().filter(|file| file.is_laws()).collect();

@@ -1,11 +1,12 @@
-//! What a reviewer must believe: follows the definitions of specs/ from the contracts and demands that somebody outside asks for (`roots`), and
-//! holds the project to it. `trusted ROOT` fails where a root comes to a definition in specs/Inside/, where a definition outside of it is
-//! reached from no root, and where docs/TRUSTED.md is not the list that comes out.
+//! What a reviewer must believe: follows the definitions of specs/ from the contracts and demands that somebody outside asks for (`roots`),
+//! and holds the project to it. `trusted ROOT` fails if a root reaches a definition in specs/Inside/, if a definition outside of it is
+//! reached from no root, and if docs/TRUSTED.md is not the resulting list.
 //!
-//! With `--write` it writes that list. With `--statistics` it prints its numbers alone, and with `--unreached` the definitions that belong into
-//! Inside/: path, first line of the comment, first line, last line and name of each.
+//! With `--write` it writes that list. With `--statistics` it prints only its numbers, and with `--unreached` the definitions that belong
+//! in Inside/: path, first line of the comment, first line, last line and name of each.
 //!
-//! `words` and `names` read antt, `specs` and `source` the two kinds of files, `project` puts them together, `reach` follows, `list` writes.
+//! `words` and `names` read antt, `specs` and `source` the two kinds of files, `project` puts them together, `reach` follows references,
+//! and `list` writes.
 
 mod citations;
 mod list;

@@ -1,18 +1,18 @@
-//! Which names a piece of antt takes from outside: those that no pattern, binder, `λ` or `let` of its own brings.
+//! Which names a piece of antt takes from outside: those that no pattern, binder, `λ` or `let` of its own binds.
 
 use crate::words::Word;
 
 /// Reads pieces of one definition, and gathers the names it takes from outside.
 pub struct Reader<'a> {
-    /// What is bound, and how many brackets were open where it was.
+    /// What is bound, and how many brackets were open there.
     bound: Vec<(&'a str, usize)>,
-    /// Names of each `let` whose `in` has not come.
+    /// Names of each `let` whose `in` has not come yet.
     let_names: Vec<Vec<&'a str>>,
     open: usize,
     pub taken: Vec<&'a str>,
 }
 
-/// The names from here on, up to the first word that is none or is one of the ends.
+/// The names from here on, up to the first word that is not a name or is one of the ends.
 fn names_until<'a>(words: &[Word<'a>], ends: &[&str]) -> Vec<&'a str> {
     let name = |w: &Word<'a>| match w {
         Word::Name(n) if !ends.contains(n) => Some(*n),
@@ -21,7 +21,7 @@ fn names_until<'a>(words: &[Word<'a>], ends: &[&str]) -> Vec<&'a str> {
     words.iter().map_while(name).collect()
 }
 
-/// The place of a sign outside of brackets.
+/// The place of a sign outside brackets.
 fn top_level(words: &[Word], sign: &str) -> Option<usize> {
     let mut open = 0;
     words.iter().position(|w| {
@@ -86,7 +86,7 @@ impl<'a> Reader<'a> {
         }
     }
 
-    /// `x` of `let x = ..`, which is bound only behind the `in`.
+    /// `x` of `let x = ..`, which is bound only after the `in`.
     fn is_let_name(&self, words: &[Word<'a>], i: usize) -> bool {
         i > 0 && words[i - 1] == Word::Name("let")
     }
@@ -109,7 +109,7 @@ impl<'a> Reader<'a> {
         self.expression(words.get(at + 1..).unwrap_or_default());
     }
 
-    /// `f pattern .. = expression`: what the patterns name is bound in the expression alone, constructors apart.
+    /// `f pattern .. = expression`: what the patterns name is bound only in the expression, except for constructors.
     pub fn clause(&mut self, words: &[Word<'a>], constructs: &dyn Fn(&str) -> bool) {
         let at = top_level(words, "=").unwrap_or(words.len());
         let outside = self.bound.len();

@@ -14,7 +14,7 @@ pub struct Node {
     pub file: usize,
     /// The first line of its comment, its own first line, its last.
     pub lines: [usize; 3],
-    /// How many lines there are to read, comments among them.
+    /// How many lines there are to read, comments included.
     pub size: usize,
     pub refers: Vec<usize>,
 }
@@ -85,7 +85,7 @@ fn key(krate: &str, module: &str, name: &str) -> Key {
     (krate.to_string(), module.to_string(), name.to_string())
 }
 
-/// What a name stands for, and whether it may stand in a pattern without being bound there.
+/// What a name stands for, and whether it may be in a pattern without being bound there.
 #[derive(Clone, Copy)]
 struct Meant {
     node: usize,
@@ -105,7 +105,7 @@ pub struct Project {
     pub faults: Vec<String>,
 }
 
-/// The files below a folder that end so, by name.
+/// The files below a folder with this ending, by name.
 fn below(folder: &Path, ending: &str) -> Vec<PathBuf> {
     let entries = fs::read_dir(folder).into_iter().flatten().flatten();
     let mut paths: Vec<PathBuf> = entries.map(|entry| entry.path()).collect();
@@ -164,7 +164,7 @@ impl Project {
         }
     }
 
-    /// What one name of a `use` line stands for. Of a type's variants it is the type.
+    /// What one name of a `use` line stands for. For a type's variants it is the type.
     fn meant(&self, used: &Use, name: &str) -> Option<Meant> {
         let module = used.module.trim_end_matches(".the-variants");
         let (module, name) = match module.starts_with("declared.") {
@@ -195,7 +195,7 @@ impl Project {
         (scope, faults)
     }
 
-    /// Crate, module and name of a path `a::b::c` in a file of src/: of its own crate where that has such a module.
+    /// Crate, module and name of a path `a::b::c` in a file of src/: in its own crate if that has such a module.
     pub fn resolved(&self, krate: &str, path: &[String]) -> Option<Key> {
         let (name, modules) = path.split_last()?;
         let inner = modules.strip_prefix(&["crate".to_string()]).unwrap_or(modules);

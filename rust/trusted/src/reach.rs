@@ -29,7 +29,7 @@ pub struct Reached {
 
 type Functions<'a> = Vec<(&'a File, &'a Function)>;
 
-/// The functions of a crate that are wanted, by module and function.
+/// The wanted functions of a crate, by module and function.
 fn functions<'a>(project: &'a Project, krate: &str, wanted: &dyn Fn(&str, &Function) -> bool) -> Functions<'a> {
     let files = project.files.iter().filter(|file| file.krate == krate);
     let all = files.flat_map(|file| file.source().into_iter().flat_map(move |source| source.functions.iter().map(move |f| (file, f))));
@@ -124,7 +124,7 @@ impl Reached {
         }
     }
 
-    /// Definitions that no root reaches, outside of Inside/ and of the files of laws.
+    /// Definitions that no root reaches, outside Inside/ and the files of laws.
     pub fn unreached<'a>(&'a self, project: &'a Project) -> impl Iterator<Item = usize> + 'a {
         let asked = |file: &File| file.spec().is_some() && !file.is_inside() && !file.is_laws();
         (0..project.nodes.len()).filter(move |id| asked(&project.files[project.nodes[*id].file]) && !self.part.contains_key(id))

@@ -1,6 +1,6 @@
-//! Where the reading begins. What is said here is what somebody outside asks for; everything else is reached from it.
+//! Where the reading begins. What is listed here is what somebody outside asks for; everything else is reached from it.
 
-/// For whom a root stands.
+/// For whom a root is.
 #[derive(Clone, Copy, PartialEq, Eq, Debug)]
 pub enum Part {
     /// the customers' calls, and the demands
@@ -9,7 +9,7 @@ pub enum Part {
     Programs,
 }
 
-/// What of a crate is a root.
+/// What part of a crate is a root.
 #[derive(Clone, Copy, PartialEq, Eq, Debug)]
 pub enum Start {
     /// the contracts of what is marked `#[no_mangle] pub extern "C" fn`

@@ -7,7 +7,7 @@ pub struct Function {
     pub name: String,
     pub public: bool,
     pub exported: bool,
-    /// What stands before the contract.
+    /// What comes before the contract.
     pub signature: String,
     /// Each `requires` and `ensures`, without its label.
     pub clauses: Vec<String>,
@@ -21,7 +21,7 @@ pub struct Type {
     pub name: String,
     pub from: usize,
     pub to: usize,
-    /// Its lines, with those of the comment and the marks above it.
+    /// Its lines, with those of the comment and the attributes above it.
     pub size: usize,
     pub text: String,
 }
@@ -55,14 +55,14 @@ fn first_name(text: &str) -> String {
     text.chars().take_while(|c| is_part(*c)).collect()
 }
 
-/// The name, where a struct or an enum begins in this line.
+/// The name, if a struct or an enum begins in this line.
 fn type_begins(line: &str) -> Option<String> {
     let text = strip(line, &["pub ", "pub(crate) "]);
     let text = text.strip_prefix("struct ").or(text.strip_prefix("enum "))?;
     Some(first_name(text))
 }
 
-/// From the line of its name to the bracket or the semicolon that ends it.
+/// From the line of its name to the brace or the semicolon that ends it.
 fn read_type(lines: &[&str], start: usize, name: String) -> Type {
     let ends = |line: &&str| line.starts_with('}') || (!line.starts_with(' ') && line.ends_with([';', '}']));
     let length = lines[start..].iter().position(ends).unwrap_or(0) + 1;
@@ -83,7 +83,7 @@ fn clause(text: &str) -> String {
     text[at..].to_string()
 }
 
-/// The contract ends at the `{` of the body, which has a line of its own; without a contract that bracket ends the line of the signature.
+/// The contract ends at the `{` of the body, which has a line of its own; without a contract that brace ends the line of the signature.
 fn read_function(lines: &[&str], start: usize, name: String) -> Function {
     let first = lines[start].trim_start();
     let (public, marked) = (strip(first, &["pub extern \"C\" "]).len() < first.len() || first.starts_with("pub fn"), start > 0);
@@ -106,7 +106,7 @@ fn read_function(lines: &[&str], start: usize, name: String) -> Function {
     function
 }
 
-/// The paths that a bracket follows.
+/// The paths followed by a parenthesis.
 fn calls(line: &str) -> Vec<Vec<String>> {
     let code = line.split("//").next().unwrap_or("");
     let heads = code.match_indices('(').map(|(at, _)| &code[..at]);

@@ -1,5 +1,5 @@
-//! A file of specs/: its head, its `use` lines and its definitions, told by how `rt fmt` lays them out. A definition begins at its signature,
-//! or at `record` or `data`, and has the lines below it that stand deeper, and those of its clauses.
+//! A file of specs/: its head, its `use` lines and its definitions, recognized by how `rt fmt` lays them out. A definition begins at its
+//! signature, or at `record` or `data`, and has the lines below it that are indented further, and those of its clauses.
 
 use crate::words::{spelt, without_comment, words, Word};
 
@@ -30,7 +30,7 @@ pub struct Definition {
     pub to: usize,
     /// Its lines that are not empty, with those of its comments.
     pub size: usize,
-    /// What it has one under the other: signature and clauses, or head and fields. The texts have no comments.
+    /// Its parts in order: signature and clauses, or head and fields. The texts have no comments.
     pub pieces: Vec<String>,
     pub constructors: Vec<String>,
     /// The parameters of the `module _` blocks around it.
@@ -42,7 +42,7 @@ pub struct Spec {
     pub head: String,
     pub comments: Vec<String>,
     pub uses: Vec<Use>,
-    /// Lines in no form that is known here: what they refer to is not followed.
+    /// Lines in a form that is not known here: what they refer to is not followed.
     pub strange: Vec<String>,
     pub definitions: Vec<Definition>,
 }
@@ -51,13 +51,13 @@ fn indent(line: &str) -> usize {
     line.len() - line.trim_start_matches(' ').len()
 }
 
-/// What is `a as b` in a list of names.
+/// An `a as b` in a list of names.
 fn name_pair(text: &str) -> (String, String) {
     let (there, here) = text.split_once(" as ").unwrap_or((text, text));
     (there.trim().to_string(), here.trim().to_string())
 }
 
-/// A `use` of another definition of this project; none where it is of a library or of proofs, an error where its form is not known.
+/// A `use` of another definition of this project; none if it is of a library or of proofs, an error if its form is not known.
 pub fn parse_use(line: &str) -> Result<Option<Use>, ()> {
     let text = line.trim().trim_end_matches(';');
     let text = text.strip_prefix("ghost ").unwrap_or(text);
@@ -74,7 +74,7 @@ pub fn parse_use(line: &str) -> Result<Option<Use>, ()> {
     Ok(Some(Use { krate, module: module.to_string(), names: vec![(String::new(), name.to_string())] }))
 }
 
-/// The kind and the name, where a definition begins in this line.
+/// The kind and the name, if a definition begins in this line.
 fn begins(line: &str) -> Option<(Kind, &str)> {
     let text = line.trim_start();
     let text = text.strip_prefix("abbrev ").or(text.strip_prefix("unfoldable ")).unwrap_or(text);
@@ -91,7 +91,7 @@ fn begins(line: &str) -> Option<(Kind, &str)> {
 
 struct Parser {
     spec: Spec,
-    /// The `module _` blocks that are open: where their definitions stand, and their parameters.
+    /// The `module _` blocks that are open: the column of their definitions, and their parameters.
     blocks: Vec<(usize, String)>,
     /// Whether the last line belongs to the last definition.
     inside: bool,
@@ -130,7 +130,7 @@ impl Parser {
         self.within = 0;
     }
 
-    /// Whether a line that stands where definitions do belongs to the last one.
+    /// Whether a line at the column of definitions belongs to the last one.
     fn is_clause(&self, code: &str) -> bool {
         let names = self.spec.definitions.last().map_or(Vec::new(), |last| spelt(&last.name));
         code.trim().starts_with("unfolding ")
@@ -167,7 +167,7 @@ impl Parser {
         self.above = if code.trim_start().starts_with("infix") { self.above + 1 } else { 0 };
     }
 
-    /// An empty line or a comment. A comment that stands deeper, between the fields of a record, does not end it.
+    /// An empty line or a comment. A comment that is indented further, between the fields of a record, does not end it.
     fn no_code(&mut self, line: &str) {
         let Some(text) = line.trim().strip_prefix("--").map(|text| text.trim_start_matches(['-', ' '])) else {
             self.heading = false;
@@ -191,7 +191,7 @@ impl Parser {
         let standing = indent(code) == self.column();
         match begins(code) {
             _ if code.starts_with("use ") || code.starts_with("pub use ") => self.used(code),
-            // A name by its whole path is not followed.
+            // A name with its whole path is not followed.
             _ if code.contains("Rattle·") => self.spec.strange.push(code.trim().to_string()),
             _ if standing && code.trim_start().starts_with("module _") => self.opens(code),
             _ if code.trim_start().starts_with("infix") || code.starts_with("pub mod ") || code.starts_with("mod ") => {}
@@ -208,7 +208,7 @@ impl Parser {
     }
 }
 
-/// Lines with a list or a head that is broken off joined into the first, so that line numbers stay.
+/// Lines of a list or a head that is broken off are joined into the first, so that line numbers stay.
 fn joined(text: &str) -> Vec<String> {
     let mut lines: Vec<String> = text.lines().map(String::from).collect();
     for i in 0..lines.len() {

@@ -1,17 +1,17 @@
-//! The words of antt: names, brackets, and the signs between them. A name is whatever stands between blanks, brackets, commas, semicolons and
+//! The words of antt: names, brackets, and the signs between them. A name is anything between blanks, brackets, commas, semicolons and
 //! dots, so that `foo-bar`, `n'`, `«K28_5»` and `⊕` are one each.
 
 #[derive(Debug, Clone, Copy, PartialEq, Eq)]
 pub enum Word<'a> {
     Name(&'a str),
-    /// A name directly behind a dot: a field, a variant, or the rest of a path. It is resolved by what stands before it.
+    /// A name directly after a dot: a field, a variant, or the rest of a path. It is resolved by what is before it.
     Behind(&'a str),
     Open(char),
     Close,
     Sign(char),
 }
 
-/// A line without what stands behind `--`.
+/// A line without its `--` comment.
 pub fn without_comment(line: &str) -> &str {
     let starts = |at: &usize| line[..*at].ends_with(|c: char| c.is_whitespace()) || *at == 0;
     match line.match_indices("--").map(|(at, _)| at).find(starts) {

@@ -1,9 +1,9 @@
--- A register that runs on over words of zeros.
+-- A register run on over words of zeros.
 -- Assumes nothing.
 use Prim.Native.Nat.{ℕ, zero, suc}
 use Rattle.crcc.specs.Crcc.{crcWord}
 
--- a register after n words of zeros
+-- the register after n words of zeros
 unfoldable pub ahead : ℕ → ℕ → ℕ
 ahead zero c = c
 ahead (suc n) c = ahead n (crcWord c 0)

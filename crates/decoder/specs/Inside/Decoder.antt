@@ -19,8 +19,8 @@ use Rattle.symbol.specs.Inside.Disparity.{flippedIf}
 use Rattle.decoder.specs.Decode.{After}
 use Rattle.decoder.specs.Meaning.{Means, meantBy}
 
--- an entry: the character's number in bits 0 to 8, bit 9 where it is legal at negative disparity, bit 10 at positive, and bits 11 and 12
--- where it flips the disparity, and bit 13 where it is a byte; 0 for no symbol
+-- an entry: the character's number in bits 0 to 8, bit 9 set if it is legal at negative disparity, bit 10 if at positive, bits 11 and 12
+-- if it flips the disparity, and bit 13 if it is a byte; 0 if the number is not a symbol
 abbrev pub entryFrom : Option ℕ → Bool → Bool → ℕ
 entryFrom none n p = 0
 entryFrom (some c) n p = c + 512 * bit n + 1024 * bit p + 6144 * bit (flips c) + 8192 * bit (ltb c 256)
@@ -31,7 +31,7 @@ entryOf s = entryFrom (meantBy s) (isSome (charOf Negative s)) (isSome (charOf P
 unfoldable pub decodingTable : List ℕ
 decodingTable = table 1024 entryOf
 
--- the entry of symbol s in a table; above 1023, that of no symbol
+-- the entry of symbol s in a table; above 1023, the entry for no symbol
 abbrev pub entryIn : List ℕ → ℕ → ℕ
 entryIn t s = cond (ltb s 1024) (getD t s 0) 0
 

@@ -1,4 +1,4 @@
--- The entries of the decoding table for a loop, which keeps the disparity as the bit of an entry that says whether it is legal there.
+-- The entries of the decoding table for a loop, which keeps a disparity as the entry bit that says whether a symbol is legal at it.
 -- Assumes nothing.
 use Prim.Native.Nat.{ℕ, _/_}
 use mathlib.Core.Bool.{Bool, not, cond}

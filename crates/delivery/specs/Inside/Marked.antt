@@ -1,5 +1,5 @@
--- What is asked of a reading of windows so that none of them can begin inside another: what loops and proofs keep for themselves. The
--- rest stands in specs/Marked.
+-- What a reading of windows must satisfy so that no window can begin inside another: the part that only loops and proofs use. The rest
+-- is in specs/Marked.
 -- Assumes nothing.
 use Prim.Native.Nat.{ℕ, _≤_, _<_}
 use mathlib.Core.Path.{_≡_}
@@ -8,12 +8,12 @@ use mathlib.Core.List.{List}
 use mathlib.Core.Option.{Option, some}
 use lib.ListN.{length, getD}
 
--- windows of n symbols, and no others, are read
+-- only windows of n symbols are read
 pub record Whole {A : Type 0} (n : ℕ) (read : List ℕ → Option A) : Type 0 where
   pub least : 1 ≤ n
   pub long : (w : List ℕ) (a : A) → read w ≡ some a → length w ≡ n
 
--- they have a mark at their first two symbols and at no other
+-- they are marked at their first two symbols and nowhere else
 pub record Marked {A : Type 0} (n : ℕ) (read : List ℕ → Option A) (mark : ℕ → Bool) : Type 0 where
   pub three : 3 ≤ n
   pub whole : Whole n read

@@ -23,7 +23,7 @@ ofOffset n = cond (eqb n 0) Negative Positive
 unfoldable pub symbolTable : List ℕ
 symbolTable = table 536 (λ i. symbolOf (ofOffset (i / 268)) (i % 268))
 
--- 268 for a character that flips the disparity, else 0: the offset after it is the exclusive or of the offset before it with this
+-- 268 for a character that flips the disparity, else 0: the offset after it is the offset before it, exclusive-ored with this
 -- (law `after-at`)
 unfoldable pub flipTable : List ℕ
 flipTable = table 268 (λ c. cond (flips c) 268 0)

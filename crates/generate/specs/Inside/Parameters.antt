@@ -1,4 +1,4 @@
--- What is asked of the test generator: what loops and proofs keep for themselves. The rest stands in specs/Parameters.
+-- What is asked of the test generator: definitions that only loops and proofs use. The rest is in specs/Parameters.
 -- Assumes nothing.
 use Rattle.ground.specs.Answer.{Answer, refused, given}
 use Rattle.generate.specs.declared.parameters.Parameters.{Parameters}

@@ -1,4 +1,4 @@
--- What is written, piece by piece: what loops and proofs keep for themselves. The rest stands in specs/Pieces.
+-- What is written, piece by piece: definitions that only loops and proofs use. The rest is in specs/Pieces.
 -- Assumes nothing.
 use Prim.Native.Nat.{ℕ, _-_}
 use mathlib.Core.List.{List}
@@ -26,7 +26,7 @@ nextLeft s =
       count = s .count - 1;
     }
 
--- the disparity after a span that was sent; as it was where it was refused
+-- the disparity after a span that was sent; unchanged if it was refused
 abbrev pub afterOr : Disparity → Answer Disparity → Disparity
 afterOr d (refused number place) = d
 afterOr d (given e) = e

@@ -1,4 +1,4 @@
--- What the reader's private functions are given, and the tests that they ask.
+-- What the reader's private functions are given, and the tests that they make.
 -- Assumes nothing.
 use Prim.Native.Nat.{ℕ}
 use mathlib.Core.Path.{_≡_}
@@ -22,6 +22,6 @@ pub record IsWindow (f : Format) (w : List ℕ) : Type 0 where
 abbrev pub pictureTests : Format → List ℕ → List Row
 pictureTests f w = drop 4 (wordTests f (wordAt (shapeOf f) w))
 
--- the picture of line n may be one
+-- line n may carry this picture
 abbrev pub rightPicture : Format → ℕ → List ℕ → Bool
 rightPicture f n rows = cond (isActive n) (allAllowed (f .depth) rows) true

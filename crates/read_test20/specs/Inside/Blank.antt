@@ -14,17 +14,17 @@ pub record Blank : Type 0 where
   pub second : ℕ
   pub third : ℕ
 
--- at the disparity of a bit
+-- at the disparity of a mask bit
 abbrev pub blankBy : ℕ → Blank
 blankBy m =
     let d = ofMask m in
     record { first = symbolOf d 0x00; second = symbolOf d 0x01; third = symbolOf d 0x10 }
 
--- each symbol from the fourth on is the one three before it
+-- each symbol from the fourth on equals the one three before it
 pub record Repeats (w : List ℕ) (from to : ℕ) : Type 0 where
   pub again : (i : ℕ) → from ≤ i → i + 3 < to → symbolAt w (i + 3) ≡ symbolAt w i
 
--- three by three they are the symbols of two blanking words, at the disparity at which flips has been gathered
+-- in threes they are the symbols of two blanking words, at the running disparity that `flips` records
 pub record AreBlank (w : List ℕ) (from to flips : ℕ) : Type 0 where
   pub first : (q : ℕ) → from + 3 * q < to → symbolAt w (from + 3 * q) ≡ blankBy (maskBy flips) .first
   pub second : (q : ℕ) → from + 3 * q + 1 < to → symbolAt w (from + 3 * q + 1) ≡ blankBy (maskBy flips) .second

@@ -1,4 +1,4 @@
--- What the loop over the picture keeps: rows of the words so far, and what is gathered of their symbols.
+-- What the loop over the picture keeps: rows of the words so far, and what is gathered from their symbols.
 -- Assumes nothing.
 use mathlib.Core.Path.{_≡_}
 use Prim.Native.Nat.{ℕ, _+_, _*_, _≤_}
@@ -14,7 +14,7 @@ use Rattle.window.specs.Inside.Given.{plainPair}
 use Rattle.read_test20.specs.Inside.Run.{RunInv}
 use Rattle.read_test20.specs.Inside.See.{seenThree, seenSix, GatherInv, maskBy}
 
--- word i of the picture, of streams 2u and 2u + 1 of so many pairs
+-- word i of the picture in streams 2u and 2u + 1, with this many pairs of streams
 abbrev pub pairIn : ℕ → List ℕ → ℕ → ℕ → TwoWords
 pairIn pairs w u i = plainPair w (3 * (pairs * (4 + i) + u))
 
@@ -22,7 +22,7 @@ pairIn pairs w u i = plainPair w (3 * (pairs * (4 + i) + u))
 abbrev pub putPair : TwoWords → ℕ → List ℕ → List ℕ
 putPair x at rows = set (set rows at (x .a)) (1920 + at) (x .b)
 
--- after word j of two streams, and the rows with it
+-- what is gathered after word j of two streams, and the rows then
 abbrev pub placeTwo : List ℕ → ℕ → Passed → Passed
 placeTwo w j v =
     let x = seenThree w (12 + 3 * j) (v .good) (v .flips) in
@@ -31,7 +31,7 @@ placeTwo w j v =
 abbrev pub rowsTwo : List ℕ → ℕ → List ℕ → List ℕ
 rowsTwo w j rows = putPair (plainPair w (12 + 3 * j)) j rows
 
--- after word j of four
+-- the same for four streams
 abbrev pub placeFour : List ℕ → ℕ → Passed → Passed
 placeFour w j v =
     let x = seenSix w (24 + 6 * j) (v .good) (v .flips) in
@@ -40,7 +40,7 @@ placeFour w j v =
 abbrev pub rowsFour : List ℕ → ℕ → List ℕ → List ℕ
 rowsFour w j rows = putPair (plainPair w (24 + 6 * j + 3)) (3840 + j) (putPair (plainPair w (24 + 6 * j)) j rows)
 
--- words 0 to j - 1 of two streams, in rows of so many words
+-- words 0 to j - 1 of two streams, in rows of `count` words
 pub record TwoRowsInv (A B : ℕ → ℕ) (count low high : ℕ) (old : List ℕ) (j : ℕ) (rows : List ℕ) : Type 0 where
   pub some : j ≤ count
   pub apart : high ≡ low + count
@@ -51,8 +51,7 @@ abbrev pub PutPairs : ℕ → List ℕ → ℕ → ℕ → List ℕ → ℕ → 
 PutPairs pairs w u low old j rows =
     TwoRowsInv (λ i. pairIn pairs w u i .a) (λ i. pairIn pairs w u i .b) 1920 low (low + 1920) old j rows
 
--- the first j words of all streams have been taken: those of two into a buffer, and those of the other two, where there are four, into the
--- buffer with these
+-- the first j words of all streams have been put into a buffer: those of two streams, and then those of the other two if there are four
 pub record RowsInv (pairs : ℕ) (w old : List ℕ) (j : ℕ) (v : Passed) (rows : List ℕ) : Type 0 where
   pub clean : GatherInv w (12 * pairs) (12 * pairs + 3 * pairs * j) (v .good) (v .flips)
   pub low-rows : List ℕ
@@ -60,12 +59,12 @@ pub record RowsInv (pairs : ℕ) (w old : List ℕ) (j : ℕ) (v : Passed) (rows
   pub two : pairs ≡ 1 → rows ≡ low-rows
   pub four : pairs ≡ 2 → PutPairs pairs w 1 3840 low-rows j rows
 
--- so many words of each stream are as they should be, and after them this has been gathered
+-- the first j picture words of each stream are valid, and `flips` has been gathered after them
 pub record Come (pairs : ℕ) (w : List ℕ) (j flips : ℕ) : Type 0 where
   pub some : j ≤ 1920
   pub going : RunInv w 0 255 (12 * pairs) (12 * pairs + 3 * pairs * j) (maskBy flips)
 
--- the rows of these two streams put into a buffer of rows of so many words
+-- the rows of streams 2u and 2u + 1 put into a buffer whose rows have `count` words
 abbrev pub putTwo : Shape → List ℕ → ℕ → ℕ → ℕ → List ℕ → List ℕ
 putTwo p w u first count buffer =
     sets (sets buffer (2 * u * count) (columnOf p w first count (2 * u))) (2 * u * count + count)

@@ -1,4 +1,4 @@
--- Symbols one after the other through the decoding table, at the running disparity, and test 20 over a whole window.
+-- Symbols run through the decoding table one after another, at the running disparity, and test 20 over a whole window.
 -- Assumes nothing.
 use mathlib.Core.Path.{_≡_}
 use Prim.Native.Nat.{ℕ, _%_, _≤_, _<_}
@@ -14,7 +14,7 @@ use Rattle.span.specs.declared.format.Shape.{Shape}
 use Rattle.window.specs.Scan.{meant, symbolAt, startOf, runningAt, fits, holds20}
 use Rattle.read_test20.specs.declared.place.Scanned.{Scanned}
 
--- an entry that is legal at the disparity of a bit, with a character whose number is from low to high
+-- an entry that is legal at the disparity of a mask bit, with a character number from low to high
 abbrev pub suitsBy : ℕ → ℕ → ℕ → ℕ → Bool
 suitsBy low high mask e = legalBy mask e && within low high (e % 512)
 
@@ -22,17 +22,17 @@ suitsBy low high mask e = legalBy mask e && within low high (e % 512)
 unfoldable pub suits : List ℕ → ℕ → ℕ → ℕ → Bool
 suits w low high i = isSome (charOf (runningAt w i) (symbolAt w i)) && within low high (meant (symbolAt w i))
 
--- a run from one place on has come to i, with this bit: every symbol suits
+-- a run that began at `from` has reached i with this mask bit, and every symbol suited
 pub record RunInv (w : List ℕ) (low high from i mask : ℕ) : Type 0 where
   pub come : from ≤ i
   pub bit : mask ≡ maskOf (runningAt w i)
   pub suited : (j : ℕ) → from ≤ j → j < i → suits w low high j ≡ true
 
--- the same for test 20 at symbol i, whichever kind of character stands there
+-- the same for test 20 at symbol i, whichever kind of character belongs there
 abbrev pub holdsBy : Shape → ℕ → ℕ → ℕ → Bool
 holdsBy p i mask e = legalBy mask e && fits p i (e % 512)
 
--- test 20 holds at every symbol before i, and this is the bit there
+-- test 20 holds at every symbol before i, and this is the mask bit there
 pub record ScanInv (p : Shape) (w : List ℕ) (i mask : ℕ) : Type 0 where
   pub within : i ≤ length w
   pub bit : mask ≡ maskOf (runningAt w i)

@@ -1,4 +1,4 @@
--- What is gathered of symbols without an early exit. That it says what it should is the law `see-turn`.
+-- What is gathered from symbols without an early exit. That it is correct is the law `see-turn`.
 -- Assumes nothing.
 use mathlib.Core.Path.{_≡_}
 use Prim.Native.Nat.{ℕ, _+_, _-_, _*_, _/_, _%_, _≤_, _<_}
@@ -44,15 +44,15 @@ seenSix w o good flips =
 abbrev pub passesBy : ℕ → Bool
 passesBy good = eqb (good / 512 % 4) 3 && eqb (good / 8192 % 2) 1
 
--- the bit of the running disparity, where bits 11 and 12 have that of the other
+-- the mask bit of the running disparity; bits 11 and 12 of `flips` have that of the other
 abbrev pub maskBy : ℕ → ℕ
 maskBy flips = 1536 - flips / 2048 % 4 * 512
 
--- all symbols from one place to another are bytes that are legal where they stand
+-- all symbols from one place to another are bytes that are legal at their running disparity
 pub record AreBytes (w : List ℕ) (from to : ℕ) : Type 0 where
   pub each : (j : ℕ) → from ≤ j → j < to → suits w 0 255 j ≡ true
 
--- nothing is missing just where all symbols up to i are such bytes
+-- `good` passes exactly when all symbols up to i are such bytes
 pub record GatherInv (w : List ℕ) (from i good flips : ℕ) : Type 0 where
   pub come : from ≤ i
   pub fits : flips < 16384

@@ -1,4 +1,4 @@
--- What the parts of one pass say of a window, and what all of it says.
+-- What each part of the single pass establishes about a window, and what the whole pass does.
 -- Assumes nothing.
 use mathlib.Core.Path.{_≡_}
 use Prim.Native.Nat.{ℕ, _+_, _*_, _<_}
@@ -19,7 +19,7 @@ use Rattle.read_test20.specs.declared.whole.Taken.{Taken}
 use Rattle.read_test20.specs.Inside.Run.{suits, RunInv, place20, scannedOf}
 use Rattle.read_test20.specs.Inside.See.{maskBy}
 
--- a special character at a place and after it, legal there
+-- a special character at a place and at the next, legal at both
 pub record Twice (w : List ℕ) (c at : ℕ) : Type 0 where
   pub first : suits w c c at ≡ true
   pub second : suits w c c (at + 1) ≡ true
@@ -28,15 +28,15 @@ pub record Twice (w : List ℕ) (c at : ℕ) : Type 0 where
 pub record AllHold (p : Shape) (w : List ℕ) : Type 0 where
   pub each : (j : ℕ) → j < length w → holds20 p w j ≡ true
 
--- a window of a known format with its rows, at whose every symbol test 20 holds
+-- a window of a known format, with rows of its length, for which test 20 holds at every symbol
 abbrev pub wholeIf : Format → List ℕ → ℕ → Bool
 wholeIf f w room = ready f (length w) room && eqb (place20 (shapeOf f) w) (length w)
 
--- its place of test 20; 0 for what is none
+-- its place of test 20; 0 for anything that is not a window with such rows
 abbrev pub placeIf20 : Format → List ℕ → ℕ → ℕ
 placeIf20 f w room = cond (ready f (length w) room) (place20 (shapeOf f) w) 0
 
--- what is gathered before symbol i tells the running disparity there
+-- what is gathered before symbol i records the running disparity there
 pub record Tied (w : List ℕ) (i flips : ℕ) : Type 0 where
   pub fits : flips < 16384
   pub bit : maskBy flips ≡ maskOf (runningAt w i)
@@ -51,12 +51,12 @@ pub record Begun (w : List ℕ) (flips : ℕ) : Type 0 where
 pub record EavHolds (w : List ℕ) (at flips : ℕ) : Type 0 where
   pub going : maskBy flips ≡ maskOf (runningAt w at) → RunInv w 266 266 at (at + 2) (maskBy flips)
 
--- bytes from one place to another, and what has been gathered then
+-- bytes from one place to another, and what has been gathered after them
 pub record RunTo (w : List ℕ) (from to flips : ℕ) : Type 0 where
   pub fits : flips < 16384
   pub going : RunInv w 0 255 from to (maskBy flips)
 
--- all that stands after the picture
+-- everything after the picture
 pub record Ending (p : Shape) (w : List ℕ) (flips after : ℕ) : Type 0 where
   pub eav : RunInv w 266 266 (5772 * p .«stream_pairs») (5772 * p .«stream_pairs» + 2) (maskBy flips)
   pub bytes : RunInv w 0 255 (5772 * p .«stream_pairs» + 2) (length w) (maskBy after)

@@ -1,4 +1,4 @@
--- What the calls answer: of what is no window of a known format, nothing.
+-- What the calls answer: nothing for anything that is not a window of a known format.
 -- Assumes nothing.
 use Prim.Native.Nat.{ℕ, _+_, _*_}
 use mathlib.Core.Bool.{Bool, cond, _&&_}

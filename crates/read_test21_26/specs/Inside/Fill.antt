@@ -9,6 +9,6 @@ use Rattle.span.specs.declared.format.Format.{Format}
 use Rattle.span.specs.Format.{isKnown, shapeOf, symbolsIn}
 use Rattle.window.specs.Inside.Fill.{fillRight}
 
--- the same of a call: only a window has fill
+-- the same for a call: only a window has fill
 abbrev pub fillIf : Format → List ℕ → Bool
 fillIf f w = isKnown f && (eqb (length w) (symbolsIn (shapeOf f)) && fillRight (shapeOf f) w)

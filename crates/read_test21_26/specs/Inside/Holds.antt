@@ -23,26 +23,26 @@ use Rattle.crcc.specs.Inside.Sums.{sumIn}
 use Rattle.window.specs.Words.{wordAt}
 use Rattle.window.specs.Inside.Given.{Given}
 
--- what is known besides: the line that stream 1 names
+-- also known: the line that stream 1 names
 pub record LineKnown (p : Shape) (t w : List ℕ) (next : StreamLine) : Type 0 where
   pub given : Given p t w
   pub named : next .0 ≡ nextLine (streams p) (wordAt p w)
 
--- test 25 or 26 of a word, where it is asked
+-- test 25 or 26 of a word, where it applies
 abbrev pub picture25 : Format → ℕ → (ℕ → ℕ) → ℕ → ℕ → Bool
 picture25 f s word j t = allowedWord (f .depth) (wordOf s word j t)
 
 abbrev pub fill26 : ℕ → (ℕ → ℕ) → ℕ → ℕ → Bool
 fill26 s word j t = eqb (wordOf s word j t) fillWord
 
--- the CRCC words of stream t, whose picture leaves c
+-- the CRCC words of stream t, whose picture leaves the CRC at c
 unfoldable pub crccReceived : Shape → List ℕ → ℕ → ℕ → CrccWords
 crccReceived p w t c =
     let s = streams p in
     crccWords
     (crc c (column s (wordAt p w) 1924 3 t ++ (repaired (wordOf s (wordAt p w) 1927 t) ∷ column s (wordAt p w) 1928 2 t)))
 
--- test 24 where the pictures of the streams leave these sums; it is test 24 where they are the sums of the window (law `sums-right`)
+-- test 24, given the sums that the pictures of the streams leave; it is test 24 if these are the sums of the window (law `sums-right`)
 unfoldable pub holds24By : Shape → List ℕ → Sums → ℕ → ℕ → Bool
 holds24By p w c j t =
     let word = wordOf (streams p) (wordAt p w) j t in
@@ -63,10 +63,10 @@ holdsOf number f p w c =
 abbrev pub holdsAt : ℕ → Format → Shape → List ℕ → Sums → ℕ → Bool
 holdsAt number f p w c = placed (streams p) (holdsOf number f p w c)
 
--- the lowest place from one to another at which a test does not hold, if there is one
+-- the lowest place from one to another at which a test does not hold, if any
 unfoldable pub wrongIn : (ℕ → Bool) → ℕ → ℕ → Option ℕ
 wrongIn holds from to = firstFrom from (to - from) (λ k. not (holds k))
 
--- the same as a number: the other place where there is none
+-- the same as a number: the end of the range if there is none
 abbrev pub firstWrong : (ℕ → Bool) → ℕ → ℕ → ℕ
 firstWrong holds from to = Option·getD (wrongIn holds from to) to

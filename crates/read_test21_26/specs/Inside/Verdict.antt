@@ -1,4 +1,4 @@
--- What a list of tests comes to.
+-- The verdict of a list of tests.
 -- Assumes nothing.
 use Prim.Native.Nat.{ℕ, _*_}
 use mathlib.Core.List.{List, [], _∷_}
@@ -20,12 +20,12 @@ abbrev pub verdictOf : ℕ → Option ℕ → Verdict → Verdict
 verdictOf number none rest = rest
 verdictOf number (some k) rest = record { number = number; place = k }
 
--- the first row that does not hold; 0 where all hold
+-- the first row that does not hold; 0 if all hold
 abbrev pub firstRow : List Row → Verdict
 firstRow [] = passed
 firstRow (r ∷ rs) = verdictOf (r .number) (r .fails) (firstRow rs)
 
--- tests 21 to 24, where the pictures of the streams leave these sums
+-- tests 21 to 24, given the sums that the pictures of the streams leave
 abbrev pub serviceTests : Shape → List ℕ → Sums → List Row
 serviceTests p w c =
     let s = streams p in

@@ -1,4 +1,4 @@
--- A plug that is knocked: what loops and proofs keep for themselves. The rest stands in specs/Knock.
+-- A knocked plug: definitions that only loops and proofs use. The rest is in specs/Knock.
 -- Assumes nothing.
 use Prim.Native.Nat.{ℕ, suc}
 use mathlib.Core.Bool.{cond}
@@ -6,7 +6,7 @@ use mathlib.Core.List.{List, [], _∷_}
 use Rattle.rig.specs.declared.knock.Knock.{Knock}
 use Rattle.rig.specs.Knock.{struck}
 
--- symbols of the frame, the first of which stands at place q: those that are struck are 0, and the others as they were
+-- symbols of the frame, the first of them at place q: those struck are 0, and the others as they were
 unfoldable pub knocked : Knock → ℕ → List ℕ → List ℕ
 knocked k q [] = []
 knocked k q (s ∷ more) = cond (struck k q) 0 s ∷ knocked k (suc q) more

@@ -1,4 +1,4 @@
--- What the rig sends: what loops and proofs keep for themselves. The rest stands in specs/Sending.
+-- What the rig sends: definitions that only loops and proofs use. The rest is in specs/Sending.
 -- Assumes nothing.
 use Prim.Native.Nat.{ℕ, zero, suc}
 use mathlib.Core.List.{List, [], _∷_}
@@ -8,11 +8,11 @@ use Rattle.span.specs.Stream.{Request}
 use Rattle.reception.specs.Link.{link}
 use Rattle.rig.specs.Sending.{requestOn}
 
--- on m lines from line n on
+-- the requests on m lines from line n on
 unfoldable pub requestsFrom : ℕ → ℕ → List Request
 requestsFrom n zero = []
 requestsFrom n (suc m) = requestOn n ∷ requestsFrom (suc n) m
 
--- their symbols, where the disparity before them is d
+-- their symbols, from disparity d before them
 abbrev pub sentFrom : Disparity → ℕ → ℕ → List ℕ
 sentFrom d n m = signalFrom d link (requestsFrom n m)

@@ -17,7 +17,7 @@ wordsIn rows from = table 1920 (λ i. getD rows (from + i) 0)
 abbrev pub streamRow : List ℕ → ℕ → List ℕ
 streamRow rows t = wordsIn rows (1920 * t)
 
--- the CRC of each row: of two rows, or of four; of rows of any other length none
+-- the CRC of each row, for two rows or four; 0 for rows of any other length
 abbrev pub sumsIn : List ℕ → Sums
 sumsIn rows =
     cond (eqb (length rows) 3840)

@@ -11,7 +11,7 @@ use Rattle.span.specs.Stream.{Request}
 use Rattle.send.specs.Send.{forbidden}
 
 -- what may be sent, the symbol buffer apart
-pub record Good (f : Format) (a : Request) : Type 0 where
+pub record Accepted (f : Format) (a : Request) : Type 0 where
   pub known : isKnown f ≡ true
   pub samples : length (a .samples) ≡ samplesIn (shapeOf f)
   pub allowed : (i : ℕ) → i < length (a .samples) → forbidden f a i ≡ false

@@ -6,6 +6,6 @@ use lib.Dec.{eqb}
 use Rattle.span.specs.declared.format.Format.{Format}
 use Rattle.span.specs.Format.{isKnown, shapeOf, samplesIn, symbolsIn}
 
--- a known format with so many symbols and so many words of rows
+-- the format is known, and has this many symbols and this many row words
 abbrev pub ready : Format → ℕ → ℕ → Bool
 ready f symbols rows = isKnown f && (eqb symbols (symbolsIn (shapeOf f)) && eqb rows (samplesIn (shapeOf f)))

@@ -1,9 +1,9 @@
--- The formats: what loops and proofs keep for themselves. The rest stands in specs/Format.
+-- The formats: the part that only loops and proofs use. The rest is in specs/Format.
 -- Assumes nothing.
 use Prim.Native.Nat.{_≤_}
 use Rattle.span.specs.declared.format.Shape.{Shape}
 
--- no shape is larger than these
+-- upper bounds of every shape
 pub record Small (p : Shape) : Type 0 where
   pub half : p .«stream_pairs» ≤ 2
   pub ancillary : p .ancillary ≤ 708

@@ -1,4 +1,4 @@
--- Where the parts of a span begin: what loops and proofs keep for themselves. The rest stands in specs/Layout.
+-- Where the parts of a span begin: the part that only loops and proofs use. The rest is in specs/Layout.
 -- Assumes nothing.
 use Prim.Native.Nat.{ℕ}
 

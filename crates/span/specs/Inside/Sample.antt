@@ -1,5 +1,5 @@
--- Which samples a stream may carry on a line, and the words sent for them: what loops and proofs keep for themselves. The rest stands
--- in specs/Sample.
+-- Which samples a stream may carry on a line, and the words sent for them: the part that only loops and proofs use. The rest is in
+-- specs/Sample.
 -- Assumes nothing.
 use Prim.Native.Nat.{ℕ}
 use mathlib.Core.Bool.{cond}
@@ -9,7 +9,7 @@ use Rattle.span.specs.declared.format.Format.{Format}
 use Rattle.span.specs.declared.sample.Bounds.{Bounds}
 use Rattle.span.specs.Sample.{blankWord}
 
--- the same for a loop: the lowest and highest sample allowed (law `allowed-is`), and the factor that makes it a word (law `word-is`)
+-- the same for a loop: the lowest and highest sample allowed (law `allowed-is`), and the factor that turns it into a word (law `word-is`)
 abbrev pub boundsOf : Format → ℕ → Bounds
 boundsOf f n =
     cond (isActive n)

@@ -1,5 +1,5 @@
--- The symbol of each character, the disparity after it, and the character of each symbol: what loops and proofs keep for themselves.
--- The rest stands in specs/Code.
+-- The symbol of each character, the disparity after it, and the character of each symbol: the part that only loops and proofs use.
+-- The rest is in specs/Code.
 -- Assumes nothing.
 use Prim.Native.Nat.{ℕ}
 use mathlib.Core.Path.{_≡_}
@@ -8,7 +8,7 @@ use Rattle.symbol.specs.declared.disparity.Disparity.the-variants.{Negat
 use Rattle.symbol.specs.Code.{afterOf, symbolOf}
 use Rattle.symbol.specs.Disparity.{isPositive}
 
--- whether character c leaves positive disparity after negative (and then negative after positive: law `turns-both`)
+-- whether character c takes negative disparity to positive (and then positive to negative: law `turns-both`)
 unfoldable pub flips : ℕ → Bool
 flips c = isPositive (afterOf Negative c)
 

@@ -1,4 +1,4 @@
--- The running disparity: what loops and proofs keep for themselves. The rest stands in specs/Disparity.
+-- The running disparity: the part that only loops and proofs use. The rest is in specs/Disparity.
 -- Assumes nothing.
 use mathlib.Core.Bool.{Bool, cond}
 use Rattle.symbol.specs.declared.disparity.Disparity.{Disparity}
@@ -8,6 +8,6 @@ abbrev pub opposite : Disparity → Disparity
 opposite Negative = Positive
 opposite Positive = Negative
 
--- the opposite of d where it flips, else d
+-- the opposite of d if it flips, else d
 abbrev pub flippedIf : Bool → Disparity → Disparity
 flippedIf flips d = cond flips (opposite d) d

@@ -15,7 +15,7 @@ use Rattle.crcc.specs.declared.sums.Sums.{Sums}
 abbrev pub columnOf : Shape → List ℕ → ℕ → ℕ → ℕ → List ℕ
 columnOf p w first count t = column (streams p) (wordAt p w) first count t
 
--- the CRC of each stream over the picture; 0 for one that is not there
+-- the CRC of each stream over the picture; 0 for a stream that is not there
 abbrev pub sumsOf : Shape → List ℕ → Sums
 sumsOf p w =
     record {

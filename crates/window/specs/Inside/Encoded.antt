@@ -1,4 +1,4 @@
--- A window as the encoding of words and content bytes: what loops and proofs keep for themselves. The rest stands in specs/Encoded.
+-- A window as the encoding of words and content bytes: the part that only loops and proofs use. The rest is in specs/Encoded.
 -- Assumes nothing.
 use Prim.Native.Nat.{ℕ, _+_, _/_, _%_, _<_}
 use mathlib.Core.Path.{_≡_}
@@ -26,12 +26,12 @@ use Rattle.window.specs.Read.{contentIn, repairsOf}
 use Rattle.window.specs.Tests.{wordOf, lineRead, repairCount}
 use Rattle.window.specs.Words.{fixedByte, wordAt}
 
--- words whose replaced bytes, in SAV and EAV, are those that a receiver takes them to be
+-- words whose replaced bytes, in SAV and EAV, have the values that a receiver assumes
 pub record Restored (p : Shape) (words : List ℕ) : Type 0 where
   pub sav : (i : ℕ) → i < 4 → getD (bytes words) i 0 ≡ fixedByte (streams p) i
   pub eav : (i : ℕ) → i < 4 → getD (bytes words) (eavAt p + i) 0 ≡ fixedByte (streams p) i
 
--- what is answered for words that meet the tests
+-- what is answered for words that pass the tests
 abbrev pub answered : Format → Disparity → ContentBytes → List ℕ → Delivery
 answered f d c words =
     let p = shapeOf f in
@@ -45,7 +45,7 @@ answered f d c words =
 
 -- ---- what is sent, and what arrives
 
--- what may be sent: a known format, a line, content bytes, and as many samples as there are, each of them allowed
+-- what may be sent: a known format, a line, content bytes, and a span's number of samples, each of them allowed
 pub record Sendable (f : Format) (a : Request) : Type 0 where
   pub known : isKnown f ≡ true
   pub line : isLine (a .line) ≡ true
@@ -59,16 +59,16 @@ pub record Sendable (f : Format) (a : Request) : Type 0 where
 abbrev pub sampleOf : Format → ℕ → ℕ → ℕ
 sampleOf f n x = cond (isActive n && eqb (f .depth) 10) (x / 4) x
 
--- what words carry, stream by stream
+-- the samples that words carry, stream by stream
 abbrev pub samplesRead : Format → (ℕ → ℕ) → List ℕ
 samplesRead f word =
     let s = streams (shapeOf f) in
     table (samplesIn (shapeOf f)) (λ i. sampleOf f (lineRead s word) (wordOf s word (pictureStart + i % 1920) (i / 1920)))
 
--- what a caller asks for to have such words and content bytes sent
+-- the request that has such words and content bytes sent
 abbrev pub requestFor : Format → ContentBytes → (ℕ → ℕ) → Request
 requestFor f c word = record { line = lineRead (streams (shapeOf f)) word; content = Named c; samples = samplesRead f word }
 
--- the answer of a window, as what a caller asks for
+-- the answer for a window, as a request
 abbrev pub requestAgain : Format → List ℕ → Request
 requestAgain f w = requestFor f (contentIn (shapeOf f) w) (wordAt (shapeOf f) w)

@@ -10,7 +10,7 @@ use Rattle.span.specs.Format.{streams}
 use Rattle.span.specs.Span.{fillWord}
 use Rattle.window.specs.Words.{wordAt}
 
--- no fill word is another
+-- every fill word is right
 unfoldable pub fillRight : Shape → List ℕ → Bool
 fillRight p w =
     not (isSome (firstFrom (streams p * (1932 + p .ancillary)) (2 * p .«fill_pairs») (λ k. not (eqb (wordAt p w k) fillWord))))

@@ -1,4 +1,4 @@
--- What loops over a window are given: the decoding table, a known shape and a window of its length; and its words where none is replaced.
+-- What loops over a window are given: the decoding table, a known shape, a window of its length; and its words where no byte is replaced.
 -- Assumes nothing.
 use Prim.Native.Nat.{ℕ, _+_, _≤_}
 use mathlib.Core.Path.{_≡_}
@@ -18,7 +18,7 @@ pub record Given (p : Shape) (t w : List ℕ) : Type 0 where
   pub small : Small p
   pub long : length w ≡ symbolsIn p
 
--- the two words of three symbols from o on, none of them replaced
+-- the two words of the three symbols from o on, none of them replaced
 unfoldable pub plainPair : List ℕ → ℕ → TwoWords
 plainPair w o =
     unpacked (record { first = byteOf (symbolAt w o); second = byteOf (symbolAt w (o + 1)); third = byteOf (symbolAt w (o + 2)) })

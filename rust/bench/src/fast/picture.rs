@@ -1,4 +1,4 @@
-//! Rows divided and joined in place (004, 5.3): `plain` makes new ones, and its time would be that of the memory.
+//! Rows divided and joined in place (004, 5.3): `plain` allocates new ones, and its time would be that of the memory.
 
 use plain::{refuse_unless, Answer};
 

@@ -1,5 +1,5 @@
-//! Reading (01, "Receiving and finding"): a span is read in one pass without a look at what may be wrong. Only where something was, it is
-//! looked for.
+//! Reading (01, "Receiving and finding"): a span is read in one pass without stopping at what is wrong. Only if something was, its place is
+//! searched for.
 
 pub mod judge;
 pub mod recording;
@@ -12,15 +12,15 @@ use plain::words::{is_active, line_before, BLANKING};
 use plain::{refuse_unless, Answer};
 
 /// For each symbol that is a byte, the byte as the first, second or third of a pair of words, in bits 0 to 23; in bits 24 and 25 that it is
-/// illegal at negative and at positive disparity, and twice, in bits 26 and 27, that it turns the disparity. Special ones are illegal.
+/// illegal at negative and at positive disparity, and twice, in bits 26 and 27, that it flips the disparity. Special ones are illegal.
 pub struct Tables {
     first: [u32; 1024],
     second: [u32; 1024],
     third: [u32; 1024],
-    /// By disparity the forms of K28.5 and of K29.7.
+    /// The forms of K28.5 and of K29.7, by disparity.
     k28_5: [u16; 2],
     k29_7: [u16; 2],
-    /// By disparity the three symbols of two blanking words, after which it is as it was.
+    /// The three symbols of two blanking words, by disparity, which they leave unchanged.
     blanks: [[u16; 3]; 2],
 }
 
@@ -57,8 +57,8 @@ pub fn tables() -> Tables {
     Tables { first, second, third, k28_5: forms(K28_5), k29_7: forms(K29_7), blanks: [false, true].map(blanks) }
 }
 
-/// What has been read of a span, whose symbols have ten bits. Nothing is looked for: `bad` gathers what is not right, and is not 0 where
-/// anything was. The mask is the bit of an entry that says whether it is illegal.
+/// What has been read of a span whose symbols have ten bits. Nothing is searched for: `bad` gathers what is wrong, and is not 0 if anything
+/// was. The mask is the bit of an entry that says whether it is illegal.
 struct Reader<'a> {
     tables: &'a Tables,
     symbols: &'a [u16],
@@ -72,7 +72,7 @@ impl Reader<'_> {
         (self.mask == POSITIVE) as usize
     }
 
-    /// Sound where a symbol is left.
+    /// Sound if a symbol is left.
     #[inline(always)]
     unsafe fn entry(&mut self, entries: &[u32; 1024]) -> u32 {
         let entry = *entries.get_unchecked(*self.symbols.get_unchecked(self.at) as usize);
@@ -82,13 +82,13 @@ impl Reader<'_> {
         entry
     }
 
-    /// Sound where a symbol is left.
+    /// Sound if a symbol is left.
     #[inline(always)]
     unsafe fn byte(&mut self) -> u32 {
         self.entry(&self.tables.first) & 255
     }
 
-    /// Two words in one number, the second twelve bits up. Sound where three symbols are left.
+    /// Two words in one number, the second twelve bits up. Sound if three symbols are left.
     #[inline(always)]
     unsafe fn pair(&mut self) -> u32 {
         let tables = self.tables;
@@ -96,7 +96,7 @@ impl Reader<'_> {
         both & 0xFF_FFFF
     }
 
-    /// One word of each stream. Sound where they are left.
+    /// One word of each stream. Sound if their symbols are left.
     #[inline(always)]
     unsafe fn each<const S: usize>(&mut self) -> [u16; S] {
         let mut words = [0; S];
@@ -108,15 +108,15 @@ impl Reader<'_> {
         words
     }
 
-    /// Sound where a symbol is left.
+    /// Sound if a symbol is left.
     unsafe fn special(&mut self, forms: [u16; 2], turns: bool) {
         self.bad |= (*self.symbols.get_unchecked(self.at) ^ forms[self.disparity()]) as u32;
         self.mask ^= if turns { BOTH } else { 0 };
         self.at += 1;
     }
 
-    /// The rest of a timing code behind its special characters: the content bytes, and V H of each stream's XYZ with its distance. Sound
-    /// where it is left.
+    /// The rest of a timing code after its special characters: the content bytes, and V H of each stream's XYZ with its distance. Sound if
+    /// its symbols are left.
     #[inline(always)]
     unsafe fn timing<const S: usize>(&mut self, h: usize) -> ([u8; 2], [(usize, u32); S]) {
         let content = [self.byte() as u8, self.byte() as u8];
@@ -128,7 +128,7 @@ impl Reader<'_> {
         (content, near)
     }
 
-    /// Whether so many symbols are those of blanking words; these leave the disparity as it was. Sound where they are left.
+    /// Whether the next `count` symbols are those of blanking words; these leave the disparity unchanged. Sound if that many are left.
     #[inline(always)]
     unsafe fn are_blank(&self, count: usize) -> bool {
         let three = self.tables.blanks[self.disparity()];
@@ -139,7 +139,7 @@ impl Reader<'_> {
     }
 }
 
-/// The CRCs of two streams in one number, the second 32 bits up, after a word more of each, which are twelve bits apart.
+/// The CRCs of two streams in one number, the second 32 bits up, after one more word of each; the words are twelve bits apart.
 #[inline(always)]
 fn step_two(registers: u64, both: u32) -> u64 {
     let words = (both & 4095) as u64 | ((both >> 12) as u64) << 32;
@@ -147,7 +147,7 @@ fn step_two(registers: u64, both: u32) -> u64 {
     registers >> 12 & 0x3F_0000_003F ^ x << 6 ^ x << 2 ^ x << 1
 }
 
-/// The picture words into rows, and the CRC of each stream, in one loop. Sound where they are left and the rows have room for them.
+/// The picture words into rows, and the CRC of each stream, in one loop. Sound if their symbols are left and the rows have room for them.
 #[inline(always)]
 unsafe fn picture<const S: usize>(reader: &mut Reader, rows: &mut [u16]) -> [u32; S] {
     let mut two = [0; S];
@@ -169,7 +169,7 @@ fn all_allowed(depth: u32, rows: &[u16]) -> bool {
     outside == 0 && (depth == 12 || bits % 4 == 0)
 }
 
-/// A span of S streams; none where anything in it is not as it should be. Sound where both lengths are right.
+/// A span of S streams; none if anything in it is wrong. Sound if both lengths are right.
 #[inline(never)]
 unsafe fn span<const S: usize>(tables: &Tables, shape: Shape, depth: u32, symbols: &[u16], rows: &mut [u16]) -> Option<Delivery> {
     if symbols.iter().fold(0, |all, symbol| all | symbol) > 1023 {
@@ -207,7 +207,7 @@ unsafe fn span<const S: usize>(tables: &Tables, shape: Shape, depth: u32, symbol
     fine.then_some(Delivery { line, content, positive_before, positive_after: reader.mask == POSITIVE, repairs })
 }
 
-/// Gives what the span says of itself. Its words go into rows, or zeros where it is refused by 20 to 26.
+/// Gives what the span says about itself. Its words go into rows, or zeros if it is refused by 20 to 26.
 #[inline(never)]
 pub fn read(tables: &Tables, format: u32, depth: u32, symbols: &[u16], rows: &mut [u16]) -> Answer<Delivery> {
     let shape = shape(format, depth)?;
@@ -226,7 +226,7 @@ pub fn read(tables: &Tables, format: u32, depth: u32, symbols: &[u16], rows: &mu
     })
 }
 
-/// The same for a caller who does not ask why a span is refused, and to whom rows are nothing then.
+/// The same for a caller who does not ask why a span is refused, and does not use the rows then.
 #[inline(never)]
 fn accepted(tables: &Tables, shape: Shape, depth: u32, symbols: &[u16], rows: &mut [u16]) -> Option<Delivery> {
     assert!(symbols.len() == shape.symbols() && rows.len() == shape.samples());

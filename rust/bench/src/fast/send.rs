@@ -1,4 +1,4 @@
-//! Sending (01, "A span" and "Sending"): all samples are looked at in one pass without branches, and then a span is written in one pass.
+//! Sending (01, "A span" and "Sending"): all samples are checked in one pass without branches, and then a span is written in one pass.
 
 use super::words::{crcc_words, line_words, step, xyz};
 use plain::code::{encode, K28_5, K29_7};
@@ -6,7 +6,7 @@ use plain::span::{shape, Asked};
 use plain::words::{is_active, line_after, BLANKING};
 use plain::{refuse_unless, Answer};
 
-/// Symbols at negative disparity, then at positive, and what a character turns in the offset between them.
+/// Symbols at negative disparity, then at positive, and what a character flips in the offset between them.
 pub struct Tables {
     symbols: [u16; 536],
     turns: [u16; 268],
@@ -33,7 +33,7 @@ struct Writer<'a> {
 }
 
 impl Writer<'_> {
-    /// Sound where the character is below 268 and a symbol still has room: the offset is 0 or 268.
+    /// Sound if the character is below 268 and there is room for a symbol: the offset is 0 or 268.
     #[inline(always)]
     unsafe fn character(&mut self, c: usize) {
         *self.symbols.get_unchecked_mut(self.at) = *self.tables.symbols.get_unchecked(self.offset + c);
@@ -41,7 +41,7 @@ impl Writer<'_> {
         self.at += 1;
     }
 
-    /// Two words in one number, the second twelve bits up, are its three bytes. Sound where three symbols still have room.
+    /// Two words in one number, the second twelve bits up, are its three bytes. Sound if there is room for three symbols.
     #[inline(always)]
     unsafe fn three(&mut self, both: usize) {
         self.character(both & 255);
@@ -49,13 +49,13 @@ impl Writer<'_> {
         self.character(both >> 16);
     }
 
-    /// Sound where both words are below 4096, and as above.
+    /// Sound if both words are below 4096, and as above.
     #[inline(always)]
     unsafe fn pair(&mut self, a: u16, b: u16) {
         self.three(a as usize | (b as usize) << 12);
     }
 
-    /// Four words of each stream behind a sync block: the first four bytes are replaced. Sound where they have room.
+    /// Four words of each stream, the first four bytes replaced by a sync block. Sound if there is room for them.
     #[inline(always)]
     unsafe fn timing<const S: usize>(&mut self, k: u16, content: [u8; 2], xyz: u16) {
         let block = [k, k, content[0] as u16, content[1] as u16];
@@ -67,7 +67,7 @@ impl Writer<'_> {
         (0..S / 2).for_each(|_| self.pair(xyz, xyz));
     }
 
-    /// So many symbols of blanking: its three symbols leave the disparity as it was. Sound where they have room.
+    /// `count` symbols of blanking: its three symbols leave the disparity unchanged. Sound if there is room for them.
     #[inline(always)]
     unsafe fn blanks(&mut self, count: usize) {
         let (start, offset) = (self.at, self.offset);
@@ -83,7 +83,7 @@ impl Writer<'_> {
     }
 }
 
-/// The picture words of a line and the CRCs of all streams, in one loop. Sound where the samples are S x 1920 allowed ones.
+/// The picture words of a line and the CRCs of all streams, in one loop. Sound if the samples are S x 1920 allowed ones.
 #[inline(always)]
 unsafe fn picture<const S: usize>(out: &mut Writer, samples: &[u16], shift: u32) -> [u32; S] {
     let mut registers = [0; S];
@@ -99,7 +99,7 @@ unsafe fn picture<const S: usize>(out: &mut Writer, samples: &[u16], shift: u32)
     registers
 }
 
-/// A span of S streams; gives the disparity after it. Sound where nothing that is asked is refused.
+/// A span of S streams; gives the disparity after it. Sound if nothing in the request is to be refused.
 #[inline(never)]
 unsafe fn span<const S: usize>(tables: &Tables, asked: Asked, samples: &[u16], shift: u32, symbols: &mut [u16]) -> bool {
     let [sav1, sav2, eav1, eav2] = asked.content.unwrap_or([0; 4]);
@@ -131,7 +131,7 @@ pub fn allowed(depth: u32, line: u32) -> (u16, u16, u32) {
     }
 }
 
-/// Gives the disparity after the span. Only where there is a bad sample it is looked for.
+/// Gives the disparity after the span. A bad sample is searched for only if there is one.
 #[inline(never)]
 pub fn send(tables: &Tables, asked: Asked, samples: &[u16], symbols: &mut [u16]) -> Answer<bool> {
     let shape = shape(asked.format, asked.depth)?;

@@ -1,4 +1,4 @@
-//! The words of a stream by arithmetic (004, 6.2 to 6.4), where `plain` searches, and divides bit by bit.
+//! The words of a stream by arithmetic (004, 6.2 to 6.4), where `plain` searches and divides bit by bit.
 
 use plain::words::is_active;
 
@@ -35,7 +35,7 @@ pub fn named(words: [u16; 2]) -> Option<u32> {
     ((1..=1125).contains(&line) && line_words(line) == words).then_some(line)
 }
 
-/// The CRC of 004, 6.4, twelve bits at a time: bit i of the register is CRCCi. No bit that a word turns is reached within that word.
+/// The CRC of 004, 6.4, twelve bits at a time: bit i of the register is CRCCi. No bit that a word flips is reached within that word.
 #[inline]
 pub fn step(register: u32, word: u16) -> u32 {
     let x = (register ^ word as u32) % 4096;

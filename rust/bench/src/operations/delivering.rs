@@ -14,7 +14,7 @@ use plain::read::Delivered;
 const SPANS: usize = 100;
 const TURNS: usize = 500;
 
-/// Spans one behind the other, of forty lines that are all active or all blanking as the case says.
+/// Spans one after another, of forty lines that are all active or all blanking as the case says.
 fn recorded(case: &Case) -> Vec<u16> {
     let (mut random, shape) = (Random(7), case.shape());
     let span = |k| sent_symbols(&mut random, shape, case.depth, case.line + k as u32 % 40, k % 2 == 1);
@@ -53,7 +53,7 @@ fn agree(judge: &mut Judge, case: &Case, symbols: &[u16]) {
     assert!(by_fast(judge, case, symbols, start, &mut quick).is_none());
 }
 
-/// Steps to the end of a recording, all spans of which have to come.
+/// Steps to the end of a recording, all of whose spans have to be delivered.
 fn steps<T>(mut next: impl FnMut(u64) -> Option<(u64, T)>) {
     let (mut start, mut count) = (0, 0);
     while let Some((after, _)) = next(start) {

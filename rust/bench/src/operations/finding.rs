@@ -11,7 +11,7 @@ use plain::recording::LIMIT;
 const TURNS: usize = 400;
 
 fn measured(judge: &mut Judge, format: u32, label: &str, symbols: &[u16]) -> Speeds {
-    // Each turn says that there is none, so the versions agree in all of them.
+    // Each run checks that there is none, so the versions agree in all of them.
     let three = Three::time(
         TURNS,
         || assert_eq!(brazulint::find(format, DEPTH, symbols, 0).result(), Ok(None)),

@@ -45,8 +45,8 @@ fn agree(picture: &[u16], first: &[u16], second: &[u16]) {
     }
 }
 
-/// So many rows, so many times in one turn. Each version has buffers of its own: none finds what another left in the cache. The plain one
-/// makes its rows anew, which are copied to where the others put theirs: else it would write nothing but the cache.
+/// `rows` rows, `times` times in one run. Each version has buffers of its own: none finds what another left in the cache. The plain one
+/// allocates its rows, which are then copied to where the others put theirs: otherwise it would write only to the cache.
 fn measured(label: &str, rows: usize, times: usize, turns: usize) -> [Speeds; 2] {
     let picture = Random(2).numbers(LINE * rows, 65_536);
     let [first, second] = halves(&picture);

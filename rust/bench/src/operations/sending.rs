@@ -46,7 +46,7 @@ fn agree(tables: &Tables, case: &Case, samples: &[u16]) {
     }
 }
 
-/// The spans of one turn, each from the disparity that the one before left.
+/// The spans of one run, each from the disparity that the previous one left.
 fn spans(case: &Case, mut send: impl FnMut(Asked) -> bool) {
     (0..SPANS).fold(false, |positive, _| send(asked(case, positive)));
 }

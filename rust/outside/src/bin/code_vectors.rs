@@ -37,7 +37,7 @@ fn write_symbol(text: &mut String, names: &[String], symbol: u32) {
             Err((number, _)) => decoded.push(number.to_string()),
         }
     }
-    // A number that no symbol has means its refusal.
+    // A number that is not a symbol has its refusal as meaning.
     let meaning = match meaning {
         Some(name) => name,
         None if symbol > 1023 => &decoded[0],

@@ -1,6 +1,6 @@
-//! What the test generator must write, worked out with the plain sender, and compared with what the program given as the first argument
-//! writes; and what `list_spans`, the second, lists of it, told from what was asked for. With the words `make DIR` it writes the stored input
-//! and what must be written of it into a folder.
+//! What the test generator must write, computed with the plain sender, and compared with what the program given as the first argument
+//! writes; and what `list_spans`, the second argument, must list of it, known from what was asked for. With the words `make DIR` it writes
+//! the stored input and what must be written for it into a folder.
 
 use outside::printed::{printed, written};
 use plain::recording::LIMIT;
@@ -14,12 +14,12 @@ fn input(format: u8, depth: u8, line: u16, count: u16) -> Vec<u8> {
     [&[format, depth], &line.to_le_bytes()[..], &count.to_le_bytes()[..]].concat()
 }
 
-/// Two bytes, low byte first, where both are there.
+/// Two bytes, low byte first, if both are there.
 fn number(input: &[u8], place: usize) -> Option<u32> {
     input.get(place..place + 2).map(|b| u16::from_le_bytes([b[0], b[1]]).into())
 }
 
-/// The lines of so many spans: 1 follows 1125.
+/// The lines of `count` spans: 1 follows 1125.
 fn lines(first: u32, count: u32) -> Vec<u32> {
     std::iter::successors(Some(first), |line| Some(line_after(*line))).take(count as usize).collect()
 }
@@ -47,7 +47,7 @@ fn generated(input: &[u8]) -> Vec<u8> {
     recording(input).unwrap_or_else(|(number, _)| format!("refused {number}\n").into_bytes())
 }
 
-/// What is listed of a recording that was asked for: the spans that lie whole in the first 32,767 symbols.
+/// What is listed of a recording that was asked for: the spans that are whole in the first 32,767 symbols.
 fn listing(input: &[u8]) -> String {
     let [format, depth] = [0, 1].map(|place| u32::from(input[place]));
     let span = shape(format, depth).expect("a known format").symbols();

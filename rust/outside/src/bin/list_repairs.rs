@@ -1,10 +1,10 @@
-//! What the program that lists repairs must print, worked out from document 01 and tables 6 and 7 of 004, and compared with what the
+//! What the program that lists repairs must print, computed from document 01 and tables 6 and 7 of 004, and compared with what the
 //! program given as the argument prints, for input whole and in small pieces.
 
 use outside::printed::printed;
 use plain::words::{repair, xyz};
 
-/// The bytes that are read of an input.
+/// The most bytes that are read of an input.
 const MOST: usize = 65_536;
 
 fn listing(input: &[u8]) -> String {

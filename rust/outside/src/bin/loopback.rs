@@ -1,5 +1,5 @@
-//! What the loopback rig must write and print, worked out piece by piece with the plain sender, reader and division, and compared whole with
-//! what the program given as the first argument writes into a folder, the second, and prints.
+//! What the loopback rig must write and print, computed piece by piece with the plain sender, reader and division, and compared whole with
+//! what the program given as the first argument writes into a folder, the second argument, and prints.
 
 use chance::Random;
 use outside::printed::written_by;
@@ -24,7 +24,7 @@ const HEADER: &[u8] = b"P5\n3840 2160\n4095\n";
 /// Place and length.
 type Knock = (u32, u32);
 
-/// From the middle of the frame on, a thousandth of the 50 frames of a second.
+/// From the middle of the frame on, a thousandth of the 50 frames in a second.
 const DEFAULT: Knock = (FRAME / 2, FRAME / 20);
 
 /// Every symbol of a frame of the test picture, the disparity handed from line to line.
@@ -40,7 +40,7 @@ fn sent() -> Vec<u16> {
     all
 }
 
-/// The lines that are delivered of a piece, each with the two picture lines that it brings: images 1 and 2 joined, then 3 and 4.
+/// The lines delivered from a piece, each with the two picture lines that it brings: images 1 and 2 joined, then 3 and 4.
 type Received = BTreeMap<u32, Vec<u16>>;
 
 fn receive(symbols: &[u16]) -> Received {
@@ -56,7 +56,7 @@ fn receive(symbols: &[u16]) -> Received {
     lines
 }
 
-/// A frame, and what is received of each piece of it where the plug is not knocked.
+/// A frame, and what is received of each piece of it if the plug is not knocked.
 struct Rig {
     symbols: Vec<u16>,
     clean: Vec<Received>,
@@ -69,7 +69,7 @@ impl Rig {
         Rig { symbols, clean }
     }
 
-    /// What is received of a piece where it is.
+    /// What is received of a piece if it is.
     fn received(&self, piece: usize, (place, length): Knock) -> Received {
         let from = piece * PIECE;
         let inside = |place: u64| place.clamp(from as u64, (from + PIECE) as u64) as usize - from;

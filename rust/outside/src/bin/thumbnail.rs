@@ -1,5 +1,5 @@
-//! A binary 16-bit PGM from standard input as a small PNG of eight bits to standard output: each square of ten by ten samples becomes its mean,
-//! so a lost line of the picture still shows as a darker one.
+//! Turns a binary 16-bit PGM from standard input into a small eight-bit PNG on standard output: each square of ten by ten samples becomes
+//! its mean, so a lost line of the picture still shows as a darker one.
 
 use std::io::{self, Read, Write};
 
@@ -26,7 +26,7 @@ fn picture(pgm: &[u8]) -> Result<(usize, usize, usize, &[u8]), String> {
     }
 }
 
-/// The rows of the small picture, each behind a byte that says it is not filtered (PNG, 9.2).
+/// The rows of the small picture, each after a byte that says it is not filtered (PNG, 9.2).
 fn smaller(width: usize, height: usize, top: usize, samples: &[u8]) -> Vec<u8> {
     let sample = |y: usize, x: usize| {
         let at = 2 * (y * width + x);
@@ -45,7 +45,7 @@ fn crc(bytes: &[u8]) -> u32 {
     !bytes.iter().fold(!0, |c, &byte| (0..8).fold(c ^ u32::from(byte), step))
 }
 
-/// RFC 1950: the data as they are, in blocks of up to 65,535 bytes that are not compressed.
+/// RFC 1950: the data as it is, in uncompressed blocks of up to 65,535 bytes.
 fn stored(data: &[u8]) -> Vec<u8> {
     let (a, b) = data.iter().fold((1u32, 0u32), |(a, b), &byte| {
         let a = (a + u32::from(byte)) % 65_521;
@@ -75,7 +75,7 @@ fn main() -> Result<(), String> {
     io::stdin().read_to_end(&mut pgm).map_err(|e| e.to_string())?;
     let (width, height, top, samples) = picture(&pgm)?;
     let size = [(width / SIDE) as u32, (height / SIDE) as u32].map(u32::to_be_bytes).concat();
-    // eight bits, grey, and the only methods of compression, filtering and interlacing that there are without one
+    // eight bits, grey, the only methods of compression and filtering there are, and no interlacing
     let header = [size.as_slice(), &[8, 0, 0, 0, 0]].concat();
     let png = [
         b"\x89PNG\r\n\x1a\n".to_vec(),

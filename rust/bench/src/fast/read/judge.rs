@@ -1,11 +1,11 @@
-//! Judging: a span is read into rows that nobody is given.
+//! Judging: a span is read into rows that no caller gets.
 
 use super::{accepted, Tables};
 use brazulint::Delivery;
 use plain::span::{shape, Shape, ROW};
 use plain::{refuse_unless, Answer};
 
-/// Has rows of its own from call to call, so that none are made or cleared anew.
+/// Keeps rows of its own from call to call, so that none are allocated or cleared again.
 pub struct Judge<'a> {
     pub(super) tables: &'a Tables,
     pub(super) rows: [u16; 4 * ROW],
@@ -16,7 +16,7 @@ impl Judge<'_> {
         Judge { tables, rows: [0; 4 * ROW] }
     }
 
-    /// What a span says of itself, its words left in the first rows; none where it is refused.
+    /// What a span says about itself, its words left in the first rows; none if it is refused.
     pub(super) fn accepted(&mut self, shape: Shape, depth: u32, symbols: &[u16]) -> Option<Delivery> {
         accepted(self.tables, shape, depth, symbols, &mut self.rows[..shape.samples()])
     }

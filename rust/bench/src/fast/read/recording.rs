@@ -1,5 +1,5 @@
-//! Finding spans in a recording (01, "Receiving and finding"): K28.5 twice is looked for in many symbols at once, and the reader is asked
-//! only there. After a refusal the search goes on one symbol further.
+//! Finding spans in a recording (01, "Receiving and finding"): many symbols at once are searched for K28.5 twice, and the reader is called
+//! only there. After a refusal the search continues one symbol further.
 
 use super::judge::Judge;
 use super::{Reader, Tables, NEGATIVE, POSITIVE};
@@ -8,13 +8,13 @@ use plain::recording::LIMIT;
 use plain::span::{shape, Shape};
 use plain::{refuse_unless, Answer};
 
-/// Places that are looked at together.
+/// Places that are examined together.
 const PIECE: usize = 64;
 
-/// Symbols that are looked at before a span is read.
+/// Symbols that are examined before a span is read.
 const LOOK: usize = 16;
 
-/// 1 for K28.5 in either form, else 0. A number and no branch, so that a piece is looked at many symbols at a time.
+/// 1 for K28.5 in either form, else 0. A number and no branch, so that a piece is examined many symbols at a time.
 #[inline(always)]
 fn comma(symbol: u16) -> u16 {
     (symbol == 0x17C) as u16 | (symbol == 0x283) as u16
@@ -26,13 +26,13 @@ fn once(piece: &[u16]) -> bool {
     piece.iter().fold(0, |any, &symbol| any | comma(symbol)) != 0
 }
 
-/// Whether it is in a piece twice, one behind the other; the piece has a symbol more.
+/// Whether it is in a piece twice in a row; the piece has one more symbol.
 #[inline(always)]
 fn twice(piece: &[u16]) -> bool {
     piece.iter().zip(&piece[1..]).fold(0, |any, (&one, &two)| any | comma(one) & comma(two)) != 0
 }
 
-/// Whether a span may begin at one of the places of a piece. Whole pieces are asked with their length known.
+/// Whether a span may begin at one of the places of a piece. For whole pieces the length is a constant.
 #[inline(always)]
 fn may_have_start(piece: &[u16]) -> bool {
     match <&[u16; PIECE + 1]>::try_from(piece) {
@@ -47,9 +47,9 @@ fn starts(symbols: &[u16]) -> bool {
     comma(symbols[0]) == 1 && symbols[0] ^ symbols[1] == 0x3FF && comma(symbols[2]) == 0
 }
 
-/// Whether bytes follow to the end of what is given, as far as one must go to see that they do not: another start, for one, ends it.
+/// Whether bytes follow to the end of what is given. It stops as soon as they do not: at another start, for one.
 fn bytes_follow(tables: &Tables, symbols: &[u16]) -> bool {
-    // The two forms by turns bring the disparity back to that of the first.
+    // The two forms in alternation bring the disparity back to that of the first.
     let mask = if symbols[0] == tables.k28_5[1] { POSITIVE } else { NEGATIVE };
     let mut reader = Reader { tables, symbols, at: 2, mask, bad: 0 };
     while reader.at < symbols.len() && reader.bad == 0 {
@@ -62,9 +62,9 @@ fn bytes_follow(tables: &Tables, symbols: &[u16]) -> bool {
     reader.bad == 0
 }
 
-/// The first span from a place on, its words left in the judge's rows. The reader goes through a span to its end whatever is in it. So it is
-/// asked behind a look at the first symbols, which noise does not pass; and within a span that it refused, behind a look at all up to the EAV,
-/// so that many starts close to each other do not cost that many spans.
+/// The first span from a place on, its words left in the judge's rows. The reader always goes through a span to its end. So it is called
+/// only after a check of the first symbols, which noise does not pass; and within a span that it refused, after a check of all up to the
+/// EAV, so that many starts close to each other do not cost that many spans.
 fn first(judge: &mut Judge, shape: Shape, depth: u32, symbols: &[u16], start: usize) -> Option<(usize, Delivery)> {
     let end = (symbols.len() + 1).saturating_sub(shape.symbols());
     let (mut from, mut refused_until) = (start, 0);
@@ -99,7 +99,7 @@ pub fn find(judge: &mut Judge, format: u32, depth: u32, symbols: &[u16], start: 
     Ok(first(judge, shape, depth, symbols, start as usize).map(|(place, _)| place as u64))
 }
 
-/// The same with what is read there. Rows stay as they were where there is none, so it is read into others first.
+/// The same with what is read there. Rows stay as they were if there is none, so it is read into others first.
 #[inline(never)]
 pub fn next(judge: &mut Judge, format: u32, depth: u32, symbols: &[u16], start: u64, rows: &mut [u16]) -> Answer<Option<(u64, Delivery)>> {
     let shape = shape(format, depth)?;

@@ -6,7 +6,7 @@ use outside::changed::random_symbols;
 use outside::spans::{made_characters, made_words, sent_symbols};
 use plain::span::{shape, symbols, Shape};
 
-/// An input by its name, with what must be printed of it. That is told from what was put in, so it does not rest on the reader alone.
+/// An input with its name, and what must be printed for it. That is known from what was put in, so it does not rest on the reader alone.
 pub type Known = (&'static str, Vec<u8>, &'static str);
 
 fn input(format: u8, depth: u8, symbols: &[u16]) -> Vec<u8> {
@@ -23,7 +23,7 @@ fn noise(random: &mut Random, count: usize) -> Vec<u16> {
     (0..count).map(|_| random.next() as u16 % 1024).collect()
 }
 
-/// A span of a line as it should be sent, at either disparity.
+/// A span of a line, sent correctly, at either disparity.
 fn good(random: &mut Random, shape: Shape, depth: u32, line: u32) -> Vec<u16> {
     let positive = random.seldom(2);
     sent_symbols(random, shape, depth, line, positive)
@@ -36,7 +36,7 @@ fn damaged(mut symbols: Vec<u16>) -> Vec<u16> {
     symbols
 }
 
-/// A span with one wrong bit in a timing word. It is sent with legal symbols, and the CRCC is that of the right word: so it is repaired.
+/// A span with one wrong bit in a timing word. It is sent with legal symbols, and the CRCC is that of the right word, so it is repaired.
 fn repaired(random: &mut Random, shape: Shape, depth: u32, line: u32) -> Vec<u16> {
     let mut words = made_words(random, shape, depth, line);
     words[1927 * shape.streams + 1] ^= 1 << 7;
@@ -73,7 +73,7 @@ pub fn stored() -> Vec<Known> {
     ]
 }
 
-/// Ends of the input, of what is read of it, and of what is known.
+/// The limits of the input, of what is read of it, and of what is known.
 pub fn edges() -> Vec<Known> {
     let random = &mut Random(2);
     let one = shape_of(1);
@@ -101,9 +101,9 @@ pub fn edges() -> Vec<Known> {
     edges
 }
 
-// ---- Inputs by chance.
+// ---- Random inputs.
 
-/// Spans as they should be or changed in any way, whole or not, with anything between them.
+/// Spans sent correctly or changed in any way, whole or not, with anything between them.
 pub fn recording(random: &mut Random) -> Vec<u8> {
     let (format, depth) = (random.pick(&[1, 1, 1, 2, 2, 3]), random.pick(&[10, 12]));
     let right = shape_of(format);

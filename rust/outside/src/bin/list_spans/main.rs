@@ -1,6 +1,6 @@
-//! What the program that lists spans must print, worked out from document 01 with the plain reader at every place, and compared with what
+//! What the program that lists spans must print, computed from document 01 with the plain reader at every place, and compared with what
 //! the program given as the argument prints, for input whole and in small pieces. With the words `make DIR` it writes the stored inputs,
-//! and what must be printed of each, into a folder.
+//! and what must be printed for each, into a folder.
 
 mod inputs;
 
@@ -9,7 +9,7 @@ use inputs::{edges, recording, stored, Known};
 use outside::printed::printed;
 use plain::recording::delivery;
 
-/// The symbols that are read of an input.
+/// The most symbols that are read of an input.
 const MOST: usize = 32_767;
 const REFUSED: &str = "refused 1\n";
 
@@ -35,7 +35,7 @@ fn make(folder: &str) {
 
 const PIECES: [usize; 5] = [1, 3, 4096, 65_536, 1 << 20];
 
-/// Gives how many spans are listed.
+/// Answers how many spans are listed.
 fn compare(program: &str, name: &str, input: &[u8], pieces: &[usize]) -> usize {
     let text = listing(input);
     for &piece in pieces {
