@@ -131,4 +131,4 @@ Delivered f r list = (rows : List ℕ) → Samples f (length rows) → (k : ℕ)
 
 -- the words of a row of samples: at depth 10 shifted by two
 abbrev pub wordsFor : Format → List ℕ → List ℕ
-wordsFor f rule = table (length rule) (λ i. cond (eqb (f .depth) 10) (4 * getD rule i 0) (getD rule i 0))
+wordsFor f row = table (length row) (λ i. cond (eqb (f .depth) 10) (4 * getD row i 0) (getD row i 0))

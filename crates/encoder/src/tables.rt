@@ -545,7 +545,7 @@ const SYMBOLS: [u16; 536] = [
 ];
 
 // 268 for a character that flips the disparity, else 0.
-const TURNS: [u16; 268] = [
+const FLIPS: [u16; 268] = [
     0, // 00
     0,
     0,
@@ -827,7 +827,7 @@ pub fn symbol_table() -> [u16; 536]
 pub fn flip_table() -> [u16; 268]
     ensures { λ r. ⌜ r ≡ flipTable ⌝ }
 {
-    TURNS
+    FLIPS
 }
 
 // Where the symbols of a disparity begin.

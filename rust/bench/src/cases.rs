@@ -1,6 +1,6 @@
 //! The lines that are sent and read in the measurements.
 
-use chance::Random;
+use random::Random;
 use outside::spans::sent_symbols;
 use plain::span::{shape, Shape};
 

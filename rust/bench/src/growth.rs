@@ -4,7 +4,7 @@ use crate::fast::read::judge::Judge;
 use crate::fast::read::{recording, tables};
 use crate::recordings::{self, DEPTH, FORMAT};
 use crate::timing::Least;
-use chance::Random;
+use random::Random;
 use plain::span::shape;
 use std::time::Instant;
 

@@ -3,7 +3,7 @@
 use crate::recordings::noise;
 use crate::tables::grouped;
 use crate::timing::Least;
-use chance::Random;
+use random::Random;
 use std::hint::black_box;
 
 /// Samples copied, `times` times in one run; millions a second.

@@ -1,6 +1,6 @@
 //! Recordings of the greatest length, some of them made to keep the finder busy (01, "Receiving and finding").
 
-use chance::Random;
+use random::Random;
 use outside::spans::{made_characters, made_words, sent_symbols};
 use plain::code::{K28_5, K29_7};
 use plain::read::window;

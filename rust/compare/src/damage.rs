@@ -1,7 +1,7 @@
 //! The ways in which a span can be wrong, or look wrong: one or more for each row of the table of refusals (01, "Refusal numbers").
 
 use crate::spans::Draft;
-use chance::Random;
+use random::Random;
 use plain::code::{encode, meaning};
 use plain::words::{words_of, xyz};
 

@@ -3,7 +3,7 @@
 use crate::calls;
 use crate::report::{in_two, Report};
 use crate::spans::Draft;
-use chance::Random;
+use random::Random;
 
 pub fn format_1() -> Report {
     let mut r = all_flips(1, 12, 700);

@@ -2,7 +2,7 @@
 
 use crate::calls;
 use crate::report::{in_two, Report};
-use chance::Random;
+use random::Random;
 
 const LINES: [u32; 14] = [0, 1, 2, 3, 4, 1079, 1080, 1081, 2158, 2159, 2160, 2161, 65_537, u32::MAX];
 const SAMPLES: [u32; 14] = [0, 1, 2, 3, 1918, 1919, 1920, 1921, 3838, 3839, 3840, 3841, 65_536, u32::MAX];

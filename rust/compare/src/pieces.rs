@@ -2,7 +2,7 @@
 
 use crate::damage::{damaged, DAMAGES};
 use crate::spans::{any_sent, shape_of, Draft};
-use chance::Random;
+use random::Random;
 use plain::code::{encode, K28_5};
 
 type Piece = fn(&mut Random, u32, u32) -> Vec<u16>;
@@ -63,7 +63,7 @@ fn commas(random: &mut Random) -> Vec<u16> {
 
 /// A span that is right except for one late fault: in the CRCC, the row, the fill, or the last symbol.
 fn near_span(random: &mut Random, format: u32, depth: u32) -> Vec<u16> {
-    let draft = Draft::by_chance(random, format, depth);
+    let draft = Draft::at_random(random, format, depth);
     let late = ["a bit of CRCC1", "a word at the end of what samples have", "the last fill word", "nothing"];
     let name = random.pick(&late);
     let change = DAMAGES.iter().find(|(damage, _)| *damage == name).expect("a known damage").1;

@@ -6,7 +6,7 @@ use crate::reading::{read_damaged, Met};
 use crate::recordings::search;
 use crate::report::{in_two, Report};
 use crate::spans::{any_asked, any_line, any_samples, shape_of, KINDS};
-use chance::Random;
+use random::Random;
 use plain::words::words_of;
 
 pub const SEED: u64 = 20_210_347;

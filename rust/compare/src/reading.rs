@@ -4,7 +4,7 @@ use crate::calls;
 use crate::damage::{damaged, DAMAGES};
 use crate::report::{in_two, Report};
 use crate::spans::{shape_of, Draft, EDGES, KINDS};
-use chance::Random;
+use random::Random;
 use std::sync::atomic::{AtomicU64, Ordering};
 
 /// How often each refusal must be met, and a delivery with a repair.

@@ -5,7 +5,7 @@ use crate::pieces::{any_recording, any_start, inserted, inverted, lost, noise};
 use crate::report::{in_two, Report};
 use crate::spans::{any_asked, any_samples, any_sent, shape_of, KINDS};
 use brazulint::{Content, Delivery};
-use chance::Random;
+use random::Random;
 use plain::span::{row_words, send, Asked};
 
 pub fn run() -> Report {

@@ -5,7 +5,7 @@ use crate::expected;
 use crate::report::{in_two, Report};
 use crate::spans::{any_asked, any_samples, any_sent, shape_of, KINDS};
 use brazulint::raw;
-use chance::Random;
+use random::Random;
 use plain::recording::LIMIT;
 use plain::span::Asked;
 use std::ptr::{null, null_mut};

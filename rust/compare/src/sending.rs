@@ -3,7 +3,7 @@
 use crate::calls;
 use crate::report::{in_two, Report};
 use crate::spans::{any_asked, any_content, any_samples, shape_of, KINDS};
-use chance::Random;
+use random::Random;
 use plain::span::Asked;
 
 pub fn run() -> Report {

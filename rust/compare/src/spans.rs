@@ -1,6 +1,6 @@
 //! Random spans, as words that can still be changed.
 
-use chance::Random;
+use random::Random;
 use plain::span::{characters, row_words, shape, symbols, words, Asked, Shape};
 use plain::words::{crcc_of, is_active, nearest, BLANKING};
 
@@ -43,7 +43,7 @@ pub fn any_samples(random: &mut Random, format: u32, depth: u32, line: u32) -> V
 
 /// A random span as it is sent.
 pub fn any_sent(random: &mut Random, format: u32, depth: u32) -> Vec<u16> {
-    Draft::by_chance(random, format, depth).symbols()
+    Draft::at_random(random, format, depth).symbols()
 }
 
 /// The words of a span before they are coded.
@@ -64,7 +64,7 @@ impl Draft {
         Draft { shape, positive: random.flip(), content: any_content(random), words }
     }
 
-    pub fn by_chance(random: &mut Random, format: u32, depth: u32) -> Draft {
+    pub fn at_random(random: &mut Random, format: u32, depth: u32) -> Draft {
         let line = any_line(random);
         Draft::of_line(random, format, depth, line)
     }

@@ -5,7 +5,7 @@ use crate::calls;
 use crate::report::Report;
 use crate::spans::{any_content, any_samples};
 use brazulint::*;
-use chance::Random;
+use random::Random;
 use plain::span::Asked;
 
 /// The special characters: negative and positive form, a b c d e i, f g h j.

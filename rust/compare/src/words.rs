@@ -2,7 +2,7 @@
 
 use crate::calls;
 use crate::report::{in_two, Report};
-use chance::Random;
+use random::Random;
 use plain::words::words_of;
 
 pub fn run() -> Report {

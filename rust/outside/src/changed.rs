@@ -1,7 +1,7 @@
 //! Random spans, changed in any way or not: words before or after the CRCC is computed, characters, symbols.
 
 use crate::spans::{made_characters, made_words};
-use chance::Random;
+use random::Random;
 use plain::code::encode;
 use plain::span::{symbols, Shape, ROW};
 use plain::words::{crcc_of, is_active, words_of, xyz, BLANKING};

@@ -1,6 +1,6 @@
 //! Random spans to read, sent correctly (01, "A span" and "Sending").
 
-use chance::Random;
+use random::Random;
 use plain::span::{characters, symbols, words, Shape, ROW};
 use plain::words::{is_active, BLANKING};
 

@@ -7,7 +7,7 @@ use crate::fast::read::judge::Judge;
 use crate::fast::read::{recording, tables};
 use crate::timing::Three;
 use brazulint::Delivery;
-use chance::Random;
+use random::Random;
 use outside::spans::sent_symbols;
 use plain::read::Delivered;
 

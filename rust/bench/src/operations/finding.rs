@@ -5,7 +5,7 @@ use crate::fast::read::judge::Judge;
 use crate::fast::read::{recording, tables};
 use crate::recordings::{noise, noise_without_commas, DEPTH};
 use crate::timing::Three;
-use chance::Random;
+use random::Random;
 use plain::recording::LIMIT;
 
 const TURNS: usize = 400;

@@ -4,7 +4,7 @@ use super::Speeds;
 use crate::cases::WIRE_SAMPLES;
 use crate::fast::picture as fast;
 use crate::timing::Three;
-use chance::Random;
+use random::Random;
 use std::ops::Range;
 
 /// A picture line, and a line of a basic image.

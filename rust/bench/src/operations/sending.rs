@@ -5,7 +5,7 @@ use crate::cases::{Case, CASES, SPANS, TURNS};
 use crate::fast::send::{allowed, send, tables, Tables};
 use crate::timing::Three;
 use brazulint::Content;
-use chance::Random;
+use random::Random;
 use plain::span::Asked;
 use std::hint::black_box;
 

@@ -1,7 +1,7 @@
 //! What the loopback rig must write and print, computed piece by piece with the plain sender, reader and division, and compared whole with
 //! what the program given as the first argument writes into a folder, the second argument, and prints.
 
-use chance::Random;
+use random::Random;
 use outside::printed::written_by;
 use plain::picture::join;
 use plain::recording::delivery;

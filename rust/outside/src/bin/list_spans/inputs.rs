@@ -1,7 +1,7 @@
 //! Inputs of the program: a format, a depth, and the symbols of a recording, two bytes each.
 
 use crate::{MOST, REFUSED};
-use chance::Random;
+use random::Random;
 use outside::changed::random_symbols;
 use outside::spans::{made_characters, made_words, sent_symbols};
 use plain::span::{shape, symbols, Shape};

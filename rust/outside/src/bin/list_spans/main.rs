@@ -4,7 +4,7 @@
 
 mod inputs;
 
-use chance::Random;
+use random::Random;
 use inputs::{edges, recording, stored, Known};
 use outside::printed::printed;
 use plain::recording::delivery;
