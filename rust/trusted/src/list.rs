@@ -8,16 +8,18 @@ use std::fmt::Write;
 
 pub const PATH: &str = "docs/TRUSTED.md";
 
+const COLUMNS: usize = 118;
+
 const INTRODUCTION: &str = "# What a reviewer must believe
 
-The check shows that the code keeps its contracts. That the contracts say what document 01 and the standard say, somebody has to read. This
-is the list of what there is to read for that: the contracts at which the reading begins, and the definitions and types that they are made of.
-What is not listed need not be believed: `specs/Inside/` and `proofs/` are how it is shown. Names of the toolchain's own libraries are not
-followed.
+The check shows that the code keeps its contracts. That the contracts say what document 01 and the standard say,
+somebody has to read. This is the list of what there is to read for that: the contracts at which the reading begins,
+and the definitions and types that they are made of. What is not listed need not be believed: `specs/Inside/` and
+`proofs/` are how it is shown. Names of the toolchain's own libraries are not followed.
 
-`rust/trusted` makes this list from the text: it begins at the roots named below (`rust/trusted/src/roots.rs`) and follows every name.
-`./test` fails where the list is another, where a root comes to a definition in `specs/Inside/`, and where one outside of it is reached from
-no root.
+`rust/trusted` makes this list from the text: it begins at the roots named below (`rust/trusted/src/roots.rs`) and
+follows every name. `./test` fails if the list is another, if a root comes to a definition in `specs/Inside/`, or if
+one outside of it is reached from no root.
 
 ";
 
@@ -38,6 +40,28 @@ pub struct List<'a> {
 
 fn plural(number: usize, word: &str) -> String {
     format!("{number} {word}{}", if number == 1 { "" } else { "s" })
+}
+
+/// The same text with no line over the columns that a document has; an item's further lines are set in.
+fn wrapped(text: &str) -> String {
+    let mut out = String::new();
+    for line in text.lines() {
+        let mut column = 0;
+        for word in line.split(' ') {
+            let long = word.chars().count();
+            if column > 0 && column + 1 + long > COLUMNS {
+                out.push_str(if line.starts_with("- ") { "\n  " } else { "\n" });
+                column = if line.starts_with("- ") { 2 } else { 0 };
+            } else if column > 0 {
+                out.push(' ');
+                column += 1;
+            }
+            out.push_str(word);
+            column += long;
+        }
+        out.push('\n');
+    }
+    out
 }
 
 /// The first sentence.
@@ -92,9 +116,9 @@ impl List<'_> {
         writeln!(out, "## Where the reading begins\n")?;
         for (part, _) in PARTS {
             let for_whom = if part == Part::Calls { "The calls" } else { "The programs" };
-            writeln!(out, "{for_whom}:\n\n| crate | contracts | lines | why |\n|---|---|---|---|")?;
+            writeln!(out, "{for_whom}:\n")?;
             for b in self.reached.begun.iter().filter(|b| b.part == part) {
-                writeln!(out, "| {} | {} | {} | {} |", b.krate, b.what, b.lines, b.reason)?;
+                writeln!(out, "- {}, {}, {}: {}", b.krate, plural(b.lines, "line"), b.reason, b.what)?;
             }
             writeln!(out)?;
         }
@@ -182,6 +206,6 @@ impl List<'_> {
         let written = self.introduction(&mut out).and_then(|()| self.table(&mut out)).and_then(|()| self.roots(&mut out));
         let written = written.and_then(|()| self.crates(&mut out)).and_then(|()| self.laws(&mut out));
         written.expect("a text takes what is written to it");
-        out
+        wrapped(&out)
     }
 }

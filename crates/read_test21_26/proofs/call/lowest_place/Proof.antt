@@ -3,6 +3,7 @@
 use mathlib.Core.Path.{_≡_, sym, _∙_}
 use mathlib.Core.Bool.{true, false}
 use native.Mathlib.Omega.{arith}
+use lib.Dec.{eqb}
 use lib.ListN.{length}
 use borrow.Author.Needs.{needs}
 use borrow.Author.Tests.{eq-eqb, ne-eqb}
@@ -55,7 +56,8 @@ returns c =
     let a = v .before .before .before .before .before .args in
     let w = a .symbols .now in
     let is : isWindow (a .f) (length w) ≡ true = sym (v .before .before .before .is-window .ensures) ∙ v .before .before .if1 .taken in
-    rw (is, eq-eqb _ _ (c .before .before .if2 .taken)) (is-place-25 (a .f) w (v .shape-of .ensures) _ (c .first-wrong .ensures))
+    let asked : eqb (a .number) 25 ≡ true = eq-eqb (a .number) 25 (c .before .before .if2 .taken) in
+    rw (is, asked) (is-place-25 (a .f) w (v .shape-of .ensures) _ (c .first-wrong .ensures))
 
 add-from : tie.Need-add-from
 add-from c = omega (arith, small _ (c .before .before .before .before .before .shape-of .ensures) .ancillary)
@@ -87,7 +89,8 @@ returns-2 c =
     let a = v .before .before .before .before .before .args in
     let w = a .symbols .now in
     let is : isWindow (a .f) (length w) ≡ true = sym (v .before .before .before .is-window .ensures) ∙ v .before .before .if1 .taken in
-    rw (is, ne-eqb _ _ (c .before .before .before .before .if2 .left)) (is-place-26 (a .f) w (v .shape-of .ensures) _ (c .first-wrong2 .ensures))
+    let asked : eqb (a .number) 25 ≡ false = ne-eqb (a .number) 25 (c .before .before .before .before .if2 .left) in
+    rw (is, asked) (is-place-26 (a .f) w (v .shape-of .ensures) _ (c .first-wrong2 .ensures))
 
 returns-3 : tie.Need-returns-3
 returns-3 c =
