@@ -41,7 +41,8 @@ use Rattle.recording.proofs.Calling.{finds}
 use Rattle.recording.proofs.Readings.{span-whole}
 use Rattle.span.specs.Blanking.{fillOf, blankRow}
 use Rattle.send.specs.Send.{request, refusals, sendOf, sentBuffer}
-use Rattle.send.proofs.GoodCalls.{GoodCall, good-is-sent}
+use Rattle.send.specs.Laws.{GoodCall}
+use Rattle.send.proofs.GoodCalls.{good-is-sent}
 use Rattle.demands.specs.Form.{Sending, WasSent, readingOf, Delivered}
 use Rattle.demands.specs.Demands.{Demand1, Delivers, Demand2, Demand3, Beyond}
 use Rattle.demands.proofs.Delivering.{steps-are, delivered, anywhere, alone, damaged, nothing, fewer, one-inverted, beginning, found-none, found-and-read}

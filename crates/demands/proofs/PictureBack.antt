@@ -31,7 +31,7 @@ use Rattle.span.specs.Sample.{sampleWord}
 use Rattle.span.specs.Stream.{Request, picture}
 use Rattle.span.specs.Numbers.{IsFormat, Symbols}
 use Rattle.send.specs.Send.{request}
-use Rattle.send.proofs.GoodCalls.{GoodCall}
+use Rattle.send.specs.Laws.{GoodCall}
 use Rattle.demands.specs.Form.{wordsFor}
 use Rattle.demands.specs.Demands.{IsRow}
 

@@ -1,2 +1,3 @@
 pub mod Call
 pub mod Inside
+pub mod Laws

@@ -2,7 +2,6 @@
 -- Assumes nothing.
 use mathlib.Core.Path.{_≡_, refl, sym, _∙_}
 use mathlib.Core.Bool.{Bool, true, false}
-use mathlib.Core.List.{List}
 use mathlib.Core.Logic.{_⊎_, inl, inr, ⊎-elim}
 use Prim.Native.Nat.{ℕ, zero, suc, _≤_, _<_}
 use native.Mathlib.Omega.{arith}
@@ -21,28 +20,12 @@ use Rattle.span.specs.Inside.Sample.{boundsOf}
 use Rattle.span.specs.Span.{spanAfter}
 use Rattle.span.specs.Stream.{Request}
 use Rattle.span.proofs.Formats.{is-known, known-told}
+use Rattle.send.specs.Laws.{Sized, GoodCall}
 use Rattle.send.specs.Send.{sendOf}
 use Rattle.send.specs.Inside.Check.{firstOutside}
 use Rattle.send.specs.Inside.Send.{Accepted}
 use Rattle.send.proofs.Checking.{outside-never}
 use Rattle.send.proofs.Refusals.{forbidden-is, send-meets-1, send-meets-2, send-meets-3, send-meets-4, send-meets-6, sends, is-good}
-
--- formats 1 to 3, with the samples and the symbols of a span
-abbrev pub Sized : ℕ → ℕ → ℕ → Type 0
-Sized number samples symbols =
-    ((number ≡ 1) × (samples ≡ 3840) × (symbols ≡ 7920))
-    ⊎ (((number ≡ 2) × (samples ≡ 3840) × (symbols ≡ 9504))
-    ⊎ ((number ≡ 3) × (samples ≡ 7680) × (symbols ≡ 19008)))
-
--- a call that document 01 does not refuse: format, depth, line, samples, and the room for symbols
-pub record GoodCall (number depth n : ℕ) (xs : List ℕ) (room : ℕ) : Type 0 where
-  pub format : Sized number (length xs) room
-  pub bits : (depth ≡ 10) ⊎ (depth ≡ 12)
-  pub first : 1 ≤ n
-  pub last : n ≤ 1125
-  pub ten : depth ≡ 10 → 42 ≤ n → n ≤ 1121 → (i : ℕ) → i < length xs → (4 ≤ getD xs i 0) × (getD xs i 0 ≤ 1019)
-  pub twelve : depth ≡ 12 → 42 ≤ n → n ≤ 1121 → (i : ℕ) → i < length xs → (16 ≤ getD xs i 0) × (getD xs i 0 ≤ 4079)
-  pub blanking : (42 ≤ n → n ≤ 1121 → ⊥) → (i : ℕ) → i < length xs → getD xs i 0 ≡ 0x100
 
 -- the bounds of a line, in those numbers
 module _ (f : Format) (n x : ℕ) where

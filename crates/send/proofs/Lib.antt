@@ -1,5 +1,6 @@
 pub mod Checking
 pub mod GoodCalls
+pub mod Laws
 pub mod OneToOne
 pub mod Passing
 pub mod Putting

@@ -6,6 +6,7 @@ use Rattle.span.specs.Format.{shapeOf}
 use Rattle.span.specs.Laws.{SpanLaws}
 use Rattle.span.specs.Numbers.{IsFormat}
 use Rattle.span.proofs.Contents.{named-as-given, none-named-zeros}
+use Rattle.span.proofs.FilledOneToOne.{filled-one-to-one}
 use Rattle.span.proofs.Formats.{Known, is-known}
 use Rattle.span.proofs.Images.{images-of-120, images-of-100, images-of-50}
 use Rattle.span.proofs.LengthCalls.{lengths-meets-1, lengths-of-120, lengths-of-100, lengths-of-50}
@@ -51,4 +52,5 @@ span-laws = record {
   boundsAgree = λ f k. allowed-is f (known f k);
   factorAgrees = λ f k. word-is f (known f k);
   lengthsTold = lengths-one-to-one;
+  filledTold = filled-one-to-one;
 }

@@ -22,6 +22,7 @@ use Rattle.word.specs.Timing.{timing}
 use Rattle.span.specs.declared.content.Content.the-variants.{NoneNamed, Named}
 use Rattle.span.specs.declared.content.ContentBytes.{ContentBytes}
 use Rattle.span.specs.declared.format.Format.{Format}
+use Rattle.span.specs.Blanking.{paperFilled}
 use Rattle.span.specs.Content.{contentOf}
 use Rattle.span.specs.Encoding.{symbolsFrom, afterRun}
 use Rattle.span.specs.Format.{shapeOf, streams, samplesIn, pairsIn, symbolsIn, eavAt, formatFrom}
@@ -177,3 +178,4 @@ pub record SpanLaws : Type 0 where
       → sampleWord f n t x ≡ x * boundsOf f n .factor
   -- the paper's number and values tell any two answers apart, so that a contract about them fixes the answer
   pub lengthsTold : Injective paperLengths
+  pub filledTold : Injective paperFilled

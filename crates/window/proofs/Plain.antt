@@ -7,7 +7,6 @@ use Prim.Native.Nat.{ℕ, _+_, _*_, _/_, _%_, _≤_, _<_}
 use native.Mathlib.Nat.{mul-le-mul-left}
 use native.Mathlib.Omega.{arith}
 use lib.Dec.{ltb}
-use lib.ListN.{length}
 use borrow.Author.Tests.{ltb-true, ltb-false}
 use Rattle.ground.proofs.Cases.{on-test}
 use Rattle.span.specs.declared.format.Shape.{Shape}
@@ -16,7 +15,7 @@ use Rattle.packing.specs.declared.bytes.TwoWords.{TwoWords}
 use Rattle.packing.specs.Bytes.{unpacked}
 use Rattle.window.specs.Scan.{byteOf, symbolAt}
 use Rattle.window.specs.Words.{pairAt, wordAt}
-use Rattle.window.specs.Inside.Given.{Given, plainPair}
+use Rattle.window.specs.Inside.Given.{plainPair}
 use Rattle.window.proofs.Bytes.{byte-else}
 
 -- ---- three symbols
@@ -50,12 +49,6 @@ module _ (p : Shape) (j u : ℕ) (h : u < p .«stream_pairs») where
       after t =
           let m : p .«stream_pairs» * 1928 ≤ p .«stream_pairs» * j = mul-le-mul-left (p .«stream_pairs») (apart (ltb-false j 1924 t)) in
           omega arith
-
--- its three symbols are symbols of the window
-pub in-window : {p : Shape} {t w : List ℕ} → Given p t w → (j u : ℕ) → u < p .«stream_pairs» → j < 1932 + p .ancillary → 3 * (p .«stream_pairs» * j + u) + 3 ≤ length w
-in-window {p} g j u h l =
-    let m : p .«stream_pairs» * (j + 1) ≤ p .«stream_pairs» * (1932 + p .ancillary) = mul-le-mul-left (p .«stream_pairs») (omega arith) in
-    omega (arith, g .long)
 
 -- ---- what they are
 
