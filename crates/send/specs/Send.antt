@@ -40,7 +40,7 @@ forbidden f a i = not (allowed f (a .line) (i / 1920) (getD (a .samples) i 0))
 unfoldable pub firstForbidden : Format → Request → Option ℕ
 firstForbidden f a = firstBelow (length (a .samples)) (forbidden f a)
 
--- the refusals in the order tried, where the symbol buffer has so much room
+-- the refusals in the order tried, for a symbol buffer of this length
 abbrev pub refusals : Format → Request → ℕ → List Row
 refusals f a room =
     unless 1 (isKnown f)

@@ -5,8 +5,8 @@ ghost use lib.Dec.{eqb};
 ghost use Rattle.ground.specs.Range.{within};
 ghost use Rattle.send.specs.Inside.Check.{allWithin, firstOutside};
 
-// 0 where a sample is within the bounds, else how far it is above them; one below is far above, for the difference wraps. Said so, the
-// loop is a difference and a difference that stops at 0, of eight samples at a time.
+// 0 if a sample is within the bounds, else how far above them it is. One below the bounds counts as far above, since the difference wraps.
+// So the loop is one wrapping and one saturating difference, of eight samples at a time.
 fn outside(low: u16, high: u16, x: u16) -> u16
     requires { ⌜ low ≤ high ⌝ }
     ensures { λ r. ⌜ eqb r 0 ≡ within low high x ⌝ }
@@ -19,7 +19,7 @@ fn outside(low: u16, high: u16, x: u16) -> u16
     0
 }
 
-// Whether none is. Each sample is looked at, so that the loop has one way out and takes many at a time.
+// Whether none is outside. No early exit, so that the loop takes many at a time.
 fn none_outside(low: u16, high: u16, samples: &[u16]) -> bool
     requires { ⌜ low ≤ high ⌝ }
     ensures { λ r. ⌜ r ≡ allWithin low high (now (samples .entry)) ⌝ }
@@ -33,7 +33,7 @@ fn none_outside(low: u16, high: u16, samples: &[u16]) -> bool
     found == 0
 }
 
-// The lowest index of a sample outside the bounds; the length where there is none.
+// The lowest index of a sample outside the bounds; the length if there is none.
 pub(crate) fn first_outside(low: u16, high: u16, samples: &[u16]) -> usize
     requires { ⌜ low ≤ high ⌝ }
     ensures { λ r. ⌜ r ≡ firstOutside low high (now (samples .entry)) ⌝ }

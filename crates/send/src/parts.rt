@@ -1,4 +1,4 @@
-// A span out of its parts.
+// A span, part by part.
 use crate::put::Four;
 use crcc::crcc::CrccWords;
 use crcc::sums::Sums;
@@ -148,7 +148,7 @@ fn put_blanking(
     crate::put::put_run(symbols, turns, p.fill_pairs, d, fill, out, start + 3 * area);
 }
 
-// The whole span, of which two pairs of streams at most are sent: SAV and picture, what stands after it, and blanking.
+// The whole span, of at most two pairs of streams: SAV and picture, what comes after it, and blanking.
 pub(crate) fn put_span(
     symbols: &[u16; 536],
     turns: &[u16; 268],

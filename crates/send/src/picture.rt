@@ -1,5 +1,5 @@
-// The picture words of all streams, put into the symbol buffer. Two streams and four have a loop each, so that none asks in every turn how
-// many there are. The CRCs are worked out from the words afterwards (crate `row_crc`), so that the loops have less to do.
+// The picture words of all streams, put into the symbol buffer. Two streams and four have a loop each, so that neither asks in every iteration
+// how many there are. The CRCs are computed from the words afterwards (crate `row_crc`), so that the loops have less to do.
 use crcc::sums::Sums;
 ghost use mathlib.Core.Path.{_≡_};
 ghost use Prim.Native.Nat.{_+_, _*_, _≤_, _<_};
@@ -8,13 +8,13 @@ ghost use Rattle.encoder.specs.Inside.Tables.{offsetOf, ofOffset, symbolTable};
 ghost use Rattle.encoder.specs.Inside.Tables.{flipTable};
 ghost use Rattle.send.specs.Inside.Put.{offsetAfter, put, pairCharsAt, pictureWord, pictureChars, passedAt, AreWords};
 
-// Behind the picture: the offset of the running disparity, and the CRC of each stream.
+// After the picture: the offset of the running disparity, and the CRC of each stream.
 pub(crate) struct Passed {
     pub(crate) offset: usize,
     pub(crate) sums: Sums,
 }
 
-// A word of each of two streams, of the first the one at a place.
+// One word of each of two streams: the first stream's is at the given place.
 fn put_at(
     symbols: &[u16; 536],
     turns: &[u16; 268],
@@ -39,7 +39,7 @@ fn put_at(
     crate::put::put_both(symbols, turns, d, both, out, at)
 }
 
-// All 1920 words of each of two streams, four of each in a turn.
+// All 1920 words of each of two streams, four of each per iteration.
 fn put_two_streams(
     symbols: &[u16; 536],
     turns: &[u16; 268],
@@ -70,7 +70,7 @@ fn put_two_streams(
     offset
 }
 
-// All 1920 words of each of four streams, two of each in a turn.
+// All 1920 words of each of four streams, two of each per iteration.
 fn put_four_streams(
     symbols: &[u16; 536],
     turns: &[u16; 268],

@@ -7,7 +7,7 @@ ghost use Rattle.encoder.specs.Inside.Tables.{offsetOf, ofOffset, symbolTable};
 ghost use Rattle.encoder.specs.Inside.Tables.{flipTable};
 ghost use Rattle.send.specs.Inside.Put.{offsetAfter, put, pairChars, groupChars, wordOfFour, runChars, KeepsDisparity};
 
-// One word of each stream; with two streams the last two count for nothing.
+// One word of each stream; with two streams the last two are not used.
 pub(crate) struct Four {
     pub(crate) a: u16,
     pub(crate) b: u16,
@@ -163,7 +163,7 @@ pub(crate) fn put_same(
     )
 }
 
-// So many pairs of one word that leaves the disparity as it was: the same three symbols again and again.
+// A run of pairs of one word that leaves the disparity as it was: the same three symbols again and again.
 pub(crate) fn put_run(
     symbols: &[u16; 536],
     turns: &[u16; 268],

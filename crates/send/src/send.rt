@@ -30,7 +30,7 @@ pub enum Sent {
     NotAllowed(usize),
 }
 
-// A span of words, as many as the format asks for. The tables are lent once, here.
+// A span of words, as many as the format has. The tables are copied once, here, and lent from here on.
 fn send_words(
     f: Format,
     l: StreamLine,
@@ -91,7 +91,7 @@ fn send_scaled(
     send_words(f, l, d, content, words, out)
 }
 
-// A span that may be sent. Samples that are words as they are need no room for them.
+// A span that may be sent. Samples that are words already need no room of their own.
 fn send_span(
     f: Format,
     l: StreamLine,
@@ -115,7 +115,7 @@ fn send_span(
     send_scaled(f, l, d, content, factor, samples, &mut words[..n], out)
 }
 
-// A call whose format, line and lengths are good: its samples are left to tell.
+// A call whose format, line and lengths are good. Its samples are still to be checked.
 fn send_samples(
     f: Format,
     l: StreamLine,
@@ -139,7 +139,7 @@ fn send_samples(
     Sent::After(send_span(f, l, d, content, bounds.factor, samples, symbols))
 }
 
-// The span of a line: its symbols into the buffer, from the running disparity before it. The samples stand stream by stream.
+// The span of a line: its symbols into the buffer, from the running disparity before it. The samples are stream by stream.
 pub fn send(
     f: Format,
     l: StreamLine,

@@ -1,4 +1,4 @@
-// The timing codes of all streams, with a special character and content bytes in the place of their first four bytes (004, 7.1).
+// The timing codes of all streams, with a special character and content bytes in place of their first four bytes (004, 7.1).
 ghost use mathlib.Core.Path.{_≡_};
 ghost use Prim.Native.Nat.{_+_, _*_, _≤_, _<_};
 ghost use lib.ListN.{length};
@@ -45,7 +45,7 @@ fn put_sync(
     )
 }
 
-// The word of its second pair: with two streams the code has gone on to 000, with four it is FFF still.
+// The word of its second pair: with two streams the code is at 000 already, with four it is still at FFF.
 fn second_word(pairs: usize) -> u16
     ensures { λ r. ⌜ r ≡ secondWord pairs ⌝ }
 {
@@ -55,7 +55,7 @@ fn second_word(pairs: usize) -> u16
     0xFFF
 }
 
-// The whole code: what is replaced, the pairs 000 000 that are left, and XYZ of each stream.
+// The whole code: what is replaced, the remaining pairs 000 000, and XYZ of each stream.
 pub(crate) fn put_timing(
     symbols: &[u16; 536],
     turns: &[u16; 268],

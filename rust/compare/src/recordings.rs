@@ -112,7 +112,7 @@ fn delivers<'a>(r: &mut Report, format: u32, depth: u32, recording: &[u16], span
         start = next.resume;
     }
     let next = brazulint::next(format, depth, recording, start, &mut vec![0; samples]);
-    r.answer(|| format!("behind the last span, at {start}"), next.result(), Ok(None));
+    r.answer(|| format!("after the last span, at {start}"), next.result(), Ok(None));
 }
 
 /// A symbol inserted, lost or with one bit inverted in sent spans, against plain.

@@ -23,8 +23,8 @@ fn part(text: &str) -> Option<(&str, &str)> {
 /// How far a list of clauses goes: to its last number or title.
 fn list_length(text: &str) -> usize {
     let (mut rest, mut length) = (text, 0);
-    while let Some((word, behind)) = part(rest) {
-        rest = behind;
+    while let Some((word, after)) = part(rest) {
+        rest = after;
         if word.ends_with(|c: char| c.is_ascii_digit() || c == '"') || word.ends_with("refusals") {
             length = text.len() - rest.len();
         }
@@ -47,9 +47,9 @@ pub fn citations(comments: &[String]) -> Vec<String> {
     let mut places: Vec<(usize, &str)> = PAPERS.iter().flat_map(|paper| whole.match_indices(paper)).collect();
     places.sort();
     for (at, paper) in places {
-        let behind = &whole[at + paper.len()..];
-        let length = if behind.starts_with(", ") { list_length(behind) } else { 0 };
-        found.push(format!("{paper}{}", &behind[..length]));
+        let after = &whole[at + paper.len()..];
+        let length = if after.starts_with(", ") { list_length(after) } else { 0 };
+        found.push(format!("{paper}{}", &after[..length]));
     }
     found.extend(comments.iter().filter_map(|comment| at_beginning(comment)));
     let bare = |one: &String| ["004", "document 01"].contains(&one.as_str());

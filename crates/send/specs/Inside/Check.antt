@@ -13,6 +13,6 @@ unfoldable pub allWithin : ℕ → ℕ → List ℕ → Bool
 allWithin low high [] = true
 allWithin low high (x ∷ xs) = within low high x && allWithin low high xs
 
--- the lowest index of one that is; the length where there is none
+-- the lowest index of one that is; the length if there is none
 unfoldable pub firstOutside : ℕ → ℕ → List ℕ → ℕ
 firstOutside low high xs = Option·getD (firstBelow (length xs) (λ i. not (within low high (getD xs i 0)))) (length xs)

@@ -1,5 +1,5 @@
 -- What the sender's loops put into the symbol buffer, with the running disparity kept as its offset in the encoder's tables. Only private
--- functions speak of this; that all of it together is the span's characters is the law `whole-is`.
+-- functions use this. Law `whole-is`: all of it together is the characters of the span.
 -- Assumes nothing.
 use Prim.Native.Nat.{ℕ, _+_, _*_, _<_}
 use mathlib.Core.Path.{_≡_}
@@ -117,7 +117,7 @@ unfoldable pub crccChars : ℕ → Sums → ℕ → LineWords → List ℕ
 crccChars pairs s xyz n =
     groupChars pairs (λ t. crccAfter (sumIn s t) xyz n .crcc0) ++ groupChars pairs (λ t. crccAfter (sumIn s t) xyz n .crcc1)
 
--- those of EAV, line number and CRCC, where the line after is given
+-- those of EAV, line number and CRCC, for the given next line
 unfoldable pub afterPictureChars : ℕ → Sums → ℕ → ContentBytes → List ℕ
 afterPictureChars pairs s next content =
     let n = lineWords next in
@@ -125,7 +125,7 @@ afterPictureChars pairs s next content =
     timingChars pairs (numberOf «K29_7») (content .eav1) (content .eav2) xyz
     ++ (groupChars pairs (λ _. n .ln0) ++ (groupChars pairs (λ _. n .ln1) ++ crccChars pairs s xyz n))
 
--- so many pairs of one word
+-- a run of pairs of one word
 unfoldable pub runChars : ℕ → ℕ → List ℕ
 runChars n w = upto n (λ _. pairChars w w)
 

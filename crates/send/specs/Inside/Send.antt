@@ -1,4 +1,4 @@
--- Sending a span: what loops and proofs keep for themselves. The rest stands in specs/Send.
+-- Sending a span: definitions that only loops and proofs use. The rest is in specs/Send.
 -- Assumes nothing.
 use Prim.Native.Nat.{ℕ, _<_}
 use mathlib.Core.Path.{_≡_}

@@ -189,8 +189,8 @@ unsafe fn span<const S: usize>(tables: &Tables, shape: Shape, depth: u32, symbol
     let mut repairs = 0;
     for t in 0..S {
         let ((vh, distance), (next_vh, next_distance)) = (near[t], next_near[t]);
-        let behind = [0xFFF, 0, 0, XYZ[next_vh % 4], ln0[t], ln1[t]];
-        let worked_out = crcc_words(behind.iter().fold(registers[t], |register, &word| step(register, word)));
+        let after = [0xFFF, 0, 0, XYZ[next_vh % 4], ln0[t], ln1[t]];
+        let worked_out = crcc_words(after.iter().fold(registers[t], |register, &word| step(register, word)));
         let right = [ln0[t], ln1[t]] == [ln0[0], ln1[0]] && worked_out == [crcc[0][t], crcc[1][t]];
         let v_fits = (vh / 2 == 0) == is_active(line) && (next_vh / 2 == 0) == is_active(next);
         reader.bad |= !(right && v_fits) as u32;

@@ -150,8 +150,8 @@ fn compare(program: &Path, folder: &Path) {
     knocks.extend((0..BY_CHANCE).map(|_| (random.within(0, FRAME), random.pick(&[1, 2 * SPAN, 20 * SPAN]) + random.within(0, SPAN))));
     for &knock in &knocks {
         let (file, text) = rig.outcome(knock);
-        for behind in ["", "ignored"] {
-            let bytes = [&input(knock)[..], behind.as_bytes()].concat();
+        for after in ["", "ignored"] {
+            let bytes = [&input(knock)[..], after.as_bytes()].concat();
             let printed = written_by(run(program, folder, Some("knocked.pgm")), &bytes, 3);
             assert_eq!(String::from_utf8_lossy(&printed), text, "{knock:?}");
             assert!(std::fs::read(folder.join("knocked.pgm")).expect("a picture") == file, "{knock:?}: another picture");

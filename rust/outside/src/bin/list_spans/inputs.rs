@@ -91,9 +91,9 @@ pub fn edges() -> Vec<Known> {
         ("half of the last symbol", whole[..whole.len() - 1].to_vec(), ""),
         ("a span that ends at the last symbol", at(random, MOST - n), "24847 1125\n"),
         ("a span that ends one symbol past the last", at(random, MOST - n + 1), ""),
-        ("an odd byte behind the last symbol", [at(random, MOST - n), vec![1]].concat(), "24847 1125\n"),
+        ("an odd byte after the last symbol", [at(random, MOST - n), vec![1]].concat(), "24847 1125\n"),
         ("more than is read", [at(random, 5000), whole.repeat(5)].concat(), "5000 1125\n12921 1125\n20842 1125\n"),
-        ("spans one behind the other", input(1, 10, &span.repeat(6)), "0 1125\n7920 1125\n15840 1125\n23760 1125\n"),
+        ("spans one after the other", input(1, 10, &span.repeat(6)), "0 1125\n7920 1125\n15840 1125\n23760 1125\n"),
     ];
     for (format, depth) in [(0, 10), (4, 10), (255, 12), (1, 0), (2, 9), (3, 11), (1, 13), (1, 255)] {
         edges.push(("an unknown format or depth", input(format, depth, &span), REFUSED));
