@@ -43,12 +43,12 @@ symbol-at d c h =
     place Negative = omega arith
     place Positive = omega arith
 
-pub turn-at : (c : ℕ) → c < 268 → getD flipTable c 0 ≡ cond (flips c) 268 0
+pub flip-at : (c : ℕ) → c < 268 → getD flipTable c 0 ≡ cond (flips c) 268 0
 unfolding flipTable
-turn-at c h = getD-table 268 (λ c. cond (flips c) 268 0) c 0 h
+flip-at c h = getD-table 268 (λ c. cond (flips c) 268 0) c 0 h
 
-pub turn-below : (c : ℕ) → c < 268 → getD flipTable c 0 ≤ 268
-turn-below c h = rw (turn-at c h) (either (flips c))
+pub flip-below : (c : ℕ) → c < 268 → getD flipTable c 0 ≤ 268
+flip-below c h = rw (flip-at c h) (either (flips c))
   where
     either : (t : Bool) → cond t 268 0 ≤ 268
     either true = omega arith
@@ -56,7 +56,7 @@ turn-below c h = rw (turn-at c h) (either (flips c))
 
 -- an exclusive or with a character's turn gives the offset of the disparity after it
 pub after-at : (d : Disparity) (c : ℕ) → c < 268 → bitXor (offsetOf d) (getD flipTable c 0) ≡ offsetOf (afterOf d c)
-after-at d c h = ap (bitXor (offsetOf d)) (turn-at c h) ∙ turned d (flips c) ∙ ap offsetOf (sym (turns-both d c h))
+after-at d c h = ap (bitXor (offsetOf d)) (flip-at c h) ∙ turned d (flips c) ∙ ap offsetOf (sym (turns-both d c h))
   where
     turned : (d : Disparity) (t : Bool) → bitXor (offsetOf d) (cond t 268 0) ≡ offsetOf (flippedIf t d)
     turned Negative true = refl

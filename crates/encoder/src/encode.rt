@@ -18,12 +18,12 @@ fn encode_character(d: Disparity, c: u16) -> Encoded
     ensures { λ r. ⌜ r ≡ encoded d c ⌝ }
 {
     let symbols = crate::tables::symbol_table();
-    let turns = crate::tables::flip_table();
+    let flips = crate::tables::flip_table();
     let offset = crate::tables::offset_of(d);
     let at = offset + c as usize;
     let symbol = symbols[at];
-    let turn = turns[c as usize] as usize;
-    let after = crate::tables::disparity_at(offset ^ turn);
+    let flip = flips[c as usize] as usize;
+    let after = crate::tables::disparity_at(offset ^ flip);
     Encoded { symbol, after }
 }
 

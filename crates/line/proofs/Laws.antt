@@ -9,7 +9,7 @@ pub line-laws : LineLaws
 line-laws = record {
   active = active;
   blankingBefore = blanking-before;
-  blankingBehind = blanking-behind;
+  blankingAfter = blanking-behind;
   afterLast = after-last;
   beforeFirst = before-first;
   afterIsLine = after-is-line;

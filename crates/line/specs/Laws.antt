@@ -13,7 +13,7 @@ pub record LineLaws : Type 0 where
   -- V is 0 on stream lines 42 to 1121 and 1 on those before and after (004, table 5)
   pub active : (n : ℕ) → 42 ≤ n → n ≤ 1121 → vOf n ≡ false
   pub blankingBefore : (n : ℕ) → n ≤ 41 → vOf n ≡ true
-  pub blankingBehind : (n : ℕ) → 1122 ≤ n → vOf n ≡ true
+  pub blankingAfter : (n : ℕ) → 1122 ≤ n → vOf n ≡ true
   -- line 1 comes after 1125, and 1125 before 1 (document 01, "A span")
   pub afterLast : lineAfter 1125 ≡ 1
   pub beforeFirst : lineBefore 1 ≡ 1125

@@ -46,11 +46,11 @@ module _ (low high : ℕ) where
       (λ t. let n : out ≡ 0 = eqb-true out 0 (e ∙ t) in simp (t, n, or-zero-r))
       (λ t. simp (t, stays found out (e ∙ t), and-false))
 
-  pub look-turn :
+  pub look-flip :
       (found out : ℕ) (xs : List ℕ) (i : ℕ)
       → i < length xs → eqb out 0 ≡ within low high (getD xs i 0)
       → (eqb (bitOr found out) 0 && allWithin low high (drop (i + 1) xs)) ≡ (eqb found 0 && allWithin low high (drop i xs))
-  look-turn found out xs i h e = rw (next-left xs i 0 h) (looked found out (getD xs i 0) (drop (i + 1) xs) e)
+  look-flip found out xs i h e = rw (next-left xs i 0 h) (looked found out (getD xs i 0) (drop (i + 1) xs) e)
 
   pub look-done : (found : ℕ) (xs : List ℕ) (i : ℕ) → length xs ≤ i → (eqb found 0 && allWithin low high (drop i xs)) ≡ eqb found 0
   unfolding allWithin

@@ -19,40 +19,40 @@ pub(crate) struct Three {
 }
 
 // The symbol of character c at offset d, and the offset after it.
-pub(crate) fn code(symbols: &[u16; 536], turns: &[u16; 268], d: usize, c: u16) -> Coded
+pub(crate) fn code(symbols: &[u16; 536], flips: &[u16; 268], d: usize, c: u16) -> Coded
     requires { ⌜ now symbols ≡ symbolTable ⌝ }
-    requires { ⌜ now turns ≡ flipTable ⌝ }
+    requires { ⌜ now flips ≡ flipTable ⌝ }
     requires { ⌜ d ≡ offsetOf (ofOffset d) ⌝ }
     requires { ⌜ c < 268 ⌝ }
     ensures { λ r. ⌜ r ≡ coded (ofOffset d) c ⌝ }
 {
-    let turn = turns[c as usize];
+    let flip = flips[c as usize];
     Coded {
         symbol: symbols[d + c as usize],
-        offset: d ^ turn as usize,
+        offset: d ^ flip as usize,
     }
 }
 
 // The symbols of characters x, y and z in turn.
 pub(crate) fn code_three(
     symbols: &[u16; 536],
-    turns: &[u16; 268],
+    flips: &[u16; 268],
     d: usize,
     x: u16,
     y: u16,
     z: u16,
 ) -> Three
     requires { ⌜ now symbols ≡ symbolTable ⌝ }
-    requires { ⌜ now turns ≡ flipTable ⌝ }
+    requires { ⌜ now flips ≡ flipTable ⌝ }
     requires { ⌜ d ≡ offsetOf (ofOffset d) ⌝ }
     requires { ⌜ x < 268 ⌝ }
     requires { ⌜ y < 268 ⌝ }
     requires { ⌜ z < 268 ⌝ }
     ensures { λ r. ⌜ r ≡ threeOf (ofOffset d) x y z ⌝ }
 {
-    let first = code(symbols, turns, d, x);
-    let second = code(symbols, turns, first.offset, y);
-    let third = code(symbols, turns, second.offset, z);
+    let first = code(symbols, flips, d, x);
+    let second = code(symbols, flips, first.offset, y);
+    let third = code(symbols, flips, second.offset, z);
     Three {
         first: first.symbol,
         second: second.symbol,

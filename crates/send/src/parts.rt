@@ -35,7 +35,7 @@ fn crcc_after(c: u32, xyz: u16, n: LineWords) -> CrccWords
 // The CRCC words of each stream.
 fn put_crcc(
     symbols: &[u16; 536],
-    turns: &[u16; 268],
+    flips: &[u16; 268],
     pairs: usize,
     d: usize,
     sums: Sums,
@@ -45,7 +45,7 @@ fn put_crcc(
     at: usize,
 ) -> usize
     requires { ⌜ now symbols ≡ symbolTable ⌝ }
-    requires { ⌜ now turns ≡ flipTable ⌝ }
+    requires { ⌜ now flips ≡ flipTable ⌝ }
     requires { ⌜ 1 ≤ pairs ⌝ }
     requires { ⌜ pairs ≤ 2 ⌝ }
     requires { ⌜ d ≡ offsetOf (ofOffset d) ⌝ }
@@ -69,14 +69,14 @@ fn put_crcc(
         c: c.crcc1,
         e: e.crcc1,
     };
-    let d1 = crate::put::put_four(symbols, turns, pairs, d, first, out, at);
-    crate::put::put_four(symbols, turns, pairs, d1, second, out, at + 3 * pairs)
+    let d1 = crate::put::put_four(symbols, flips, pairs, d, first, out, at);
+    crate::put::put_four(symbols, flips, pairs, d1, second, out, at + 3 * pairs)
 }
 
 // EAV, line number and CRCC, with V and the number of the line after l.
 pub(crate) fn put_after_picture(
     symbols: &[u16; 536],
-    turns: &[u16; 268],
+    flips: &[u16; 268],
     pairs: usize,
     d: usize,
     sums: Sums,
@@ -86,7 +86,7 @@ pub(crate) fn put_after_picture(
     at: usize,
 ) -> usize
     requires { ⌜ now symbols ≡ symbolTable ⌝ }
-    requires { ⌜ now turns ≡ flipTable ⌝ }
+    requires { ⌜ now flips ≡ flipTable ⌝ }
     requires { ⌜ 1 ≤ pairs ⌝ }
     requires { ⌜ pairs ≤ 2 ⌝ }
     requires { ⌜ d ≡ offsetOf (ofOffset d) ⌝ }
@@ -99,7 +99,7 @@ pub(crate) fn put_after_picture(
     let xyz = word::timing::timing_word(line::stream::v_of(next), true);
     let d1 = crate::timing::put_timing(
         symbols,
-        turns,
+        flips,
         pairs,
         d,
         crate::timing::K29_7,
@@ -109,11 +109,11 @@ pub(crate) fn put_after_picture(
         out,
         at,
     );
-    let d2 = crate::put::put_same(symbols, turns, pairs, d1, n.ln0, out, at + 12 * pairs);
-    let d3 = crate::put::put_same(symbols, turns, pairs, d2, n.ln1, out, at + 15 * pairs);
+    let d2 = crate::put::put_same(symbols, flips, pairs, d1, n.ln0, out, at + 12 * pairs);
+    let d3 = crate::put::put_same(symbols, flips, pairs, d2, n.ln1, out, at + 15 * pairs);
     put_crcc(
         symbols,
-        turns,
+        flips,
         pairs,
         d3,
         sums,
@@ -127,14 +127,14 @@ pub(crate) fn put_after_picture(
 // The ancillary area and the fill: a run of one word each, which leaves the disparity as it was.
 fn put_blanking(
     symbols: &[u16; 536],
-    turns: &[u16; 268],
+    flips: &[u16; 268],
     p: Shape,
     blank: u16,
     d: usize,
     out: &mut [u16],
 )
     requires { ⌜ now symbols ≡ symbolTable ⌝ }
-    requires { ⌜ now turns ≡ flipTable ⌝ }
+    requires { ⌜ now flips ≡ flipTable ⌝ }
     requires { ⌜ Small p ⌝ }
     requires { ⌜ KeepsDisparity blank ⌝ }
     requires { ⌜ d ≡ offsetOf (ofOffset d) ⌝ }
@@ -144,14 +144,14 @@ fn put_blanking(
     let area = p.stream_pairs * p.ancillary;
     let start = ANCILLARY_SYMBOL * p.stream_pairs;
     let fill = span::blanking::fill_word();
-    crate::put::put_run(symbols, turns, area, d, blank, out, start);
-    crate::put::put_run(symbols, turns, p.fill_pairs, d, fill, out, start + 3 * area);
+    crate::put::put_run(symbols, flips, area, d, blank, out, start);
+    crate::put::put_run(symbols, flips, p.fill_pairs, d, fill, out, start + 3 * area);
 }
 
 // The whole span, of at most two pairs of streams: SAV and picture, what comes after it, and blanking.
 pub(crate) fn put_span(
     symbols: &[u16; 536],
-    turns: &[u16; 268],
+    flips: &[u16; 268],
     p: Shape,
     l: StreamLine,
     content: ContentBytes,
@@ -161,7 +161,7 @@ pub(crate) fn put_span(
     out: &mut [u16],
 ) -> usize
     requires { ⌜ now symbols ≡ symbolTable ⌝ }
-    requires { ⌜ now turns ≡ flipTable ⌝ }
+    requires { ⌜ now flips ≡ flipTable ⌝ }
     requires { ⌜ 1 ≤ p .«stream_pairs» ⌝ }
     requires { ⌜ Small p ⌝ }
     requires { ⌜ KeepsDisparity blank ⌝ }
@@ -176,7 +176,7 @@ pub(crate) fn put_span(
     let xyz = word::timing::timing_word(line::stream::v_of(l), false);
     let d1 = crate::timing::put_timing(
         symbols,
-        turns,
+        flips,
         pairs,
         d,
         crate::timing::K28_5,
@@ -188,9 +188,9 @@ pub(crate) fn put_span(
     );
     let start = PICTURE_SYMBOL * pairs;
     let end = EAV_SYMBOL * pairs;
-    let q = crate::picture::put_picture(symbols, turns, pairs, words, d1, out, start);
+    let q = crate::picture::put_picture(symbols, flips, pairs, words, d1, out, start);
     let sums = q.sums;
-    let d2 = put_after_picture(symbols, turns, pairs, q.offset, sums, l, content, out, end);
-    put_blanking(symbols, turns, p, blank, d2, out);
+    let d2 = put_after_picture(symbols, flips, pairs, q.offset, sums, l, content, out, end);
+    put_blanking(symbols, flips, p, blank, d2, out);
     d2
 }

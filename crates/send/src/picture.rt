@@ -17,7 +17,7 @@ pub(crate) struct Passed {
 // One word of each of two streams: the first stream's is at the given place.
 fn put_at(
     symbols: &[u16; 536],
-    turns: &[u16; 268],
+    flips: &[u16; 268],
     words: &[u16],
     place: usize,
     d: usize,
@@ -25,7 +25,7 @@ fn put_at(
     at: usize,
 ) -> usize
     requires { ⌜ now symbols ≡ symbolTable ⌝ }
-    requires { ⌜ now turns ≡ flipTable ⌝ }
+    requires { ⌜ now flips ≡ flipTable ⌝ }
     requires { ⌜ AreWords (now words) ⌝ }
     requires { ⌜ place + 1920 < length (now words) ⌝ }
     requires { ⌜ d ≡ offsetOf (ofOffset d) ⌝ }
@@ -36,20 +36,20 @@ fn put_at(
     let a = words[place];
     let b = words[place + 1920];
     let both = a as u32 + b as u32 * 4096;
-    crate::put::put_both(symbols, turns, d, both, out, at)
+    crate::put::put_both(symbols, flips, d, both, out, at)
 }
 
 // All 1920 words of each of two streams, four of each per iteration.
 fn put_two_streams(
     symbols: &[u16; 536],
-    turns: &[u16; 268],
+    flips: &[u16; 268],
     words: &[u16],
     d: usize,
     out: &mut [u16],
     at: usize,
 ) -> usize
     requires { ⌜ now symbols ≡ symbolTable ⌝ }
-    requires { ⌜ now turns ≡ flipTable ⌝ }
+    requires { ⌜ now flips ≡ flipTable ⌝ }
     requires { ⌜ AreWords (now words) ⌝ }
     requires { ⌜ length (now words) ≡ 3840 ⌝ }
     requires { ⌜ d ≡ offsetOf (ofOffset d) ⌝ }
@@ -61,10 +61,10 @@ fn put_two_streams(
     let mut j = 0;
     while j < 1920 {
         let o = at + 3 * j;
-        let a = put_at(symbols, turns, words, j, offset, out, o);
-        let b = put_at(symbols, turns, words, j + 1, a, out, o + 3);
-        let c = put_at(symbols, turns, words, j + 2, b, out, o + 6);
-        offset = put_at(symbols, turns, words, j + 3, c, out, o + 9);
+        let a = put_at(symbols, flips, words, j, offset, out, o);
+        let b = put_at(symbols, flips, words, j + 1, a, out, o + 3);
+        let c = put_at(symbols, flips, words, j + 2, b, out, o + 6);
+        offset = put_at(symbols, flips, words, j + 3, c, out, o + 9);
         j += 4;
     }
     offset
@@ -73,14 +73,14 @@ fn put_two_streams(
 // All 1920 words of each of four streams, two of each per iteration.
 fn put_four_streams(
     symbols: &[u16; 536],
-    turns: &[u16; 268],
+    flips: &[u16; 268],
     words: &[u16],
     d: usize,
     out: &mut [u16],
     at: usize,
 ) -> usize
     requires { ⌜ now symbols ≡ symbolTable ⌝ }
-    requires { ⌜ now turns ≡ flipTable ⌝ }
+    requires { ⌜ now flips ≡ flipTable ⌝ }
     requires { ⌜ AreWords (now words) ⌝ }
     requires { ⌜ length (now words) ≡ 7680 ⌝ }
     requires { ⌜ d ≡ offsetOf (ofOffset d) ⌝ }
@@ -92,10 +92,10 @@ fn put_four_streams(
     let mut i = 0;
     while i < 1920 {
         let o = at + 6 * i;
-        let a = put_at(symbols, turns, words, i, offset, out, o);
-        let b = put_at(symbols, turns, words, 3840 + i, a, out, o + 3);
-        let c = put_at(symbols, turns, words, i + 1, b, out, o + 6);
-        offset = put_at(symbols, turns, words, 3841 + i, c, out, o + 9);
+        let a = put_at(symbols, flips, words, i, offset, out, o);
+        let b = put_at(symbols, flips, words, 3840 + i, a, out, o + 3);
+        let c = put_at(symbols, flips, words, i + 1, b, out, o + 6);
+        offset = put_at(symbols, flips, words, 3841 + i, c, out, o + 9);
         i += 2;
     }
     offset
@@ -104,7 +104,7 @@ fn put_four_streams(
 // All 1920 words of each stream.
 fn put_streams(
     symbols: &[u16; 536],
-    turns: &[u16; 268],
+    flips: &[u16; 268],
     pairs: usize,
     words: &[u16],
     d: usize,
@@ -112,7 +112,7 @@ fn put_streams(
     at: usize,
 ) -> usize
     requires { ⌜ now symbols ≡ symbolTable ⌝ }
-    requires { ⌜ now turns ≡ flipTable ⌝ }
+    requires { ⌜ now flips ≡ flipTable ⌝ }
     requires { ⌜ 1 ≤ pairs ⌝ }
     requires { ⌜ pairs ≤ 2 ⌝ }
     requires { ⌜ AreWords (now words) ⌝ }
@@ -123,15 +123,15 @@ fn put_streams(
     ensures out { λ _. ⌜ now (out .exit) ≡ put d (pictureChars pairs 1920 (pictureWord (now (words .entry)))) at (now (out .entry)) ⌝ }
 {
     if pairs == 1 {
-        return put_two_streams(symbols, turns, words, d, out, at);
+        return put_two_streams(symbols, flips, words, d, out, at);
     }
-    put_four_streams(symbols, turns, words, d, out, at)
+    put_four_streams(symbols, flips, words, d, out, at)
 }
 
 // The same, and the CRC of each stream.
 pub(crate) fn put_picture(
     symbols: &[u16; 536],
-    turns: &[u16; 268],
+    flips: &[u16; 268],
     pairs: usize,
     words: &[u16],
     d: usize,
@@ -139,7 +139,7 @@ pub(crate) fn put_picture(
     at: usize,
 ) -> Passed
     requires { ⌜ now symbols ≡ symbolTable ⌝ }
-    requires { ⌜ now turns ≡ flipTable ⌝ }
+    requires { ⌜ now flips ≡ flipTable ⌝ }
     requires { ⌜ 1 ≤ pairs ⌝ }
     requires { ⌜ pairs ≤ 2 ⌝ }
     requires { ⌜ AreWords (now words) ⌝ }
@@ -149,7 +149,7 @@ pub(crate) fn put_picture(
     ensures passed { λ r. ⌜ r ≡ passedAt pairs d (now (words .entry)) ⌝ }
     ensures out { λ _. ⌜ now (out .exit) ≡ put d (pictureChars pairs 1920 (pictureWord (now (words .entry)))) at (now (out .entry)) ⌝ }
 {
-    let offset = put_streams(symbols, turns, pairs, words, d, out, at);
+    let offset = put_streams(symbols, flips, pairs, words, d, out, at);
     let sums = row_crc::sums::sums_of_rows(words);
     Passed { offset, sums }
 }

@@ -18,7 +18,7 @@ pub(crate) struct Four {
 // The symbols of characters x, y and z.
 pub(crate) fn put_three(
     symbols: &[u16; 536],
-    turns: &[u16; 268],
+    flips: &[u16; 268],
     d: usize,
     x: u16,
     y: u16,
@@ -27,7 +27,7 @@ pub(crate) fn put_three(
     at: usize,
 ) -> usize
     requires { ⌜ now symbols ≡ symbolTable ⌝ }
-    requires { ⌜ now turns ≡ flipTable ⌝ }
+    requires { ⌜ now flips ≡ flipTable ⌝ }
     requires { ⌜ d ≡ offsetOf (ofOffset d) ⌝ }
     requires { ⌜ x < 268 ⌝ }
     requires { ⌜ y < 268 ⌝ }
@@ -36,7 +36,7 @@ pub(crate) fn put_three(
     ensures offset { λ r. ⌜ r ≡ offsetAfter d (x ∷ y ∷ z ∷ []) ⌝ }
     ensures out { λ _. ⌜ now (out .exit) ≡ put d (x ∷ y ∷ z ∷ []) at (now (out .entry)) ⌝ }
 {
-    let t = crate::coder::code_three(symbols, turns, d, x, y, z);
+    let t = crate::coder::code_three(symbols, flips, d, x, y, z);
     out[at] = t.first;
     out[at + 1] = t.second;
     out[at + 2] = t.third;
@@ -46,7 +46,7 @@ pub(crate) fn put_three(
 // The symbols of the three bytes of words a and b.
 pub(crate) fn put_pair(
     symbols: &[u16; 536],
-    turns: &[u16; 268],
+    flips: &[u16; 268],
     d: usize,
     a: u16,
     b: u16,
@@ -54,7 +54,7 @@ pub(crate) fn put_pair(
     at: usize,
 ) -> usize
     requires { ⌜ now symbols ≡ symbolTable ⌝ }
-    requires { ⌜ now turns ≡ flipTable ⌝ }
+    requires { ⌜ now flips ≡ flipTable ⌝ }
     requires { ⌜ d ≡ offsetOf (ofOffset d) ⌝ }
     requires { ⌜ at + 3 ≤ length (now out) ⌝ }
     ensures offset { λ r. ⌜ r ≡ offsetAfter d (pairChars a b) ⌝ }
@@ -63,7 +63,7 @@ pub(crate) fn put_pair(
     let t = packing::bytes::bytes_of(a, b);
     put_three(
         symbols,
-        turns,
+        flips,
         d,
         t.first as u16,
         t.second as u16,
@@ -76,14 +76,14 @@ pub(crate) fn put_pair(
 // The same of two words of twelve bits as one number, the second above the first: its three bytes are theirs.
 pub(crate) fn put_both(
     symbols: &[u16; 536],
-    turns: &[u16; 268],
+    flips: &[u16; 268],
     d: usize,
     both: u32,
     out: &mut [u16],
     at: usize,
 ) -> usize
     requires { ⌜ now symbols ≡ symbolTable ⌝ }
-    requires { ⌜ now turns ≡ flipTable ⌝ }
+    requires { ⌜ now flips ≡ flipTable ⌝ }
     requires { ⌜ d ≡ offsetOf (ofOffset d) ⌝ }
     requires { ⌜ both < 16777216 ⌝ }
     requires { ⌜ at + 3 ≤ length (now out) ⌝ }
@@ -92,7 +92,7 @@ pub(crate) fn put_both(
 {
     put_three(
         symbols,
-        turns,
+        flips,
         d,
         (both % 256) as u16,
         (both / 256 % 256) as u16,
@@ -105,7 +105,7 @@ pub(crate) fn put_both(
 // One word of each stream.
 pub(crate) fn put_four(
     symbols: &[u16; 536],
-    turns: &[u16; 268],
+    flips: &[u16; 268],
     pairs: usize,
     d: usize,
     g: Four,
@@ -113,7 +113,7 @@ pub(crate) fn put_four(
     at: usize,
 ) -> usize
     requires { ⌜ now symbols ≡ symbolTable ⌝ }
-    requires { ⌜ now turns ≡ flipTable ⌝ }
+    requires { ⌜ now flips ≡ flipTable ⌝ }
     requires { ⌜ 1 ≤ pairs ⌝ }
     requires { ⌜ pairs ≤ 2 ⌝ }
     requires { ⌜ d ≡ offsetOf (ofOffset d) ⌝ }
@@ -121,17 +121,17 @@ pub(crate) fn put_four(
     ensures offset { λ r. ⌜ r ≡ offsetAfter d (groupChars pairs (wordOfFour g)) ⌝ }
     ensures out { λ _. ⌜ now (out .exit) ≡ put d (groupChars pairs (wordOfFour g)) at (now (out .entry)) ⌝ }
 {
-    let low = put_pair(symbols, turns, d, g.a, g.b, out, at);
+    let low = put_pair(symbols, flips, d, g.a, g.b, out, at);
     if pairs == 1 {
         return low;
     }
-    put_pair(symbols, turns, low, g.c, g.e, out, at + 3)
+    put_pair(symbols, flips, low, g.c, g.e, out, at + 3)
 }
 
 // The same word on every stream.
 pub(crate) fn put_same(
     symbols: &[u16; 536],
-    turns: &[u16; 268],
+    flips: &[u16; 268],
     pairs: usize,
     d: usize,
     w: u16,
@@ -139,7 +139,7 @@ pub(crate) fn put_same(
     at: usize,
 ) -> usize
     requires { ⌜ now symbols ≡ symbolTable ⌝ }
-    requires { ⌜ now turns ≡ flipTable ⌝ }
+    requires { ⌜ now flips ≡ flipTable ⌝ }
     requires { ⌜ 1 ≤ pairs ⌝ }
     requires { ⌜ pairs ≤ 2 ⌝ }
     requires { ⌜ d ≡ offsetOf (ofOffset d) ⌝ }
@@ -149,7 +149,7 @@ pub(crate) fn put_same(
 {
     put_four(
         symbols,
-        turns,
+        flips,
         pairs,
         d,
         Four {
@@ -166,7 +166,7 @@ pub(crate) fn put_same(
 // A run of pairs of one word that leaves the disparity as it was: the same three symbols again and again.
 pub(crate) fn put_run(
     symbols: &[u16; 536],
-    turns: &[u16; 268],
+    flips: &[u16; 268],
     pairs: usize,
     d: usize,
     w: u16,
@@ -174,7 +174,7 @@ pub(crate) fn put_run(
     at: usize,
 )
     requires { ⌜ now symbols ≡ symbolTable ⌝ }
-    requires { ⌜ now turns ≡ flipTable ⌝ }
+    requires { ⌜ now flips ≡ flipTable ⌝ }
     requires { ⌜ d ≡ offsetOf (ofOffset d) ⌝ }
     requires { ⌜ KeepsDisparity w ⌝ }
     requires { ⌜ at + 3 * pairs ≤ length (now out) ⌝ }
@@ -183,7 +183,7 @@ pub(crate) fn put_run(
     let b = packing::bytes::bytes_of(w, w);
     let t = crate::coder::code_three(
         symbols,
-        turns,
+        flips,
         d,
         b.first as u16,
         b.second as u16,

@@ -47,12 +47,12 @@ fn send_words(
     ensures symbols { λ _. ⌜ now (out .exit) ≡ put (offsetOf d) (spanPut f (l .0) content (now (words .entry))) 0 (now (out .entry)) ⌝ }
 {
     let symbols = encoder::tables::symbol_table();
-    let turns = encoder::tables::flip_table();
+    let flips = encoder::tables::flip_table();
     let p = span::format::shape_of(f);
     let c = span::content::content_of(f, content);
     let blank = span::blanking::blank_word(f);
     let before = encoder::tables::offset_of(d);
-    let after = crate::parts::put_span(&symbols, &turns, p, l, c, blank, words, before, out);
+    let after = crate::parts::put_span(&symbols, &flips, p, l, c, blank, words, before, out);
     encoder::tables::disparity_at(after)
 }
 

@@ -14,7 +14,7 @@ pub(crate) const K29_7: u16 = 266;
 // The special character twice, the content bytes, and the last two bytes of the second pair of words w.
 fn put_sync(
     symbols: &[u16; 536],
-    turns: &[u16; 268],
+    flips: &[u16; 268],
     d: usize,
     k: u16,
     content1: u8,
@@ -24,7 +24,7 @@ fn put_sync(
     at: usize,
 ) -> usize
     requires { ⌜ now symbols ≡ symbolTable ⌝ }
-    requires { ⌜ now turns ≡ flipTable ⌝ }
+    requires { ⌜ now flips ≡ flipTable ⌝ }
     requires { ⌜ d ≡ offsetOf (ofOffset d) ⌝ }
     requires { ⌜ k < 268 ⌝ }
     requires { ⌜ at + 6 ≤ length (now out) ⌝ }
@@ -32,10 +32,10 @@ fn put_sync(
     ensures out { λ _. ⌜ now (out .exit) ≡ put d (syncChars k content1 content2 w) at (now (out .entry)) ⌝ }
 {
     let t = packing::bytes::bytes_of(w, w);
-    let d1 = crate::put::put_three(symbols, turns, d, k, k, content1 as u16, out, at);
+    let d1 = crate::put::put_three(symbols, flips, d, k, k, content1 as u16, out, at);
     crate::put::put_three(
         symbols,
-        turns,
+        flips,
         d1,
         content2 as u16,
         t.second as u16,
@@ -58,7 +58,7 @@ fn second_word(pairs: usize) -> u16
 // The whole code: what is replaced, the remaining pairs 000 000, and XYZ of each stream.
 pub(crate) fn put_timing(
     symbols: &[u16; 536],
-    turns: &[u16; 268],
+    flips: &[u16; 268],
     pairs: usize,
     d: usize,
     k: u16,
@@ -69,7 +69,7 @@ pub(crate) fn put_timing(
     at: usize,
 ) -> usize
     requires { ⌜ now symbols ≡ symbolTable ⌝ }
-    requires { ⌜ now turns ≡ flipTable ⌝ }
+    requires { ⌜ now flips ≡ flipTable ⌝ }
     requires { ⌜ 1 ≤ pairs ⌝ }
     requires { ⌜ pairs ≤ 2 ⌝ }
     requires { ⌜ d ≡ offsetOf (ofOffset d) ⌝ }
@@ -80,7 +80,7 @@ pub(crate) fn put_timing(
 {
     let w = second_word(pairs);
     let zeros = 3 * pairs - 2;
-    let d1 = put_sync(symbols, turns, d, k, content1, content2, w, out, at);
-    crate::put::put_run(symbols, turns, zeros, d1, 0x000, out, at + 6);
-    crate::put::put_same(symbols, turns, pairs, d1, xyz, out, at + 9 * pairs)
+    let d1 = put_sync(symbols, flips, d, k, content1, content2, w, out, at);
+    crate::put::put_run(symbols, flips, zeros, d1, 0x000, out, at + 6);
+    crate::put::put_same(symbols, flips, pairs, d1, xyz, out, at + 9 * pairs)
 }

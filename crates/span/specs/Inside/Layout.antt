@@ -2,8 +2,6 @@
 -- Assumes nothing.
 use Prim.Native.Nat.{ℕ}
 
--- ---- in the words of one stream, the first of the SAV being word 0
-
 -- ---- in the symbols of one pair of streams, three for two words
 abbrev pub pictureSymbol : ℕ
 pictureSymbol = 12

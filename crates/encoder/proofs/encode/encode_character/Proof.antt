@@ -7,7 +7,7 @@ use lib.Bits.{bitXor}
 use lib.ListN.{getD}
 use Rattle.symbol.specs.Code.{afterOf}
 use Rattle.encoder.specs.Inside.Tables.{offsetOf}
-use Rattle.encoder.proofs.Entries.{offset-below, turn-below, after-at, encoded-is}
+use Rattle.encoder.proofs.Entries.{offset-below, flip-below, after-at, encoded-is}
 use borrow.Author.Needs.{needs}
 use Rattle.encoder.proofs.encode.encode_character.Statement.{statement}
 use Rattle.encoder.proofs.encode.encode_character.Tie as tie
@@ -30,14 +30,14 @@ mul-symbol c = omega (arith, c .offset-of .ensures, offset-below (c .before .bef
 array-read-symbol : tie.Need-array-read-symbol
 array-read-symbol c = omega (arith, c .offset-of .ensures, offset-below (c .before .before .before .args .d))
 
-mul-turn : tie.Need-mul-turn
-mul-turn c = search needs
+mul-flip : tie.Need-mul-flip
+mul-flip c = search needs
 
-array-read-turn : tie.Need-array-read-turn
-array-read-turn c = search needs
+array-read-flip : tie.Need-array-read-flip
+array-read-flip c = search needs
 
-cast-turn : tie.Need-cast-turn
-cast-turn c = rw (c .before .flip-table .ensures) (omega (arith, turn-below (c .before .before .before .args .c) (omega arith)))
+cast-flip : tie.Need-cast-flip
+cast-flip c = rw (c .before .flip-table .ensures) (omega (arith, flip-below (c .before .before .before .args .c) (omega arith)))
 
 disparity-at-requires : tie.Need-disparity-at-requires
 disparity-at-requires c κs = search needs
@@ -62,8 +62,8 @@ encode-character-spec =
     add-at
     mul-symbol
     array-read-symbol
-    mul-turn
-    array-read-turn
-    cast-turn
+    mul-flip
+    array-read-flip
+    cast-flip
     disparity-at-requires
     returns)

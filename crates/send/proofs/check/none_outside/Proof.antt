@@ -8,7 +8,7 @@ use lib.Dec.{eqb}
 use lib.ListN.{length, drop}
 use borrow.Author.Needs.{needs}
 use Rattle.send.specs.Inside.Check.{allWithin}
-use Rattle.send.proofs.Checking.{look-turn, look-done}
+use Rattle.send.proofs.Checking.{look-flip, look-done}
 use Rattle.send.proofs.check.none_outside.Statement.{statement}
 use Rattle.send.proofs.check.none_outside.Tie as tie
 
@@ -41,7 +41,7 @@ loop-again c =
     let a = c .before .before .before .before .before .args in
     let v = c .before .before .before .loop in
     let h : v .i < length (a .samples .now) = search needs in
-    look-turn (a .low) (a .high) (v .found) _ (a .samples .now) (v .i) h (c .outside .ensures) ∙ v .inv
+    look-flip (a .low) (a .high) (v .found) _ (a .samples .now) (v .i) h (c .outside .ensures) ∙ v .inv
 
 returns : tie.Need-returns Inv-loop μ-loop
 returns c =

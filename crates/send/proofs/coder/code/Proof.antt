@@ -8,7 +8,7 @@ use lib.ListN.{getD}
 use mathlib.Core.List.{List}
 use Rattle.encoder.specs.Inside.Tables.{offsetOf, ofOffset, symbolTable}
 use Rattle.encoder.specs.Inside.Tables.{flipTable}
-use Rattle.encoder.proofs.Entries.{offset-below, turn-below, symbol-at, after-at}
+use Rattle.encoder.proofs.Entries.{offset-below, flip-below, symbol-at, after-at}
 use Rattle.send.specs.declared.coder.Coded.{Coded}
 use Rattle.send.specs.Inside.Put.{coded}
 use borrow.Author.Needs.{needs}
@@ -16,18 +16,18 @@ use Rattle.send.proofs.coder.code.Statement.{statement}
 use Rattle.send.proofs.coder.code.Tie as tie
 
 -- the entries, where the tables are the encoder's and the offset is one
-entries : (symbols turns : List ℕ) (d c : ℕ) → symbols ≡ symbolTable → turns ≡ flipTable → d ≡ offsetOf (ofOffset d) → c < 268
-    → _≡_ {A = Coded} (record { symbol = getD symbols (d + c) 0; offset = bitXor d (getD turns c 0) }) (coded (ofOffset d) c)
-entries symbols turns d c s t o h =
+entries : (symbols flips : List ℕ) (d c : ℕ) → symbols ≡ symbolTable → flips ≡ flipTable → d ≡ offsetOf (ofOffset d) → c < 268
+    → _≡_ {A = Coded} (record { symbol = getD symbols (d + c) 0; offset = bitXor d (getD flips c 0) }) (coded (ofOffset d) c)
+entries symbols flips d c s t o h =
     ap₂ (λ (x y : ℕ). record { symbol = x; offset = y })
     (ap₂ (λ (l : List ℕ) (k : ℕ). getD l (k + c) 0) s o ∙ symbol-at (ofOffset d) c h)
     (ap₂ (λ (l : List ℕ) (k : ℕ). bitXor k (getD l c 0)) t o ∙ after-at (ofOffset d) c h)
 
-mul-turn : tie.Need-mul-turn
-mul-turn c = search needs
+mul-flip : tie.Need-mul-flip
+mul-flip c = search needs
 
-element-copy-out-turn : tie.Need-element-copy-out-turn
-element-copy-out-turn c = search needs
+element-copy-out-flip : tie.Need-element-copy-out-flip
+element-copy-out-flip c = search needs
 
 add-t7 : tie.Need-add-t7
 add-t7 c = omega (arith, offset-below (ofOffset (c .before .args .d)))
@@ -41,15 +41,15 @@ element-copy-out-t10 c = omega (arith, offset-below (ofOffset (c .before .args .
 cast-t14 : tie.Need-cast-t14
 cast-t14 c =
     let a = c .before .before .args in
-    let t : a .turns .now ≡ flipTable = search needs in
-    rw t (omega (arith, turn-below (a .c) (omega arith)))
+    let t : a .flips .now ≡ flipTable = search needs in
+    rw t (omega (arith, flip-below (a .c) (omega arith)))
 
 returns : tie.Need-returns
 returns c =
     let a = c .before .before .args in
-    entries (a .symbols .now) (a .turns .now) (a .d) (a .c) (search needs) (search needs) (search needs) (omega arith)
+    entries (a .symbols .now) (a .flips .now) (a .d) (a .c) (search needs) (search needs) (search needs) (omega arith)
 
 pub code-spec : {M : Type 1} → statement M
 code-spec =
     tie.close
-    (tie.spec mul-turn element-copy-out-turn add-t7 mul-t11 element-copy-out-t10 cast-t14 returns)
+    (tie.spec mul-flip element-copy-out-flip add-t7 mul-t11 element-copy-out-t10 cast-t14 returns)

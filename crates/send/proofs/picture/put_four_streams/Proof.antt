@@ -9,11 +9,11 @@ use Rattle.send.proofs.picture.put_four_streams.Statement.{statement}
 use Rattle.send.proofs.picture.put_four_streams.Tie as tie
 
 abbrev Inv-loop : tie.InvT-loop
-Inv-loop symbols turns words d out₀ at offset₀ i₀ out offset i =
+Inv-loop symbols flips words d out₀ at offset₀ i₀ out offset i =
     (i % 2 ≡ 0) × (i ≤ 1920) × Done d words at out₀ 2 (2 * i) offset out
 
 abbrev μ-loop : tie.MeasureT-loop
-μ-loop symbols turns words d out₀ at offset₀ i₀ out offset i = 1920 - i
+μ-loop symbols flips words d out₀ at offset₀ i₀ out offset i = 1920 - i
 
 loop-holds : tie.Need-loop-holds Inv-loop μ-loop
 loop-holds c =

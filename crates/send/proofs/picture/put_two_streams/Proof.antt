@@ -9,11 +9,11 @@ use Rattle.send.proofs.picture.put_two_streams.Statement.{statement}
 use Rattle.send.proofs.picture.put_two_streams.Tie as tie
 
 abbrev Inv-loop : tie.InvT-loop
-Inv-loop symbols turns words d out₀ at offset₀ j₀ out offset j =
+Inv-loop symbols flips words d out₀ at offset₀ j₀ out offset j =
     (j % 4 ≡ 0) × (j ≤ 1920) × Done d words at out₀ 1 j offset out
 
 abbrev μ-loop : tie.MeasureT-loop
-μ-loop symbols turns words d out₀ at offset₀ j₀ out offset j = 1920 - j
+μ-loop symbols flips words d out₀ at offset₀ j₀ out offset j = 1920 - j
 
 loop-holds : tie.Need-loop-holds Inv-loop μ-loop
 loop-holds c =

@@ -11,11 +11,11 @@ use Rattle.send.proofs.put.put_run.Statement.{statement}
 use Rattle.send.proofs.put.put_run.Tie as tie
 
 abbrev Inv-loop : tie.InvT-loop
-Inv-loop symbols turns pairs d w out₀ at t i₀ out i =
+Inv-loop symbols flips pairs d w out₀ at t i₀ out i =
     (i ≤ pairs) × (length out ≡ length out₀) × (out ≡ again d w out₀ at i)
 
 abbrev μ-loop : tie.MeasureT-loop
-μ-loop symbols turns pairs d w out₀ at t i₀ out i = pairs - i
+μ-loop symbols flips pairs d w out₀ at t i₀ out i = pairs - i
 
 bytes-of-requires : tie.Need-bytes-of-requires Inv-loop μ-loop
 bytes-of-requires c κs = search needs
