@@ -6,7 +6,7 @@ use Prim.Native.Nat.{ℕ}
 use Rattle.symbol.specs.declared.disparity.Disparity.{Disparity}
 use Rattle.span.specs.declared.content.Content.{Content}
 use Rattle.span.specs.declared.format.Format.{Format}
-use Rattle.send.specs.Send.{request, sendOf, sentBuffer}
+use Rattle.request.specs.Send.{request, sendOf, sentBuffer}
 
 module _ (k : Content) (xs : List ℕ) {d e : Disparity} {f g : Format} {n m : ℕ} (p : d ≡ e) (q : f ≡ g) (r : n ≡ m) where
   pub same-answer : (room : ℕ) → sendOf d f (request n k xs) room ≡ sendOf e g (request m k xs) room

@@ -26,7 +26,7 @@ use Rattle.span.specs.declared.format.Format.{Format}
 use Rattle.span.specs.Format.{isKnown, formatFrom}
 use Rattle.span.specs.Length.{lengthsOf}
 use Rattle.span.specs.Blanking.{fillOf, filledRow}
-use Rattle.send.specs.Send.{request, sendOf, sentBuffer}
+use Rattle.request.specs.Send.{request, sendOf, sentBuffer}
 use Rattle.window.specs.Read.{judgeOf, readOf, rowsRead}
 use Rattle.recording.specs.Call.{findOf, nextOf, afterNext, rowsNext}
 

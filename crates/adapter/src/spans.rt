@@ -9,7 +9,7 @@ ghost use lib.ListN.{length};
 ghost use Rattle.span.specs.Length.{lengthsOf};
 ghost use Rattle.span.specs.declared.content.Content.the-variants.{NoneNamed, Named};
 ghost use Rattle.span.specs.Blanking.{fillOf, filledRow};
-ghost use Rattle.send.specs.Send.{request, sendOf, sentBuffer};
+ghost use Rattle.request.specs.Send.{request, sendOf, sentBuffer};
 ghost use Rattle.window.specs.Read.{judgeOf, readOf, rowsRead};
 ghost use Rattle.boundary.specs.Numbers.{disparityFrom, numberIn};
 ghost use Rattle.span.specs.Format.{formatFrom};

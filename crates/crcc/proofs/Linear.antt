@@ -75,15 +75,15 @@ ahead-more (suc m) n c =
     ahead-more m n (crcWord c 0) ∙ ap (λ (k : ℕ). ahead k c) e
 
 -- a bit of zero before words of zeros, or after them
-bits-turned : (n c : ℕ) → bitSteps n (bitStep c 0) 0 ≡ bitStep (bitSteps n c 0) 0
+bits-commute : (n c : ℕ) → bitSteps n (bitStep c 0) 0 ≡ bitStep (bitSteps n c 0) 0
 unfolding bitSteps
-bits-turned zero c = refl
-bits-turned (suc n) c = bits-turned n (bitStep c 0)
+bits-commute zero c = refl
+bits-commute (suc n) c = bits-commute n (bitStep c 0)
 
-pub ahead-turned : (n c : ℕ) → ahead n (bitStep c 0) ≡ bitStep (ahead n c) 0
+pub ahead-commutes : (n c : ℕ) → ahead n (bitStep c 0) ≡ bitStep (ahead n c) 0
 unfolding ahead
-ahead-turned zero c = refl
-ahead-turned (suc n) c = ap (ahead n) (bits-turned 12 c) ∙ ahead-turned n (crcWord c 0)
+ahead-commutes zero c = refl
+ahead-commutes (suc n) c = ap (ahead n) (bits-commute 12 c) ∙ ahead-commutes n (crcWord c 0)
 
 -- ---- a run
 

@@ -14,7 +14,7 @@ decoder-laws = record {
   entryAt = entry-at;
   entryLegal = legal-is;
   entryNumber = number-is;
-  entryTurns = after-is;
+  entryFlips = after-is;
   decodedTold = decoded-one-to-one;
   meaningTold = meaning-one-to-one;
 }

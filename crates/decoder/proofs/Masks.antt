@@ -15,10 +15,10 @@ use Rattle.symbol.specs.Inside.Code.{flips}
 use Rattle.ground.specs.Bit.{bit}
 use Rattle.symbol.specs.Inside.Disparity.{flippedIf}
 use Rattle.symbol.proofs.Inverse.{decoded-below}
-use Rattle.symbol.proofs.Ones.{turns-both}
+use Rattle.symbol.proofs.Ones.{flips-both}
 use Rattle.decoder.specs.Inside.Decoder.{entryOf, legalBit}
 use Rattle.decoder.specs.Inside.Mask.{maskOf, ofMask, legalBy, afterBy}
-use Rattle.decoder.proofs.Reading.{turn-is}
+use Rattle.decoder.proofs.Reading.{flip-is}
 
 pub mask-again : (d : Disparity) → ofMask (maskOf d) ≡ d
 mask-again Negative = refl
@@ -35,17 +35,17 @@ unfolding legalBy
 legal-mask Negative e = ap (λ (x : ℕ). not (eqb x 0)) (and-high e 1 9) ∙ bit-tests 512 (e / 512 % 2) (omega arith) (omega arith)
 legal-mask Positive e = ap (λ (x : ℕ). not (eqb x 0)) (and-high e 1 10) ∙ bit-tests 1024 (e / 1024 % 2) (omega arith) (omega arith)
 
-turn-mask : (d : Disparity) (t : Bool) → bitXor (maskOf d) (3 * bit t * 512) ≡ maskOf (flippedIf t d)
-turn-mask Negative true = refl
-turn-mask Negative false = refl
-turn-mask Positive true = refl
-turn-mask Positive false = refl
+flip-mask : (d : Disparity) (t : Bool) → bitXor (maskOf d) (3 * bit t * 512) ≡ maskOf (flippedIf t d)
+flip-mask Negative true = refl
+flip-mask Negative false = refl
+flip-mask Positive true = refl
+flip-mask Positive false = refl
 
 -- the bit after a symbol that is legal is that of the disparity after its character
 pub after-mask : (d : Disparity) (s c : ℕ) → charOf d s ≡ some c → afterBy (maskOf d) (entryOf s) ≡ maskOf (afterOf d c)
 unfolding afterBy
 after-mask d s c e =
-    let q : entryOf s / 4 / 512 % 4 ≡ 3 * bit (flips c) = omega (arith, turn-is d s c e) in
+    let q : entryOf s / 4 / 512 % 4 ≡ 3 * bit (flips c) = omega (arith, flip-is d s c e) in
     ap (bitXor (maskOf d)) (and-high (entryOf s / 4) 2 9 ∙ ap (λ (x : ℕ). x * 512) q)
-    ∙ turn-mask d (flips c)
-    ∙ ap maskOf (sym (turns-both d c (decoded-below d s c e)))
+    ∙ flip-mask d (flips c)
+    ∙ ap maskOf (sym (flips-both d c (decoded-below d s c e)))

@@ -21,7 +21,7 @@ use Rattle.decoder.specs.Meaning.{meaningOf}
 use Rattle.symbol.proofs.Characters.{bit-is, bit-below}
 use Rattle.decoder.proofs.Entries.{look, entryGiving, entry-at}
 use Rattle.symbol.proofs.Inverse.{decoded-below, one-meaning, illegal-is}
-use Rattle.symbol.proofs.Ones.{symbol-below, turns-both}
+use Rattle.symbol.proofs.Ones.{symbol-below, flips-both}
 use Rattle.decoder.specs.Inside.Decoder.{decodedBy, decodingTable, entryAfter, entryFrom, entryIn, entryOf, legalBit, meaningBy}
 
 abbrev side : {A : Type 0} → Disparity → A → A → A
@@ -39,8 +39,8 @@ module _ (c : ℕ) (h : c < 512) (n p : Bool) where
   entry-legal Positive =
       let q : entryFrom (some c) n p / 1024 % 2 ≡ bit p = omega (arith, bit-below n, bit-below p) in ap (λ (x : ℕ). eqb x 1) q ∙ bit-is p
 
-  entry-turns : entryFrom (some c) n p / 2048 % 4 ≡ 3 * bit (flips c)
-  entry-turns = omega (arith, bit-below n, bit-below p, bit-below (flips c))
+  entry-flips : entryFrom (some c) n p / 2048 % 4 ≡ 3 * bit (flips c)
+  entry-flips = omega (arith, bit-below n, bit-below p, bit-below (flips c))
 
   entry-look : (d : Disparity) → look d (entryFrom (some c) n p) ≡ cond (side d n p) (some c) none
   entry-look d = rw (entry-legal d, entry-character)
@@ -48,7 +48,7 @@ module _ (c : ℕ) (h : c < 512) (n p : Bool) where
 -- what an entry e says of a character, or of none, at disparity d
 pub record Reflects (d : Disparity) (e : ℕ) (o : Option ℕ) : Type 0 where
   pub looked : look d e ≡ o
-  pub turned : (c : ℕ) → o ≡ some c → e / 2048 % 4 ≡ 3 * bit (flips c)
+  pub flipped : (c : ℕ) → o ≡ some c → e / 2048 % 4 ≡ 3 * bit (flips c)
 
 given-is : (t : Bool) (b c : ℕ) → cond t (some b) none ≡ some c → b ≡ c
 given-is true b c e = Option·some-injective b c e
@@ -59,12 +59,12 @@ says-some : (c : ℕ) → c < 512 → (n p : Bool) (d : Disparity) (o : Option �
 says-some c h n p d o e =
     record {
       looked = entry-look c h n p d ∙ e;
-      turned = λ b q. entry-turns c h n p ∙ ap (λ (x : ℕ). 3 * bit (flips x)) (given-is (side d n p) c b (e ∙ q));
+      flipped = λ b q. entry-flips c h n p ∙ ap (λ (x : ℕ). 3 * bit (flips x)) (given-is (side d n p) c b (e ∙ q));
     }
 
 says-none : (d : Disparity) → Reflects d 0 none
-says-none Negative = record { looked = refl; turned = λ c q. absurd (Option·none-ne-some c q) }
-says-none Positive = record { looked = refl; turned = λ c q. absurd (Option·none-ne-some c q) }
+says-none Negative = record { looked = refl; flipped = λ c q. absurd (Option·none-ne-some c q) }
+says-none Positive = record { looked = refl; flipped = λ c q. absurd (Option·none-ne-some c q) }
 
 -- an entry made of two characters that agree gives each at its disparity
 says-giving : (n p : Option ℕ) → ((c : ℕ) → n ≡ some c → c < 512) → ((c : ℕ) → p ≡ some c → c < 512)
@@ -110,14 +110,14 @@ pub number-is : (d : Disparity) (s c : ℕ) → charOf d s ≡ some c → entryO
 number-is d s c e = given-is (legalBit d (entryOf s)) (entryOf s % 512) c (look-is d s ∙ e)
 
 -- its bits 11 and 12 say whether the character flips the disparity
-pub turn-is : (d : Disparity) (s c : ℕ) → charOf d s ≡ some c → entryOf s / 2048 % 4 ≡ 3 * bit (flips c)
-turn-is d s c e = entry-says d s .turned c e
+pub flip-is : (d : Disparity) (s c : ℕ) → charOf d s ≡ some c → entryOf s / 2048 % 4 ≡ 3 * bit (flips c)
+flip-is d s c e = entry-says d s .flipped c e
 
 -- and so it gives the disparity after it
 pub after-is : (d : Disparity) (s c : ℕ) → charOf d s ≡ some c → entryAfter d (entryOf s) ≡ afterOf d c
 after-is d s c e =
-    let q : entryOf s / 2048 % 2 ≡ bit (flips c) = omega (arith, turn-is d s c e, bit-below (flips c)) in
-    ap (λ (t : Bool). flippedIf t d) (ap (λ (x : ℕ). eqb x 1) q ∙ bit-is (flips c)) ∙ sym (turns-both d c (decoded-below d s c e))
+    let q : entryOf s / 2048 % 2 ≡ bit (flips c) = omega (arith, flip-is d s c e, bit-below (flips c)) in
+    ap (λ (t : Bool). flippedIf t d) (ap (λ (x : ℕ). eqb x 1) q ∙ bit-is (flips c)) ∙ sym (flips-both d c (decoded-below d s c e))
 
 -- its bit 13 is set where the character is a byte, and no higher bit is
 record Flagged (e : ℕ) : Type 0 where

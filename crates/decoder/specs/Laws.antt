@@ -35,7 +35,7 @@ pub record DecoderLaws : Type 0 where
   pub entryAt : (s : ℕ) → s < 1024 → getD decodingTable s 0 ≡ entryOf s
   pub entryLegal : (d : Disparity) (s : ℕ) → legalBit d (entryOf s) ≡ isSome (charOf d s)
   pub entryNumber : (d : Disparity) (s c : ℕ) → charOf d s ≡ some c → entryOf s % 512 ≡ c
-  pub entryTurns : (d : Disparity) (s c : ℕ) → charOf d s ≡ some c → entryAfter d (entryOf s) ≡ afterOf d c
+  pub entryFlips : (d : Disparity) (s c : ℕ) → charOf d s ≡ some c → entryAfter d (entryOf s) ≡ afterOf d c
   -- the paper's number and values tell any two answers of a call apart, so that a contract about them fixes the answer
   pub decodedTold : Injective paperDecoded
   pub meaningTold : Injective paperMeaning

@@ -40,9 +40,9 @@ use Rattle.recording.specs.Recording.{accepts, limit, Reading, reading, findFro
 use Rattle.recording.proofs.Calling.{finds}
 use Rattle.recording.proofs.Readings.{span-whole}
 use Rattle.span.specs.Blanking.{fillOf, blankRow}
-use Rattle.send.specs.Send.{request, refusals, sendOf, sentBuffer}
-use Rattle.send.specs.Laws.{GoodCall}
-use Rattle.send.proofs.GoodCalls.{good-is-sent}
+use Rattle.request.specs.Send.{request, refusals, sendOf, sentBuffer}
+use Rattle.request.specs.Laws.{GoodCall}
+use Rattle.request.proofs.GoodCalls.{good-is-sent}
 use Rattle.demands.specs.Form.{Sending, WasSent, readingOf, Delivered}
 use Rattle.demands.specs.Demands.{Demand1, Delivers, Demand2, Demand3, Beyond}
 use Rattle.demands.proofs.Delivering.{steps-are, delivered, anywhere, alone, damaged, nothing, fewer, one-inverted, beginning, found-none, found-and-read}

@@ -30,8 +30,8 @@ use Rattle.span.specs.Image.{imageOf}
 use Rattle.span.specs.Sample.{sampleWord}
 use Rattle.span.specs.Stream.{Request, picture}
 use Rattle.span.specs.Numbers.{IsFormat, Symbols}
-use Rattle.send.specs.Send.{request}
-use Rattle.send.specs.Laws.{GoodCall}
+use Rattle.request.specs.Send.{request}
+use Rattle.request.specs.Laws.{GoodCall}
 use Rattle.demands.specs.Form.{wordsFor}
 use Rattle.demands.specs.Demands.{IsRow}
 

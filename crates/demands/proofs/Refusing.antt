@@ -39,7 +39,7 @@ use Rattle.span.specs.Stream.{Request}
 use Rattle.span.specs.Numbers.{IsFormat, Symbols, Samples}
 use Rattle.span.proofs.Formats.{is-known, known-told}
 use Rattle.span.specs.Blanking.{fillOf}
-use Rattle.send.specs.Send.{firstForbidden, sendOf}
+use Rattle.request.specs.Send.{firstForbidden, sendOf}
 use Rattle.window.specs.Read.{placed, spanTests as testsOf, pictureOf, judgeOf, readOf, rowsLeft}
 use Rattle.window.specs.Scan.{holds20}
 use Rattle.window.specs.Tests.{holds21, holds22, holds23, holds24, holds25, holds26}

@@ -17,7 +17,7 @@ use Rattle.span.specs.Span.{spanAfter}
 use Rattle.span.specs.Stream.{Request}
 use Rattle.span.proofs.Lengths.{known-has-streams, length-of-symbols}
 use Rattle.window.specs.Inside.Encoded.{Sendable}
-use Rattle.send.specs.Send.{forbidden, firstForbidden, refusals}
+use Rattle.request.specs.Send.{forbidden, firstForbidden, refusals}
 use Rattle.window.proofs.Accepting.{row-passed}
 use Rattle.window.proofs.Inverted.{inverted-is-refused}
 use Rattle.window.proofs.RoundTrip.{round-trip, picture-back}

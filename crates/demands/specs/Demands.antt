@@ -47,7 +47,7 @@ use Rattle.recording.specs.Call.{findOf, nextOf, afterNext, rowsNext}
 use Rattle.recording.specs.Recording.{limit, Reading, reading, accepts, deliveryFrom}
 use Rattle.stepping.specs.Steps.{runFrom, spanStep, endStep, lastRows}
 use Rattle.span.specs.Blanking.{fillOf, blankRow, filledRow}
-use Rattle.send.specs.Send.{request, sendOf, sentBuffer}
+use Rattle.request.specs.Send.{request, sendOf, sentBuffer}
 use Rattle.demands.specs.Form.{MaySend, Refusal, rule, ruleAt, Tried, Lent, Rows, Sending, WasSent, sentSymbols, readingOf, stepsFrom, Delivered, wordsFor}
 
 -- ==== 1 ====

@@ -21,7 +21,7 @@ use Rattle.delivery.specs.Delivery.{Found}
 use Rattle.recording.specs.declared.seek.Spanned.{Spanned}
 use Rattle.recording.specs.Recording.{Reading}
 use Rattle.stepping.specs.Steps.{Step, runFrom}
-use Rattle.send.specs.Send.{sendOf}
+use Rattle.request.specs.Send.{sendOf}
 use Rattle.window.specs.Read.{repairsOf}
 
 -- ---- document 01's own numbers

@@ -13,7 +13,7 @@ use Rattle.symbol.specs.declared.disparity.Disparity.the-variants.{Negative, Po
 use Rattle.symbol.specs.Code.{symbolOf, afterOf}
 use Rattle.symbol.specs.Inside.Code.{flips}
 use Rattle.symbol.specs.Inside.Disparity.{flippedIf}
-use Rattle.symbol.proofs.Ones.{turns-both}
+use Rattle.symbol.proofs.Ones.{flips-both}
 use Rattle.encoder.specs.declared.encode.Encoded.{Encoded}
 use Rattle.encoder.specs.Encode.{encoded}
 use Rattle.encoder.specs.Inside.Tables.{offsetOf, ofOffset, symbolTable, flipTable}
@@ -56,13 +56,13 @@ flip-below c h = rw (flip-at c h) (either (flips c))
 
 -- an exclusive or with a character's turn gives the offset of the disparity after it
 pub after-at : (d : Disparity) (c : ℕ) → c < 268 → bitXor (offsetOf d) (getD flipTable c 0) ≡ offsetOf (afterOf d c)
-after-at d c h = ap (bitXor (offsetOf d)) (flip-at c h) ∙ turned d (flips c) ∙ ap offsetOf (sym (turns-both d c h))
+after-at d c h = ap (bitXor (offsetOf d)) (flip-at c h) ∙ flipped d (flips c) ∙ ap offsetOf (sym (flips-both d c h))
   where
-    turned : (d : Disparity) (t : Bool) → bitXor (offsetOf d) (cond t 268 0) ≡ offsetOf (flippedIf t d)
-    turned Negative true = refl
-    turned Negative false = refl
-    turned Positive true = refl
-    turned Positive false = refl
+    flipped : (d : Disparity) (t : Bool) → bitXor (offsetOf d) (cond t 268 0) ≡ offsetOf (flippedIf t d)
+    flipped Negative true = refl
+    flipped Negative false = refl
+    flipped Positive true = refl
+    flipped Positive false = refl
 
 -- so the symbol that stands after the offset, and the disparity of the offset after, are what encoding answers
 pub encoded-is : (d : Disparity) (c : ℕ) → c < 268 → {t : List ℕ} {at after : ℕ} {e : Disparity} → t ≡ symbolTable → at ≡ offsetOf d + c

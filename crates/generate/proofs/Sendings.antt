@@ -13,7 +13,7 @@ use Rattle.span.specs.declared.content.Content.the-variants.{NoneNamed}
 use Rattle.span.specs.declared.format.Format.{Format}
 use Rattle.span.specs.Format.{isKnown, shapeOf, samplesIn, symbolsIn}
 use Rattle.span.specs.Span.{spanSymbols, spanAfter}
-use Rattle.send.specs.Send.{request, sendOf, sentBuffer}
+use Rattle.request.specs.Send.{request, sendOf, sentBuffer}
 use Rattle.test_picture.specs.Putting.{samplesPut}
 use Rattle.test_picture.specs.TestPicture.{testSamples}
 use Rattle.test_picture.proofs.Puttings.{puts-samples}

@@ -8,9 +8,10 @@ use lib.ListN.{length, take}
 use lib.Seq.{sets, length-sets, length-take-le}
 use Rattle.io.specs.Counts.{Counts}
 use Rattle.ground.specs.Answer.{refused, given}
+use Rattle.ground.proofs.Putting.{Put}
 use Rattle.text.specs.Number.{placesOf}
 use Rattle.text.specs.Put.{endOf, putOf}
-use Rattle.text.proofs.Putting.{Put, put-told}
+use Rattle.text.proofs.Putting.{put-told}
 use Rattle.generate.specs.declared.left.Left.{Left}
 use Rattle.generate.specs.declared.parameters.Parameters.{Parameters}
 use Rattle.generate.specs.declared.start.Start.{Start}

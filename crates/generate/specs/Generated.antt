@@ -10,7 +10,7 @@ use Rattle.span.specs.declared.content.Content.the-variants.{NoneNamed}
 use Rattle.span.specs.declared.format.Format.{Format}
 use Rattle.span.specs.Span.{signal}
 use Rattle.span.specs.Stream.{Request}
-use Rattle.send.specs.Send.{request}
+use Rattle.request.specs.Send.{request}
 use Rattle.test_picture.specs.TestPicture.{testSamples}
 use Rattle.text.specs.Number.{decimal}
 use Rattle.text.specs.Put.{space, newline}

@@ -1,6 +1,6 @@
 // What is left of a recording, and the next span of it.
 use line::stream::StreamLine;
-use send::send::Sent;
+use request::sent::Sent;
 use span::content::Content;
 use span::format::Format;
 use symbol::disparity::Disparity;
@@ -8,7 +8,7 @@ ghost use mathlib.Core.Path.{_≡_};
 ghost use Prim.Native.Nat.{_*_, _<_};
 ghost use lib.ListN.{length};
 ghost use Rattle.span.specs.Format.{shapeOf, samplesIn, symbolsIn};
-ghost use Rattle.send.specs.Send.{paperSent};
+ghost use Rattle.request.specs.Send.{paperSent};
 ghost use Rattle.generate.specs.Pieces.{Ready};
 ghost use Rattle.generate.specs.Inside.Pieces.{spanBytes, nextLeft, afterOr};
 

@@ -12,12 +12,12 @@ use borrow.Author.Tests.{leb-true}
 use Rattle.ground.specs.Answer.{Answer, refused, given, unless, checked}
 use Rattle.ground.specs.Search.{isSome}
 use Rattle.ground.specs.Written.{upto}
+use Rattle.ground.proofs.Putting.{Put, then, put-as}
 use Rattle.ground.proofs.Searches.{hit}
 use Rattle.ground.proofs.Writing.{upto-more}
 use Rattle.text.specs.Number.{decimal, hexadecimal}
 use Rattle.text.specs.Words.{wordInBytes}
 use Rattle.text.proofs.Numbers.{length-digits, places-below, places-most-16}
-use Rattle.text.proofs.Putting.{Put, then, put-as}
 use Rattle.word.specs.declared.repair.Repaired.{Repaired}
 use Rattle.word.specs.Repair.{distance, legalWord, near, nearest, repairOf}
 use Rattle.word.specs.Word.{isWord}

@@ -6,9 +6,10 @@ use Prim.Native.Nat.{ℕ, _+_, _≤_, _<_}
 use native.Mathlib.Omega.{arith}
 use lib.ListN.{length, length-append}
 use Rattle.ground.specs.Answer.{given}
+use Rattle.ground.proofs.Putting.{Put}
 use Rattle.text.specs.Number.{decimal, hexadecimal}
 use Rattle.text.specs.Put.{endOf, putOf}
-use Rattle.text.proofs.Putting.{Put, put-told, then-told}
+use Rattle.text.proofs.Putting.{put-told, then-told}
 use Rattle.word.specs.declared.repair.Repaired.{Repaired}
 use Rattle.list_repairs.specs.Text.{outcome}
 use Rattle.list_repairs.proofs.Lines.{index-most, one-digit, lineStart}

@@ -6,10 +6,11 @@ use Prim.Native.Nat.{ℕ, _+_, _^_, _≤_, _<_}
 use native.Mathlib.Omega.{arith}
 use lib.ListN.{length}
 use lib.Seq.{sets}
+use Rattle.ground.proofs.Putting.{Put, then, put-length}
 use Rattle.text.specs.Number.{decimal}
 use Rattle.text.specs.Put.{endOf, putOf}
 use Rattle.text.proofs.Numbers.{length-digits, length-decimal-most, places-most-16}
-use Rattle.text.proofs.Putting.{Put, then, put-length, put-told}
+use Rattle.text.proofs.Putting.{put-told}
 use Rattle.list_spans.specs.Listing.{spanLine}
 
 -- what a call that puts a text promises

@@ -9,6 +9,7 @@ use lib.ListN.{length, take, drop, length-drop}
 use lib.Seq.{sets, length-sets, length-take-le, take-all}
 use borrow.Author.Tests.{lt-ltb, le-ltb}
 use Rattle.io.specs.Counts.{Counts}
+use Rattle.ground.proofs.Putting.{Put}
 use Rattle.span.specs.declared.format.Format.{Format}
 use Rattle.span.specs.declared.length.SpanLengths.{SpanLengths}
 use Rattle.span.specs.Format.{isKnown, shapeOf, samplesIn, symbolsIn}
@@ -16,9 +17,9 @@ use Rattle.span.proofs.Formats.{small}
 use Rattle.recording.specs.Recording.{deliveryFrom}
 use Rattle.text.specs.Put.{endOf, putOf}
 use Rattle.text.specs.Words.{countOf, wordsInBytes}
-use Rattle.text.proofs.Putting.{Put, put-told}
+use Rattle.text.proofs.Putting.{put-told}
 use Rattle.text.proofs.WordsRead.{words-read}
-use Rattle.list_spans.specs.Listing.{linesOf, refusedFormat, formatIn, recordedSymbols, spanListing}
+use Rattle.list_spans.specs.Listing.{linesOf, refusedFormat, formatIn, recordedIn, spanListing}
 
 -- ---- which case it is
 
@@ -30,20 +31,30 @@ module _ (input : List ℕ) where
     pub unknown : {f : Format} → f ≡ formatIn input → isKnown f ≡ false → spanListing input ≡ refusedFormat
     unknown is t = simp (le-ltb (length input) 2 enough, sym (ap isKnown is) ∙ t)
 
-    pub known : {f : Format} → f ≡ formatIn input → isKnown f ≡ true → spanListing input ≡ linesOf (deliveryFrom f (recordedSymbols input) 0)
+    pub known : {f : Format} → f ≡ formatIn input → isKnown f ≡ true → spanListing input ≡ linesOf (deliveryFrom f (recordedIn (drop 2 input)) 0)
     known is t =
-        simp (le-ltb (length input) 2 enough, sym (ap isKnown is) ∙ t) (ap (λ (g : Format). linesOf (deliveryFrom g (recordedSymbols input) 0)) (sym is))
+        simp (le-ltb (length input) 2 enough, sym (ap isKnown is) ∙ t)
+        (ap (λ (g : Format). linesOf (deliveryFrom g (recordedIn (drop 2 input)) 0)) (sym is))
 
-    -- the symbols, read into a row of 32,767 words
-    pub symbols-are : (row : List ℕ) {words : List ℕ} (n : ℕ) → length row ≡ 32767
-        → n ≡ countOf (length row) (length (take (length input - 2) (drop 2 input)))
-        → words ≡ sets row 0 (wordsInBytes n (take (length input - 2) (drop 2 input)))
-        → take n words ≡ recordedSymbols input
-    symbols-are row {words} n room count read =
-        let part = take (length input - 2) (drop 2 input) in
-        let bytes : part ≡ drop 2 input = take-all (length input - 2) (drop 2 input) (omega (arith, length-drop 2 input)) in
-        let many : n ≡ countOf 32767 (length (drop 2 input)) = omega (arith, ap length bytes) in
-        ap (take n) read ∙ words-read n row part (omega arith) ∙ ap₂ wordsInBytes many bytes
+    -- what is passed on of the input
+    pub rest-is : take (length input - 2) (drop 2 input) ≡ drop 2 input
+    rest-is = take-all (length input - 2) (drop 2 input) (omega (arith, length-drop 2 input))
+
+-- what reading words leaves of a row: its length, and at least as many words as were read
+module _ (bytes row : List ℕ) {words : List ℕ} (n : ℕ) where
+  pub read-length : words ≡ sets row 0 (wordsInBytes n bytes) → length words ≡ length row
+  read-length read = ap length read ∙ length-sets row 0 (wordsInBytes n bytes)
+
+  pub enough-read : n ≡ countOf (length row) (length bytes) → words ≡ sets row 0 (wordsInBytes n bytes) → n ≤ length words
+  enough-read count read = omega (arith, read-length read)
+
+-- the symbols, read into a row of 32,767 words
+pub symbols-are : (bytes row : List ℕ) {words : List ℕ} (n : ℕ) → length row ≡ 32767 → n ≡ countOf (length row) (length bytes)
+    → words ≡ sets row 0 (wordsInBytes n bytes)
+    → take n words ≡ recordedIn bytes
+symbols-are bytes row {words} n room count read =
+    let many : n ≡ countOf 32767 (length bytes) = omega arith in
+    ap (take n) read ∙ words-read n row bytes (omega arith) ∙ ap (λ (k : ℕ). wordsInBytes k bytes) many
 
 -- a span has no more samples, whatever its format
 pub few-samples : (f : Format) {l : SpanLengths} → l ≡ record { samples = samplesIn (shapeOf f); symbols = symbolsIn (shapeOf f) } → l .samples ≤ 7680

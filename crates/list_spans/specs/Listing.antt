@@ -36,11 +36,11 @@ abbrev pub formatIn : List ℕ → Format
 formatIn input = formatFrom (getD input 0 0) (getD input 1 0)
 
 -- and then symbols, low byte first, at most 32,767 of them; an odd last byte and what follows that many are ignored
-abbrev pub recordedSymbols : List ℕ → List ℕ
-recordedSymbols input = wordsInBytes (countOf 32767 (length (drop 2 input))) (drop 2 input)
+abbrev pub recordedIn : List ℕ → List ℕ
+recordedIn bytes = wordsInBytes (countOf 32767 (length bytes)) bytes
 
 -- what is printed: a line for each span delivered; the refusal if the input is shorter than two bytes, or the format or depth unknown
 abbrev pub spanListing : List ℕ → List ℕ
 spanListing input =
     cond (ltb (length input) 2) refusedFormat
-    (cond (isKnown (formatIn input)) (linesOf (deliveryFrom (formatIn input) (recordedSymbols input) 0)) refusedFormat)
+    (cond (isKnown (formatIn input)) (linesOf (deliveryFrom (formatIn input) (recordedIn (drop 2 input)) 0)) refusedFormat)

@@ -9,7 +9,7 @@ ghost use lib.Seq.{sets};
 ghost use Rattle.io.specs.Counts.{Counts};
 ghost use Rattle.span.specs.Format.{isKnown, shapeOf, samplesIn};
 ghost use Rattle.recording.specs.Recording.{deliveryFrom};
-ghost use Rattle.list_spans.specs.Listing.{spanLine, linesOf, spanListing};
+ghost use Rattle.list_spans.specs.Listing.{spanLine, linesOf, recordedIn, spanListing};
 
 // The line of one span: its place and its line number, of at most 20 digits and 5.
 fn put_line(place: usize, number: u16, out: &mut [u8], at: usize) -> usize
@@ -53,8 +53,36 @@ fn put_spans(f: Format, symbols: &[u16], rows: &mut [u16], out: &mut [u8]) -> us
     at
 }
 
+// The lines of a recording: its bytes are read into lent symbols.
+fn put_recording(
+    f: Format,
+    bytes: &[u8],
+    symbols: &mut [u16],
+    rows: &mut [u16],
+    out: &mut [u8],
+) -> usize
+    requires { ⌜ isKnown f ≡ true ⌝ }
+    requires { ⌜ length (now symbols) ≡ 32767 ⌝ }
+    requires { ⌜ length (now rows) ≡ 7680 ⌝ }
+    requires { ⌜ 65536 ≤ length (now out) ⌝ }
+    ensures end { λ r. ⌜ r ≡ length (linesOf (deliveryFrom f (recordedIn (now (bytes .entry))) 0)) ⌝ }
+    ensures most { λ r. ⌜ r ≤ 32767 ⌝ }
+    ensures written { λ _. ⌜ now (out .exit) ≡ sets (now (out .entry)) 0 (linesOf (deliveryFrom f (recordedIn (now (bytes .entry))) 0)) ⌝ }
+{
+    let n = text::words::read_words(bytes, symbols);
+    let m = span::length::span_lengths(f).samples;
+    put_spans(f, &symbols[..n], &mut rows[..m], out)
+}
+
 // All that is printed: the lines, or the refusal if the input names no known format and depth.
-pub(crate) fn put_listing(input: &[u8], out: &mut [u8]) -> usize
+pub(crate) fn put_listing(
+    input: &[u8],
+    symbols: &mut [u16],
+    rows: &mut [u16],
+    out: &mut [u8],
+) -> usize
+    requires { ⌜ length (now symbols) ≡ 32767 ⌝ }
+    requires { ⌜ length (now rows) ≡ 7680 ⌝ }
     requires { ⌜ 65536 ≤ length (now out) ⌝ }
     ensures counts { λ r. ⌜ Counts r (now (out .exit)) ⌝ }
     ensures end { λ r. ⌜ r ≡ length (spanListing (now (input .entry))) ⌝ }
@@ -65,11 +93,7 @@ pub(crate) fn put_listing(input: &[u8], out: &mut [u8]) -> usize
     }
     let f = span::format::format_of(input[0], input[1]);
     if span::format::is_known(f) {
-        let mut symbols = [0u16; 32767];
-        let n = text::words::read_words(&input[2..], &mut symbols);
-        let mut rows = [0u16; 7680];
-        let m = span::length::span_lengths(f).samples;
-        return put_spans(f, &symbols[..n], &mut rows[..m], out);
+        return put_recording(f, &input[2..], symbols, rows, out);
     }
     text::put::put_text(b"refused 1\n", out, 0)
 }

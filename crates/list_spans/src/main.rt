@@ -8,7 +8,9 @@ use libc::STDOUT_FILENO;
 fn main() {
     let mut input = io::large_buffer();
     let mut out = io::large_buffer();
+    let mut symbols = [0u16; 32767];
+    let mut rows = [0u16; 7680];
     let n = io::read_full(STDIN_FILENO, &mut input);
-    let end = list::put_listing(&input[..n], &mut out);
+    let end = list::put_listing(&input[..n], &mut symbols, &mut rows, &mut out);
     io::write_all(STDOUT_FILENO, &out[..end]);
 }

@@ -11,12 +11,13 @@ use lib.ListN.{length, getD, set, take, drop, drop-of-length-le}
 use lib.Seq.{sets, length-take-le}
 use Rattle.io.specs.Counts.{Counts}
 use Rattle.ground.specs.Written.{upto}
+use Rattle.ground.proofs.Putting.{Put, then, put-length, put-as}
 use Rattle.ground.proofs.Reading.{next-left}
 use Rattle.ground.proofs.Writing.{upto-more}
 use Rattle.line.specs.Stream.{isActive}
 use Rattle.rig.specs.Frame.{lineOfPiece}
 use Rattle.text.specs.Put.{endOf, putOf}
-use Rattle.text.proofs.Putting.{Put, then, put-length, put-as, put-told}
+use Rattle.text.proofs.Putting.{put-told}
 use Rattle.loopback.specs.File.{highFirst, header, rowsOfLine, pieceBytes}
 
 pub length-bytes : (l : List ℕ) → length (highFirst l) ≡ 2 * length l

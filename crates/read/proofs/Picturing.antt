@@ -20,6 +20,7 @@ use Rattle.line.specs.Stream.{isActive}
 use Rattle.span.specs.declared.format.Format.{Format}
 use Rattle.span.specs.Format.{shapeOf, streams, pairsIn}
 use Rattle.span.specs.Span.{fillWord}
+use Rattle.span.specs.Layout.{pictureStart, eavStart, ancillaryStart}
 use Rattle.span.proofs.Lengths.{known-has-streams}
 use Rattle.packing.specs.Sample.{allowedWord}
 use Rattle.read_test21_26.proofs.Regions.{from-word, before-word}
@@ -79,17 +80,17 @@ all-allowed depth [] f = refl
 all-allowed depth (x ∷ xs) f = rw (f 0 (omega arith)) (all-allowed depth xs (λ i h. f (suc i) (omega arith)))
 
 module _ (s : ℕ) (word : ℕ → ℕ) where
-  sized : (t : ℕ) → length (column s word 4 1920 t) ≡ 1920
+  sized : (t : ℕ) → length (column s word pictureStart 1920 t) ≡ 1920
   sized t = length-table 1920 _
 
   pub length-rows : length (rows s word) ≡ 1920 * s
   unfolding rows
-  length-rows = length-upto 1920 (column s word 4 1920) sized s
+  length-rows = length-upto 1920 (column s word pictureStart 1920) sized s
 
   -- word 4 + i of stream t stands at i of its row
-  row-word : (t i : ℕ) → t < s → i < 1920 → getD (rows s word) (1920 * t + i) 0 ≡ wordOf s word (4 + i) t
+  row-word : (t i : ℕ) → t < s → i < 1920 → getD (rows s word) (1920 * t + i) 0 ≡ wordOf s word (pictureStart + i) t
   unfolding rows
-  row-word t i h l = getD-upto 1920 (column s word 4 1920) sized s t i 0 h l ∙ getD-table 1920 _ i 0 l
+  row-word t i h l = getD-upto 1920 (column s word pictureStart 1920) sized s t i 0 h l ∙ getD-table 1920 _ i 0 l
 
 -- ---- a window
 module _ (f : Format) (w : List ℕ) (is : IsWindow f w) where
@@ -113,15 +114,15 @@ module _ (f : Format) (w : List ℕ) (is : IsWindow f w) where
   fails25 = firstBelow n (λ k. not (placed s (holds25 s word f) k))
 
   -- all words are allowed where none of them fails
-  words-allowed : allAllowed (f .depth) (rows s word) ≡ true → wrongIn asked25 (4 * s) (1924 * s) ≡ none
+  words-allowed : allAllowed (f .depth) (rows s word) ≡ true → wrongIn asked25 (pictureStart * s) (eavStart * s) ≡ none
   words-allowed t =
       is-miss-in asked25 (omega arith)
       (record {
         never =
             λ k h l.
             let j = k / s in
-            let low : 4 ≤ j = from-word s some-streams (omega arith) in
-            let high : j < 1924 = before-word s some-streams (omega arith) in
+            let low : pictureStart ≤ j = from-word s some-streams (omega arith) in
+            let high : j < eavStart = before-word s some-streams (omega arith) in
             let i = j - 4 in
             let back : 4 + i ≡ j = omega arith in
             let b : k % s < s = stream-below s some-streams k in
@@ -138,7 +139,7 @@ module _ (f : Format) (w : List ℕ) (is : IsWindow f w) where
       row-end : (t : ℕ) → t < s → 1920 * t + 1920 ≤ 1920 * s
       row-end t h = omega arith
 
-  none-wrong : wrongIn asked25 (4 * s) (1924 * s) ≡ none → allAllowed (f .depth) (rows s word) ≡ true
+  none-wrong : wrongIn asked25 (pictureStart * s) (eavStart * s) ≡ none → allAllowed (f .depth) (rows s word) ≡ true
   none-wrong e =
       all-allowed (f .depth) (rows s word)
       (λ x h.
@@ -148,18 +149,18 @@ module _ (f : Format) (w : List ℕ) (is : IsWindow f w) where
       let b : t < s = omega arith in
       let l : i < 1920 = omega arith in
       let at : 1920 * t + i ≡ x = div-add-mod x 1920 in
-      let never = miss-in asked25 (omega arith) e .never (s * (4 + i) + t) (omega (arith, low-place i)) (omega (arith, high-place i t l b)) in
+      let never = miss-in asked25 (omega arith) e .never (s * (pictureStart + i) + t) (omega (arith, low-place i)) (omega (arith, high-place i t l b)) in
       ap (λ (y : ℕ). allowedWord (f .depth) (getD (rows s word) y 0)) (sym at)
       ∙ ap (allowedWord (f .depth)) (row-word s word t i b l)
-      ∙ sym (placed-at s some-streams (4 + i) t b (picture25 f s word))
-      ∙ not-false (asked25 (s * (4 + i) + t)) never)
+      ∙ sym (placed-at s some-streams (pictureStart + i) t b (picture25 f s word))
+      ∙ not-false (asked25 (s * (pictureStart + i) + t)) never)
     where
-      low-place : (i : ℕ) → 4 * s ≤ s * (4 + i)
+      low-place : (i : ℕ) → pictureStart * s ≤ s * (pictureStart + i)
       low-place i = omega arith
 
-      high-place : (i t : ℕ) → i < 1920 → t < s → s * (4 + i) + t < 1924 * s
+      high-place : (i t : ℕ) → i < 1920 → t < s → s * (pictureStart + i) + t < eavStart * s
       high-place i t l b =
-          let m : s * (5 + i) ≤ s * 1924 = mul-le-mul-left s (let h : 5 + i ≤ 1924 = omega arith in h) in omega (arith, m)
+          let m : s * (5 + i) ≤ s * eavStart = mul-le-mul-left s (let h : 5 + i ≤ eavStart = omega arith in h) in omega (arith, m)
 
   -- what a search that finds something answers
   found-some : (o : Option ℕ) (to : ℕ) → (o ≡ none → ⊥) → o ≡ some (Option·getD o to)
@@ -167,30 +168,30 @@ module _ (f : Format) (w : List ℕ) (is : IsWindow f w) where
   found-some (some k) to x = refl
 
   -- a word of the picture stands among its places, and the other way round
-  outside-25 : (k : ℕ) → (4 * s ≤ k → 1924 * s ≤ k) → placed s (holds25 s word f) k ≡ true
+  outside-25 : (k : ℕ) → (pictureStart * s ≤ k → eavStart * s ≤ k) → placed s (holds25 s word f) k ≡ true
   unfolding holds25
   outside-25 k far =
-      rw (not-within 4 1923 (k / s)
+      rw (not-within pictureStart (eavStart - 1) (k / s)
       (λ a b.
-      let m : s * 4 ≤ s * (k / s) = mul-le-mul-left s a in
-      let low : 4 * s ≤ k = omega (arith, m, place-again s some-streams k) in
-      let j : 1924 ≤ k / s = from-word s some-streams (omega (arith, far low)) in
+      let m : s * pictureStart ≤ s * (k / s) = mul-le-mul-left s a in
+      let low : pictureStart * s ≤ k = omega (arith, m, place-again s some-streams k) in
+      let j : eavStart ≤ k / s = from-word s some-streams (omega (arith, far low)) in
       omega arith))
 
-  inside-25 : isActive (lineRead s word) ≡ true → (k : ℕ) → 4 * s ≤ k → k < 1924 * s → placed s (holds25 s word f) k ≡ asked25 k
+  inside-25 : isActive (lineRead s word) ≡ true → (k : ℕ) → pictureStart * s ≤ k → k < eavStart * s → placed s (holds25 s word f) k ≡ asked25 k
   unfolding holds25
   inside-25 a k low high =
-      let first : 4 ≤ k / s = from-word s some-streams (omega arith) in
-      let last : k / s < 1924 = before-word s some-streams (omega arith) in
-      rw (is-within 4 1923 (k / s) first (omega arith), a)
+      let first : pictureStart ≤ k / s = from-word s some-streams (omega arith) in
+      let last : k / s < eavStart = before-word s some-streams (omega arith) in
+      rw (is-within pictureStart (eavStart - 1) (k / s) first (omega arith), a)
 
-  active-25 : isActive (lineRead s word) ≡ true → fails25 ≡ wrongIn asked25 (4 * s) (1924 * s)
+  active-25 : isActive (lineRead s word) ≡ true → fails25 ≡ wrongIn asked25 (pictureStart * s) (eavStart * s)
   active-25 a =
-      one-run n (4 * s) (1924 * s) (placed s (holds25 s word f)) asked25 (omega arith) (omega arith) (λ k _. outside-25 k) (inside-25 a)
+      one-run n (pictureStart * s) (eavStart * s) (placed s (holds25 s word f)) asked25 (omega arith) (omega arith) (λ k _. outside-25 k) (inside-25 a)
 
   blank-25 : isActive (lineRead s word) ≡ false → fails25 ≡ none
   unfolding holds25
-  blank-25 a = none-fails n (placed s (holds25 s word f)) (λ k _. on-test (within 4 1923 (k / s)) (λ t. rw (t, a)) (λ t. rw t))
+  blank-25 a = none-fails n (placed s (holds25 s word f)) (λ k _. on-test (within pictureStart (eavStart - 1) (k / s)) (λ t. rw (t, a)) (λ t. rw t))
 
   pub right-25 : rightPicture f (lineRead s word) (pictureOf f w) ≡ true → fails25 ≡ none
   unfolding pictureOf
@@ -202,12 +203,12 @@ module _ (f : Format) (w : List ℕ) (is : IsWindow f w) where
       on-test (isActive (lineRead s word))
       (λ a.
       active-25 a
-      ∙ found-some (wrongIn asked25 (4 * s) (1924 * s)) (1924 * s) (λ e. true≢false (sym (none-wrong e) ∙ rw a at t)))
+      ∙ found-some (wrongIn asked25 (pictureStart * s) (eavStart * s)) (eavStart * s) (λ e. true≢false (sym (none-wrong e) ∙ rw a at t)))
       (λ a. absurd (true≢false (rw a at t)))
 
   -- ---- 26
   abbrev from : ℕ
-  from = s * (1932 + shapeOf f .ancillary)
+  from = s * (ancillaryStart + shapeOf f .ancillary)
 
   abbrev asked26 : ℕ → Bool
   asked26 = placed s (fill26 s word)
@@ -222,12 +223,12 @@ module _ (f : Format) (w : List ℕ) (is : IsWindow f w) where
       (λ k b far.
       on-test (ltb k from)
       (λ t.
-      let l : k / s < 1932 + shapeOf f .ancillary = before-word s some-streams (ltb-true k from t) in
-      rw (lt-ltb (k / s) (1932 + shapeOf f .ancillary) l))
+      let l : k / s < ancillaryStart + shapeOf f .ancillary = before-word s some-streams (ltb-true k from t) in
+      rw (lt-ltb (k / s) (ancillaryStart + shapeOf f .ancillary) l))
       (λ t. absurd (let h = far (ltb-false k from t) in omega arith)))
       (λ k low high.
-      let l : 1932 + shapeOf f .ancillary ≤ k / s = from-word s some-streams low in
-      rw (le-ltb (k / s) (1932 + shapeOf f .ancillary) l))
+      let l : ancillaryStart + shapeOf f .ancillary ≤ k / s = from-word s some-streams low in
+      rw (le-ltb (k / s) (ancillaryStart + shapeOf f .ancillary) l))
 
   -- the look at the fill is that search
   looked-26 : fillRight (shapeOf f) w ≡ not (isSome (wrongIn asked26 from (from + 2 * shapeOf f .«fill_pairs»)))

@@ -10,6 +10,7 @@ use lib.ListN.{take}
 use Rattle.span.specs.declared.format.Format.{Format}
 use Rattle.span.specs.declared.format.Shape.{Shape}
 use Rattle.span.specs.Format.{shapeOf, streams, pairsIn}
+use Rattle.span.specs.Layout.{pictureStart, eavStart, lineStart, crccStart, eavXyz}
 use Rattle.crcc.specs.declared.crcc.CrccWords.{CrccWords}
 use Rattle.crcc.specs.Crcc.{crc, crccWords}
 use Rattle.crcc.proofs.Crc.{crc-append}
@@ -25,10 +26,10 @@ use Rattle.read_test21_26.specs.Inside.Verdict.{serviceTests}
 
 module _ (p : Shape) (w : List ℕ) (some-streams : 1 ≤ p .«stream_pairs») (few : p .«stream_pairs» ≤ 2) where
   -- the sum of a stream is that of its picture words
-  sum-is : (t : ℕ) → t < streams p → sumIn (sumsOf p w) t ≡ crc 0 (columnOf p w 4 1920 t)
+  sum-is : (t : ℕ) → t < streams p → sumIn (sumsOf p w) t ≡ crc 0 (columnOf p w pictureStart 1920 t)
   sum-is t h = go (p .«stream_pairs») refl t h
     where
-      go : (half : ℕ) → p .«stream_pairs» ≡ half → (t : ℕ) → t < streams p → sumIn (sumsOf p w) t ≡ crc 0 (columnOf p w 4 1920 t)
+      go : (half : ℕ) → p .«stream_pairs» ≡ half → (t : ℕ) → t < streams p → sumIn (sumsOf p w) t ≡ crc 0 (columnOf p w pictureStart 1920 t)
       go half e zero h = refl
       go half e (suc zero) h = refl
       go zero e (suc (suc t)) h = absurd (omega arith)
@@ -42,9 +43,9 @@ module _ (p : Shape) (w : List ℕ) (some-streams : 1 ≤ p .«stream_pairs») (
   unfolding crccReceived registerOf
   crcc-is t h =
       let s = streams p in
-      let rest = column s (wordAt p w) 1924 3 t ++ (repaired (wordOf s (wordAt p w) 1927 t) ∷ column s (wordAt p w) 1928 2 t) in
+      let rest = column s (wordAt p w) eavStart 3 t ++ (repaired (wordOf s (wordAt p w) eavXyz t) ∷ column s (wordAt p w) lineStart 2 t) in
       ap (λ (c : ℕ). crccWords (crc c rest)) (sum-is t h)
-      ∙ ap (λ (c : ℕ). crccWords c) (crc-append 0 (columnOf p w 4 1920 t) rest)
+      ∙ ap (λ (c : ℕ). crccWords c) (crc-append 0 (columnOf p w pictureStart 1920 t) rest)
 
   same-24 : (k : ℕ) → placed (streams p) (holds24By p w (sumsOf p w)) k ≡ placed (streams p) (holds24 (streams p) (wordAt p w)) k
   unfolding holds24By holds24
@@ -53,7 +54,7 @@ module _ (p : Shape) (w : List ℕ) (some-streams : 1 ≤ p .«stream_pairs») (
       let t = k % streams p in
       let word = wordOf (streams p) (wordAt p w) j t in
       ap
-      (λ (c : CrccWords). cond (eqb j 1930) (eqb word (c .crcc0)) (cond (eqb j 1931) (eqb word (c .crcc1)) true))
+      (λ (c : CrccWords). cond (eqb j crccStart) (eqb word (c .crcc0)) (cond (eqb j (crccStart + 1)) (eqb word (c .crcc1)) true))
       (crcc-is t (stream-below (streams p) (omega arith) k))
 
   -- so tests 21 to 24 with them are the first four of the words

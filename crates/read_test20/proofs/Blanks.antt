@@ -16,9 +16,10 @@ use Rattle.packing.specs.Bytes.{bytesOf, unpacked}
 use Rattle.packing.proofs.Packing.{unpack-pack}
 use Rattle.window.proofs.Filling.{Both, all-right}
 use Rattle.window.proofs.Plain.{pair-is}
-use Rattle.read_test20.proofs.Gathering.{or-left, or-right, xor-none, blank-turn}
+use Rattle.read_test20.proofs.Gathering.{or-left, or-right, xor-none, blank-step}
 use Rattle.span.specs.declared.format.Shape.{Shape}
 use Rattle.span.specs.Format.{symbolsIn}
+use Rattle.span.specs.Layout.{ancillaryStart}
 use Rattle.window.specs.Scan.{byteOf, symbolAt}
 use Rattle.window.specs.Inside.Fill.{fillRight}
 use Rattle.window.specs.Inside.Given.{plainPair}
@@ -94,7 +95,7 @@ module _ (w : List ℕ) (from flips : ℕ) where
     going-by (suc k) h =
         let at : from + 3 * suc k ≡ from + 3 * k + 3 = omega arith in
         rw at
-        (blank-turn w (going-by k (omega arith)) (b .first k (omega arith)) (b .second k (omega arith)) (b .third k (omega arith)))
+        (blank-step w (going-by k (omega arith)) (b .first k (omega arith)) (b .second k (omega arith)) (b .third k (omega arith)))
 
     pub blank-going : (k : ℕ) → to ≡ from + 3 * k → RunInv w 0 255 start to (maskBy flips)
     blank-going k e = rw e (going-by k (omega arith))
@@ -131,16 +132,16 @@ blank-fill p w from flips some long begins b =
       come = omega arith;
       right =
           λ k h l.
-          let q = k - p .«stream_pairs» * (1932 + p .ancillary) in
+          let q = k - p .«stream_pairs» * (ancillaryStart + p .ancillary) in
           let at : from + 3 * q ≡ 3 * k = omega arith in
           blank-both w (3 * k) (maskBy flips) (rw at at (b .first q (omega arith))) (rw at at (b .second q (omega arith)))
           (rw at at (b .third q (omega arith)));
     })
 
 -- one symbol more is as the one three before it
-pub repeats-turn : (w : List ℕ) (other i : ℕ) {k : ℕ} → bitOr other (bitXor (symbolAt w (i + 3)) (symbolAt w i)) ≡ 0
+pub repeats-step : (w : List ℕ) (other i : ℕ) {k : ℕ} → bitOr other (bitXor (symbolAt w (i + 3)) (symbolAt w i)) ≡ 0
     → (other ≡ 0 → k < i → symbolAt w (k + 3) ≡ symbolAt w k) → k < i + 1 → symbolAt w (k + 3) ≡ symbolAt w k
-repeats-turn w other i {k} z before l =
+repeats-step w other i {k} z before l =
     let last : symbolAt w (i + 3) ≡ symbolAt w i = xor-none _ _ (or-right other _ z) in
     ⊎-elim (λ q. subst (λ (n : ℕ). symbolAt w (n + 3) ≡ symbolAt w n) (sym q) last) (λ q. before (or-left other _ z) q) (sooner l)
   where

@@ -60,10 +60,10 @@ module _ (w : List ℕ) where
 
   -- ---- a character that is known
 
-  pub char-turn : (low high : ℕ) {from i : ℕ} (d : Disparity) (c : ℕ) → c < 268 → low ≤ c → c ≤ high → RunInv w low high from i (maskOf d)
+  pub char-step : (low high : ℕ) {from i : ℕ} (d : Disparity) (c : ℕ) → c < 268 → low ≤ c → c ≤ high → RunInv w low high from i (maskOf d)
       → symbolAt w i ≡ symbolOf d c → RunInv w low high from (i + 1) (maskOf (afterOf d c))
   unfolding suits
-  char-turn low high {from} {i} d c small above below g is =
+  char-step low high {from} {i} d c small above below g is =
       let same : runningAt w i ≡ d = sym (mask-again (runningAt w i)) ∙ ap ofMask (sym (g .bit)) ∙ mask-again d in
       let legal : charOf d (symbolOf d c) ≡ some c = decode-encode d c (omega arith) in
       let means : meant (symbolOf d c) ≡ c = meant-of d c (omega arith) in
@@ -83,14 +83,14 @@ module _ (w : List ℕ) where
       → RunInv w 0 255 from (i + 1 + 1 + 1) (maskOf d)
   three d g x y z =
       let flat = blank-flat d in
-      let first = rw (flat .0) at (char-turn 0 255 d 0x00 (omega arith) (omega arith) (omega arith) g x) in
-      let second = rw (flat .1) at (char-turn 0 255 d 0x01 (omega arith) (omega arith) (omega arith) first y) in
-      rw (flat .2) at (char-turn 0 255 d 0x10 (omega arith) (omega arith) (omega arith) second z)
+      let first = rw (flat .0) at (char-step 0 255 d 0x00 (omega arith) (omega arith) (omega arith) g x) in
+      let second = rw (flat .1) at (char-step 0 255 d 0x01 (omega arith) (omega arith) (omega arith) first y) in
+      rw (flat .2) at (char-step 0 255 d 0x10 (omega arith) (omega arith) (omega arith) second z)
 
-  pub blank-turn : {from i mask : ℕ} → RunInv w 0 255 from i mask
+  pub blank-step : {from i mask : ℕ} → RunInv w 0 255 from i mask
       → symbolAt w i ≡ blankBy mask .first → symbolAt w (i + 1) ≡ blankBy mask .second → symbolAt w (i + 2) ≡ blankBy mask .third
       → RunInv w 0 255 from (i + 3) mask
-  blank-turn {from} {i} {mask} g x y z =
+  blank-step {from} {i} {mask} g x y z =
       let d = ofMask mask in
       let bit : mask ≡ maskOf d = g .bit ∙ ap maskOf (sym (mask-again (runningAt w i)) ∙ ap ofMask (sym (g .bit))) in
       let third : i + 2 ≡ i + 1 + 1 = omega arith in

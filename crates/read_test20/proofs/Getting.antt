@@ -16,6 +16,7 @@ use Rattle.read_test20.proofs.Streams.{rows-of-two, rows-of-four}
 use Rattle.read_test20.proofs.Taking.{begin, turn, under}
 use Rattle.span.specs.declared.format.Shape.{Shape}
 use Rattle.span.specs.Format.{streams, samplesIn}
+use Rattle.span.specs.Layout.{pictureStart}
 use Rattle.window.specs.Tests.{rows as rowsOf, wordOf}
 use Rattle.window.specs.Words.{wordAt}
 use Rattle.window.specs.Inside.Columns.{columnOf, sumsOf}
@@ -26,22 +27,22 @@ use Rattle.read_test20.specs.declared.see.Six.{Six}
 use Rattle.read_test20.specs.declared.see.Three.{Three}
 use Rattle.read_test20.specs.Inside.Picture.{putTwo, pairIn, putPair, placeTwo, rowsTwo, placeFour, rowsFour, RowsInv, TwoRowsInv}
 use Rattle.read_test20.specs.Inside.See.{seenThree, seenSix, GatherInv}
-use Rattle.read_test20.proofs.Seeing.{three-turn}
+use Rattle.read_test20.proofs.Seeing.{three-step}
 
 -- where a pair stands
-pair-at : (w : List ℕ) (j half u o : ℕ) → o ≡ 3 * (half * (4 + j) + u) → plainPair w o ≡ pairIn half w u j
+pair-at : (w : List ℕ) (j half u o : ℕ) → o ≡ 3 * (half * (pictureStart + j) + u) → plainPair w o ≡ pairIn half w u j
 pair-at w j half u o e = ap (plainPair w) e
 
 module _ (w : List ℕ) {old : List ℕ} {j : ℕ} {v : Passed} {rows : List ℕ} (h : j < 1920) where
   pub got-two : RowsInv 1 w old j v rows → RowsInv 1 w old (j + 1) (placeTwo w j v) (rowsTwo w j rows)
   unfolding seenThree
   got-two g =
-      let at : 12 + 3 * j ≡ 3 * (1 * (4 + j) + 0) = omega arith in
+      let at : 12 + 3 * j ≡ 3 * (1 * (pictureStart + j) + 0) = omega arith in
       let pair = pair-at w j 1 0 (12 + 3 * j) at in
       let low = rw (sym (g .two refl)) at (g .low) in
       let end : 12 + 3 * j + 3 ≡ 12 * 1 + 3 * 1 * (j + 1) = omega arith in
       record {
-        clean = rw end at (three-turn w (g .clean));
+        clean = rw end at (three-step w (g .clean));
         low-rows = rowsTwo w j rows;
         low =
             (turn low h (omega arith) (omega arith) (ap (λ (x : TwoWords). x .a) pair) (ap (λ (x : TwoWords). x .b) pair));
@@ -52,14 +53,14 @@ module _ (w : List ℕ) {old : List ℕ} {j : ℕ} {v : Passed} {rows : List ℕ
   pub got-four : RowsInv 2 w old j v rows → RowsInv 2 w old (j + 1) (placeFour w j v) (rowsFour w j rows)
   unfolding seenThree seenSix
   got-four g =
-      let first : 24 + 6 * j ≡ 3 * (2 * (4 + j) + 0) = omega arith in
-      let second : 24 + 6 * j + 3 ≡ 3 * (2 * (4 + j) + 1) = omega arith in
+      let first : 24 + 6 * j ≡ 3 * (2 * (pictureStart + j) + 0) = omega arith in
+      let second : 24 + 6 * j + 3 ≡ 3 * (2 * (pictureStart + j) + 1) = omega arith in
       let low = pair-at w j 2 0 (24 + 6 * j) first in
       let high = pair-at w j 2 1 (24 + 6 * j + 3) second in
       let x = plainPair w (24 + 6 * j) in
       let end : 24 + 6 * j + 3 + 3 ≡ 12 * 2 + 3 * 2 * (j + 1) = omega arith in
       record {
-        clean = rw end at (three-turn w (three-turn w (g .clean)));
+        clean = rw end at (three-step w (three-step w (g .clean)));
         low-rows = set (set (g .low-rows) j (x .a)) (1920 + j) (x .b);
         low =
             (turn (g .low) h (omega arith) (omega arith) (ap (λ (y : TwoWords). y .a) low) (ap (λ (y : TwoWords). y .b) low));
@@ -155,23 +156,23 @@ got-begin half flips w old g =
 module _ (p : Shape) (w : List ℕ) where
   -- the words of streams 2u and 2u + 1 are those of the window
   module _ (u : ℕ) (h : u < p .«stream_pairs») where
-    plain : (i : ℕ) → i < 1920 → Behind p (p .«stream_pairs» * (4 + i) + u)
-    plain i l = in-pair p (4 + i) u h (omega arith) (λ z. absurd (omega arith))
+    plain : (i : ℕ) → i < 1920 → Behind p (p .«stream_pairs» * (pictureStart + i) + u)
+    plain i l = in-pair p (pictureStart + i) u h (omega arith) (λ z. absurd (omega arith))
 
-    pub first-column : table 1920 (λ i. pairIn (p .«stream_pairs») w u i .a) ≡ columnOf p w 4 1920 (2 * u)
-    first-column = table-same 1920 _ _ (λ i l. stream-a p w (4 + i) u refl (plain i l))
+    pub first-column : table 1920 (λ i. pairIn (p .«stream_pairs») w u i .a) ≡ columnOf p w pictureStart 1920 (2 * u)
+    first-column = table-same 1920 _ _ (λ i l. stream-a p w (pictureStart + i) u refl (plain i l))
 
-    pub second-column : table 1920 (λ i. pairIn (p .«stream_pairs») w u i .b) ≡ columnOf p w 4 1920 (2 * u + 1)
-    second-column = table-same 1920 _ _ (λ i l. stream-b p w (4 + i) u refl (plain i l))
+    pub second-column : table 1920 (λ i. pairIn (p .«stream_pairs») w u i .b) ≡ columnOf p w pictureStart 1920 (2 * u + 1)
+    second-column = table-same 1920 _ _ (λ i l. stream-b p w (pictureStart + i) u refl (plain i l))
 
     pub put-columns : {old rows : List ℕ} {low high : ℕ}
         → TwoRowsInv (λ i. pairIn (p .«stream_pairs») w u i .a) (λ i. pairIn (p .«stream_pairs») w u i .b) 1920 low high old 1920 rows
-        → low ≡ 2 * u * 1920 → high ≡ 2 * u * 1920 + 1920 → rows ≡ putTwo p w u 4 1920 old
+        → low ≡ 2 * u * 1920 → high ≡ 2 * u * 1920 + 1920 → rows ≡ putTwo p w u pictureStart 1920 old
     put-columns t l k = t .put ∙ rw (first-column, second-column, l, k)
 
   module _ {old rows : List ℕ} {v : Passed} (small : p .«stream_pairs» ≤ 2) (some : 1 ≤ p .«stream_pairs») (long : length old ≡ samplesIn p)
       (g : RowsInv (p .«stream_pairs») w old 1920 v rows) where
-    low-rows-are : g .low-rows ≡ putTwo p w 0 4 1920 old
+    low-rows-are : g .low-rows ≡ putTwo p w 0 pictureStart 1920 old
     low-rows-are = put-columns 0 (omega arith) (g .low) refl refl
 
     pub picture-is : rows ≡ rowsOf (streams p) (wordAt p w)
@@ -186,21 +187,21 @@ module _ (p : Shape) (w : List ℕ) where
 
   -- a row of the picture is its stream's column, and so its CRC is that stream's
   module _ {rows : List ℕ} (is : rows ≡ rowsOf (streams p) (wordAt p w)) where
-    sized : (t : ℕ) → length (columnOf p w 4 1920 t) ≡ 1920
-    sized t = length-table 1920 (λ i. wordOf (streams p) (wordAt p w) (4 + i) t)
+    sized : (t : ℕ) → length (columnOf p w pictureStart 1920 t) ≡ 1920
+    sized t = length-table 1920 (λ i. wordOf (streams p) (wordAt p w) (pictureStart + i) t)
 
-    row-is : (t : ℕ) → t < streams p → streamRow rows t ≡ columnOf p w 4 1920 t
+    row-is : (t : ℕ) → t < streams p → streamRow rows t ≡ columnOf p w pictureStart 1920 t
     unfolding rowsOf
     row-is t h =
         table-same 1920 _ _
         (λ i l.
         ap (λ (x : List ℕ). getD x (1920 * t + i) 0) is
-        ∙ getD-upto 1920 (columnOf p w 4 1920) sized (streams p) t i 0 h l
-        ∙ getD-table 1920 (λ k. wordOf (streams p) (wordAt p w) (4 + k) t) i 0 l)
+        ∙ getD-upto 1920 (columnOf p w pictureStart 1920) sized (streams p) t i 0 h l
+        ∙ getD-table 1920 (λ k. wordOf (streams p) (wordAt p w) (pictureStart + k) t) i 0 l)
 
     rows-long : length rows ≡ samplesIn p
     unfolding rowsOf
-    rows-long = ap (λ (x : List ℕ). length x) is ∙ length-upto 1920 (columnOf p w 4 1920) sized (streams p)
+    rows-long = ap (λ (x : List ℕ). length x) is ∙ length-upto 1920 (columnOf p w pictureStart 1920) sized (streams p)
 
     pub sums-are : p .«stream_pairs» ≤ 2 → 1 ≤ p .«stream_pairs» → sumsIn rows ≡ sumsOf p w
     sums-are small some =

@@ -45,8 +45,8 @@ byte-one good x = ap (λ (n : ℕ). n % 2) (and-shr good x 13) ∙ and-mod (good
 either-one : (e n : ℕ) → bitOr e n / 8192 % 2 ≡ bitOr (e / 8192 % 2) (n / 8192 % 2)
 either-one e n = ap (λ (n : ℕ). n % 2) (or-shr e n 13) ∙ or-mod (e / 8192) (n / 8192) 1
 
-turned-two : (flips e : ℕ) → bitXor flips e / 2048 % 4 ≡ bitXor (flips / 2048 % 4) (e / 2048 % 4)
-turned-two flips e = ap (λ (n : ℕ). n % 4) (xor-shr flips e 11) ∙ xor-mod (flips / 2048) (e / 2048) 2
+flipped-two : (flips e : ℕ) → bitXor flips e / 2048 % 4 ≡ bitXor (flips / 2048 % 4) (e / 2048 % 4)
+flipped-two flips e = ap (λ (n : ℕ). n % 4) (xor-shr flips e 11) ∙ xor-mod (flips / 2048) (e / 2048) 2
 
 -- two bits that are both set in what is left were set before, and one of two has each
 and-three : (a b : ℕ) → a < 4 → b < 4 → bitAnd a b ≡ 3 → (a ≡ 3) × (b ≡ 3)
@@ -127,25 +127,25 @@ has-both Positive e t =
     both-bits Positive (e / 512 % 4) (omega arith) (omega (arith, set))
 
 -- the bit after an entry
-mask-turned : (d : Disparity) (y : ℕ) → y < 4 → bitXor (maskOf d) (y * 512) ≡ 1536 - bitXor (other d) y * 512
-mask-turned Negative zero h = refl
-mask-turned Negative (suc zero) h = refl
-mask-turned Negative (suc (suc zero)) h = refl
-mask-turned Negative (suc (suc (suc zero))) h = refl
-mask-turned Negative (suc (suc (suc (suc y)))) h = absurd (omega arith)
-mask-turned Positive zero h = refl
-mask-turned Positive (suc zero) h = refl
-mask-turned Positive (suc (suc zero)) h = refl
-mask-turned Positive (suc (suc (suc zero))) h = refl
-mask-turned Positive (suc (suc (suc (suc y)))) h = absurd (omega arith)
+mask-flipped : (d : Disparity) (y : ℕ) → y < 4 → bitXor (maskOf d) (y * 512) ≡ 1536 - bitXor (other d) y * 512
+mask-flipped Negative zero h = refl
+mask-flipped Negative (suc zero) h = refl
+mask-flipped Negative (suc (suc zero)) h = refl
+mask-flipped Negative (suc (suc (suc zero))) h = refl
+mask-flipped Negative (suc (suc (suc (suc y)))) h = absurd (omega arith)
+mask-flipped Positive zero h = refl
+mask-flipped Positive (suc zero) h = refl
+mask-flipped Positive (suc (suc zero)) h = refl
+mask-flipped Positive (suc (suc (suc zero))) h = refl
+mask-flipped Positive (suc (suc (suc (suc y)))) h = absurd (omega arith)
 
 after-seen : (d : Disparity) (flips e : ℕ) → flips / 2048 % 4 ≡ other d → afterBy (maskOf d) e ≡ maskBy (bitXor flips e)
 unfolding afterBy
 after-seen d flips e o =
     let y : e / 4 / 512 % 4 ≡ e / 2048 % 4 = omega arith in
     ap (bitXor (maskOf d)) (and-high (e / 4) 2 9 ∙ ap (λ (n : ℕ). n * 512) y)
-    ∙ mask-turned d (e / 2048 % 4) (omega arith)
-    ∙ ap (λ (n : ℕ). 1536 - n * 512) (sym (turned-two flips e ∙ ap (λ (n : ℕ). bitXor n (e / 2048 % 4)) o))
+    ∙ mask-flipped d (e / 2048 % 4) (omega arith)
+    ∙ ap (λ (n : ℕ). 1536 - n * 512) (sym (flipped-two flips e ∙ ap (λ (n : ℕ). bitXor n (e / 2048 % 4)) o))
 
 -- ---- one symbol more
 
@@ -153,9 +153,9 @@ module _ (w : List ℕ) where
   pub see-begin : (from flips : ℕ) → flips < 16384 → maskBy flips ≡ maskOf (runningAt w from) → GatherInv w from from 65535 flips
   see-begin from flips h e = record { come = omega arith; fits = h; clean = λ _. begin w 0 255 from (maskBy flips) e; kept = λ _. refl }
 
-  pub see-turn : {from i good flips e : ℕ} → GatherInv w from i good flips → e ≡ entryOf (symbolAt w i)
+  pub see-step : {from i good flips e : ℕ} → GatherInv w from i good flips → e ≡ entryOf (symbolAt w i)
       → GatherInv w from (i + 1) (bitAnd good (bitOr e (flips / 4))) (bitXor flips e)
-  see-turn {from} {i} {good} {flips} {e} g is =
+  see-step {from} {i} {good} {flips} {e} g is =
       let small : e < 16384 = rw is (entry-fits (symbolAt w i)) in
       record { come = omega (arith, g .come); fits = xor-lt 14 flips e (g .fits) small; clean = step; kept = keep }
     where
@@ -198,9 +198,9 @@ module _ (w : List ℕ) where
           (turn w 0 255 before (is ∙ sym (entry-in (symbolAt w i))) (rw (before .bit) suit))
 
   -- the same of what is answered for a symbol
-  pub seen-turn : {from i good flips : ℕ} {x : Seen} → GatherInv w from i good flips → x ≡ seen (symbolAt w i) good flips
+  pub seen-step : {from i good flips : ℕ} {x : Seen} → GatherInv w from i good flips → x ≡ seen (symbolAt w i) good flips
       → GatherInv w from (i + 1) (x .good) (x .flips)
-  seen-turn g is = rw is (see-turn g refl)
+  seen-step g is = rw is (see-step g refl)
 
   -- ---- three symbols
 
@@ -222,9 +222,9 @@ module _ (w : List ℕ) where
       (ap (λ (l : Seen). l .entry % 256) ez ∙ low-byte (symbolAt w (o + 2))) in
       rw (words, ez, ey, ex)
 
-  pub three-turn : {from i good flips : ℕ} → GatherInv w from i good flips → GatherInv w from (i + 3) (seenThree w i good flips .good) (seenThree w i good flips .flips)
+  pub three-step : {from i good flips : ℕ} → GatherInv w from i good flips → GatherInv w from (i + 3) (seenThree w i good flips .good) (seenThree w i good flips .flips)
   unfolding seenThree
-  three-turn {from} {i} g =
+  three-step {from} {i} g =
       let two : i + 1 + 1 ≡ i + 2 = omega arith in
       let three : i + 2 + 1 ≡ i + 3 = omega arith in
-      rw (← three) (see-turn (rw two at (see-turn (see-turn g refl) refl)) refl)
+      rw (← three) (see-step (rw two at (see-step (see-step g refl) refl)) refl)

@@ -12,11 +12,12 @@ use Rattle.symbol.specs.declared.disparity.Disparity.{Disparity}
 use Rattle.symbol.specs.declared.disparity.Disparity.the-variants.{Negative, Positive}
 use Rattle.symbol.specs.Code.{symbolOf, afterOf}
 use Rattle.decoder.specs.Inside.Mask.{maskOf, ofMask}
-use Rattle.read_test20.proofs.Gathering.{char-turn, join}
+use Rattle.read_test20.proofs.Gathering.{char-step, join}
 use Rattle.read_test20.proofs.Runs.{begin}
 use Rattle.read_test20.proofs.Window.{all-suit, reached}
 use Rattle.span.specs.declared.format.Shape.{Shape}
 use Rattle.span.specs.Format.{eavAt, symbolsIn}
+use Rattle.span.specs.Inside.Layout.{eavSymbol}
 use Rattle.window.specs.Scan.{symbolAt, startOf, runningAt}
 use Rattle.window.proofs.Symbols.{running-start, starts}
 use Rattle.read_test20.specs.Inside.Picture.{Come}
@@ -35,8 +36,8 @@ module _ (w : List ℕ) where
         fits = omega arith;
         start = start;
         going =
-            char-turn w 261 261 Positive 261 (omega arith) (omega arith) (omega arith)
-            (char-turn w 261 261 Negative 261 (omega arith) (omega arith) (omega arith)
+            char-step w 261 261 Positive 261 (omega arith) (omega arith) (omega arith)
+            (char-step w 261 261 Negative 261 (omega arith) (omega arith) (omega arith)
             (begin w 261 261 0 512 (ap maskOf (sym (running-start w ∙ start)))) x)
             y;
       }
@@ -49,8 +50,8 @@ module _ (w : List ℕ) where
         fits = omega arith;
         start = start;
         going =
-            char-turn w 261 261 Negative 261 (omega arith) (omega arith) (omega arith)
-            (char-turn w 261 261 Positive 261 (omega arith) (omega arith) (omega arith)
+            char-step w 261 261 Negative 261 (omega arith) (omega arith) (omega arith)
+            (char-step w 261 261 Positive 261 (omega arith) (omega arith) (omega arith)
             (begin w 261 261 0 1024 (ap maskOf (sym (running-start w ∙ start)))) x)
             y;
       }
@@ -61,8 +62,8 @@ module _ (w : List ℕ) where
   unfolding afterOf
   eav-at d at r x y =
       let second : at + 1 + 1 ≡ at + 2 = omega arith in
-      let first = flat d (char-turn w 266 266 d 266 (omega arith) (omega arith) (omega arith) (begin w 266 266 at (maskOf d) (ap maskOf (sym r))) x) in
-      rw second at (flat d (char-turn w 266 266 d 266 (omega arith) (omega arith) (omega arith) first y))
+      let first = flat d (char-step w 266 266 d 266 (omega arith) (omega arith) (omega arith) (begin w 266 266 at (maskOf d) (ap maskOf (sym r))) x) in
+      rw second at (flat d (char-step w 266 266 d 266 (omega arith) (omega arith) (omega arith) first y))
     where
       flat : {i : ℕ} (d : Disparity) → RunInv w 266 266 at i (maskOf (afterOf d 266)) → RunInv w 266 266 at i (maskOf d)
       flat Negative g = g
@@ -109,7 +110,7 @@ module _ (p : Shape) (w : List ℕ) where
     pub scanned-whole : record { place = length w; before = ofMask (maskBy first); after = ofMask (maskBy after) } ≡ scannedOf p w
     scanned-whole =
         let at : 12 * p .«stream_pairs» + 3 * p .«stream_pairs» * 1920 ≡ eavAt p = omega arith in
-        let eav : 5772 * p .«stream_pairs» ≡ eavAt p = omega arith in
+        let eav : eavSymbol * p .«stream_pairs» ≡ eavAt p = omega arith in
         rw (← (sav .start))
         (all-suit p w (sav .going) (join w (bytes .clean right) (rw at at (picture .clean rights))) (rw eav at (end .eav)) (rw eav at (end .bytes)))
 

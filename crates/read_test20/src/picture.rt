@@ -8,6 +8,7 @@ ghost use Prim.Native.Nat.{ℕ, _+_, _-_, _*_, _%_, _≤_, _<_};
 ghost use mathlib.Core.List.{List};
 ghost use lib.ListN.{length};
 ghost use Rattle.decoder.specs.Inside.Decoder.{decodingTable};
+ghost use Rattle.span.specs.Inside.Layout.{eavSymbol};
 ghost use Rattle.read_test20.specs.Inside.Picture.{RowsInv, Come, putPair};
 ghost use Rattle.read_test20.specs.Inside.See.{TenBits, AreBytes, GatherInv, passesBy};
 
@@ -45,7 +46,7 @@ fn step_two(t: &[u16; 1024], symbols: &[u16], j: usize, v: Passed, rows: &mut [u
     requires { ⌜ now t ≡ decodingTable ⌝ }
     requires { ⌜ TenBits (now symbols) ⌝ }
     requires { ⌜ j + 4 ≤ 1920 ⌝ }
-    requires { ⌜ 5772 ≤ length (now symbols) ⌝ }
+    requires { ⌜ eavSymbol ≤ length (now symbols) ⌝ }
     requires { ⌜ length (now rows) ≡ 3840 ⌝ }
     ensures size { λ _. ⌜ length (now (rows .exit)) ≡ 3840 ⌝ }
     ensures got { λ r. ⌜ ((old : List ℕ) → RowsInv 1 (now (symbols .entry)) old j v (now (rows .entry)) → RowsInv 1 (now (symbols .entry)) old (j + 4) r (now (rows .exit))) ⌝ }
@@ -82,7 +83,7 @@ fn take_two(
     requires { ⌜ from ≤ to ⌝ }
     requires { ⌜ to ≤ 1920 ⌝ }
     requires { ⌜ (to - from) % 4 ≡ 0 ⌝ }
-    requires { ⌜ 5772 ≤ length (now symbols) ⌝ }
+    requires { ⌜ eavSymbol ≤ length (now symbols) ⌝ }
     requires { ⌜ length (now rows) ≡ 3840 ⌝ }
     ensures size { λ _. ⌜ length (now (rows .exit)) ≡ 3840 ⌝ }
     ensures got { λ r. ⌜ ((old : List ℕ) → RowsInv 1 (now (symbols .entry)) old from v (now (rows .entry)) → RowsInv 1 (now (symbols .entry)) old to r (now (rows .exit))) ⌝ }
@@ -178,7 +179,7 @@ fn take_piece(
     requires { ⌜ from ≤ to ⌝ }
     requires { ⌜ to ≤ 1920 ⌝ }
     requires { ⌜ (to - from) % 4 ≡ 0 ⌝ }
-    requires { ⌜ 5772 * pairs ≤ length (now symbols) ⌝ }
+    requires { ⌜ eavSymbol * pairs ≤ length (now symbols) ⌝ }
     requires { ⌜ length (now rows) ≡ 3840 * pairs ⌝ }
     ensures size { λ _. ⌜ length (now (rows .exit)) ≡ 3840 * pairs ⌝ }
     ensures got { λ r. ⌜ ((old : List ℕ) → RowsInv pairs (now (symbols .entry)) old from v (now (rows .entry)) → RowsInv pairs (now (symbols .entry)) old to r (now (rows .exit))) ⌝ }
@@ -201,13 +202,13 @@ pub(crate) fn take_picture(
     requires { ⌜ TenBits (now symbols) ⌝ }
     requires { ⌜ 1 ≤ pairs ⌝ }
     requires { ⌜ pairs ≤ 2 ⌝ }
-    requires { ⌜ 5772 * pairs ≤ length (now symbols) ⌝ }
+    requires { ⌜ eavSymbol * pairs ≤ length (now symbols) ⌝ }
     requires { ⌜ length (now rows) ≡ 3840 * pairs ⌝ }
     requires { ⌜ GatherInv (now symbols) (12 * pairs) (12 * pairs) 65535 flips ⌝ }
     ensures size { λ _. ⌜ length (now (rows .exit)) ≡ 3840 * pairs ⌝ }
     ensures got { λ r. ⌜ (passesBy (r .good) ≡ true → RowsInv pairs (now (symbols .entry)) (now (rows .entry)) 1920 (record { good = r .good; flips = r .flips }) (now (rows .exit))) ⌝ }
     ensures come { λ r. ⌜ Come pairs (now (symbols .entry)) (r .words) (r .flips) ⌝ }
-    ensures kept { λ r. ⌜ (AreBytes (now (symbols .entry)) (12 * pairs) (5772 * pairs) → passesBy (r .good) ≡ true) ⌝ }
+    ensures kept { λ r. ⌜ (AreBytes (now (symbols .entry)) (12 * pairs) (eavSymbol * pairs) → passesBy (r .good) ≡ true) ⌝ }
 {
     let mut p = Passed { good: 65535, flips };
     let mut j = 0;

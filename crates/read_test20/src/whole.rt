@@ -11,6 +11,7 @@ ghost use lib.ListN.{length};
 ghost use Rattle.decoder.specs.Inside.Decoder.{decodingTable};
 ghost use Rattle.decoder.specs.Inside.Mask.{maskOf, ofMask};
 ghost use Rattle.span.specs.Format.{shapeOf, samplesIn};
+ghost use Rattle.span.specs.Inside.Layout.{eavSymbol, ancillarySymbol};
 ghost use Rattle.window.specs.Scan.{runningAt};
 ghost use Rattle.window.specs.Inside.Fill.{fillRight};
 ghost use Rattle.window.specs.Inside.Given.{Given};
@@ -143,10 +144,10 @@ fn unended() -> Ended
 fn tail_of(t: &[u16; 1024], p: Shape, symbols: &[u16], flips: u32) -> Ended
     requires { ⌜ Given p (now t) (now symbols) ⌝ }
     requires { ⌜ TenBits (now symbols) ⌝ }
-    requires { ⌜ Tied (now symbols) (5796 * p .«stream_pairs») flips ⌝ }
-    ensures whole { λ r. ⌜ (r .whole ≡ true → RunInv (now (symbols .entry)) 0 255 (5796 * p .«stream_pairs») (length (now (symbols .entry))) (maskBy (r .flips))) ⌝ }
+    requires { ⌜ Tied (now symbols) (ancillarySymbol * p .«stream_pairs») flips ⌝ }
+    ensures whole { λ r. ⌜ (r .whole ≡ true → RunInv (now (symbols .entry)) 0 255 (ancillarySymbol * p .«stream_pairs») (length (now (symbols .entry))) (maskBy (r .flips))) ⌝ }
     ensures filled { λ r. ⌜ (r .filled ≡ true → fillRight p (now (symbols .entry)) ≡ true) ⌝ }
-    ensures kept { λ r. ⌜ (AreBytes (now (symbols .entry)) (5796 * p .«stream_pairs») (length (now (symbols .entry))) → r .whole ≡ true) ⌝ }
+    ensures kept { λ r. ⌜ (AreBytes (now (symbols .entry)) (ancillarySymbol * p .«stream_pairs») (length (now (symbols .entry))) → r .whole ≡ true) ⌝ }
 {
     let from = span::layout::ANCILLARY_SYMBOL * p.stream_pairs;
     let fill = symbols.len() - 3 * p.fill_pairs;
@@ -161,7 +162,7 @@ fn tail_of(t: &[u16; 1024], p: Shape, symbols: &[u16], flips: u32) -> Ended
 fn end_of(t: &[u16; 1024], p: Shape, symbols: &[u16], flips: u32) -> Ended
     requires { ⌜ Given p (now t) (now symbols) ⌝ }
     requires { ⌜ TenBits (now symbols) ⌝ }
-    requires { ⌜ Tied (now symbols) (5772 * p .«stream_pairs») flips ⌝ }
+    requires { ⌜ Tied (now symbols) (eavSymbol * p .«stream_pairs») flips ⌝ }
     ensures whole { λ r. ⌜ (r .whole ≡ true → Ending p (now (symbols .entry)) flips (r .flips)) ⌝ }
     ensures filled { λ r. ⌜ (r .filled ≡ true → fillRight p (now (symbols .entry)) ≡ true) ⌝ }
     ensures kept { λ r. ⌜ (AllHold p (now (symbols .entry)) → r .whole ≡ true) ⌝ }

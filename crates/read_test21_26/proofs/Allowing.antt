@@ -29,11 +29,11 @@ module _ (depth : ℕ) where
   unfolding allAllowed
   looked found x xs = on-test (allowedWord depth x) (λ t. simp (t, or-zero-r)) (λ t. simp (t, stays, and-false))
 
-  pub look-turn :
+  pub look-step :
       {out : ℕ} (found : ℕ) (xs : List ℕ) (i : ℕ)
       → i < length xs → out ≡ wrongFlag depth (getD xs i 0)
       → (eqb (bitOr found out) 0 && allAllowed depth (drop (i + 1) xs)) ≡ (eqb found 0 && allAllowed depth (drop i xs))
-  look-turn found xs i h e = rw (e, next-left xs i 0 h) (looked found (getD xs i 0) (drop (i + 1) xs))
+  look-step found xs i h e = rw (e, next-left xs i 0 h) (looked found (getD xs i 0) (drop (i + 1) xs))
 
   pub look-done : (found : ℕ) (xs : List ℕ) (i : ℕ) → length xs ≤ i → (eqb found 0 && allAllowed depth (drop i xs)) ≡ eqb found 0
   unfolding allAllowed

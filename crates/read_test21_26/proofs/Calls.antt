@@ -16,6 +16,8 @@ use Rattle.span.specs.declared.content.ContentBytes.{ContentBytes}
 use Rattle.span.specs.declared.format.Format.{Format}
 use Rattle.span.specs.declared.format.Shape.{Shape}
 use Rattle.span.specs.Format.{isKnown, shapeOf, symbolsIn, streams, eavAt}
+use Rattle.span.specs.Layout.{pictureStart, eavStart, ancillaryStart}
+use Rattle.span.specs.Inside.Layout.{eavSymbol}
 use Rattle.span.proofs.Formats.{small}
 use Rattle.span.proofs.Lengths.{known-has-streams}
 use Rattle.crcc.specs.declared.sums.Sums.{Sums}
@@ -49,9 +51,9 @@ given {p} {t} {w} f is e table =
 
 -- ---- the content bytes
 module _ (p : Shape) (w : List ℕ) {x1 x2 x3 x4 : ℕ} where
-  pub content-is : x1 ≡ byteOf (symbolAt w 2) → x2 ≡ byteOf (symbolAt w 3) → x3 ≡ byteOf (symbolAt w (5772 * p .«stream_pairs» + 2))
-      → x4 ≡ byteOf (symbolAt w (5772 * p .«stream_pairs» + 3)) → record { sav1 = x1; sav2 = x2; eav1 = x3; eav2 = x4 } ≡ contentIn p w
-  content-is e1 e2 e3 e4 = let at : 5772 * p .«stream_pairs» ≡ eavAt p = omega arith in rw (e1, e2, e3, e4, at)
+  pub content-is : x1 ≡ byteOf (symbolAt w 2) → x2 ≡ byteOf (symbolAt w 3) → x3 ≡ byteOf (symbolAt w (eavSymbol * p .«stream_pairs» + 2))
+      → x4 ≡ byteOf (symbolAt w (eavSymbol * p .«stream_pairs» + 3)) → record { sav1 = x1; sav2 = x2; eav1 = x3; eav2 = x4 } ≡ contentIn p w
+  content-is e1 e2 e3 e4 = let at : eavSymbol * p .«stream_pairs» ≡ eavAt p = omega arith in rw (e1, e2, e3, e4, at)
 
 -- ---- the answers, by the shape in hand
 module _ (f : Format) (w : List ℕ) {p : Shape} (e : p ≡ shapeOf f) where
@@ -64,19 +66,19 @@ module _ (f : Format) (w : List ℕ) {p : Shape} (e : p ≡ shapeOf f) where
       rw (← e) (rw (ev, eb, er, ← line))
 
   module _ (c : Sums) {k : ℕ} where
-    pub is-place-25 : k ≡ firstWrong (holdsAt 25 f p w c) (4 * streams p) (1924 * streams p) → k ≡ place25 f w
+    pub is-place-25 : k ≡ firstWrong (holdsAt 25 f p w c) (pictureStart * streams p) (eavStart * streams p) → k ≡ place25 f w
     unfolding place25 holdsOf
-    is-place-25 is = is ∙ ap (λ (q : Shape). firstWrong (holdsAt 25 f q w c) (4 * streams q) (1924 * streams q)) e
+    is-place-25 is = is ∙ ap (λ (q : Shape). firstWrong (holdsAt 25 f q w c) (pictureStart * streams q) (eavStart * streams q)) e
 
     pub is-place-26 :
         k
-        ≡ firstWrong (holdsAt 26 f p w c) (streams p * (1932 + p .ancillary))
-        (streams p * (1932 + p .ancillary) + 2 * p .«fill_pairs»)
+        ≡ firstWrong (holdsAt 26 f p w c) (streams p * (ancillaryStart + p .ancillary))
+        (streams p * (ancillaryStart + p .ancillary) + 2 * p .«fill_pairs»)
         → k ≡ place26 f w
     unfolding place26 holdsOf
     is-place-26 is =
         is
         ∙ ap
         (λ (q : Shape).
-        firstWrong (holdsAt 26 f q w c) (streams q * (1932 + q .ancillary)) (streams q * (1932 + q .ancillary) + 2 * q .«fill_pairs»))
+        firstWrong (holdsAt 26 f q w c) (streams q * (ancillaryStart + q .ancillary)) (streams q * (ancillaryStart + q .ancillary) + 2 * q .«fill_pairs»))
         e

@@ -4,13 +4,14 @@ use mathlib.Core.Path.{_≡_, sym, ap, _∙_}
 use mathlib.Core.Bool.{true}
 use mathlib.Core.List.{List}
 use mathlib.Core.Option.{Option, none, some}
-use Prim.Native.Nat.{ℕ, _*_, _≤_}
+use Prim.Native.Nat.{ℕ, _+_, _*_, _≤_}
 use native.Mathlib.Omega.{arith}
 use borrow.Author.Tests.{le-ltb, ne-eqb}
 use Rattle.ground.proofs.Ranges.{not-within}
 use Rattle.span.specs.declared.format.Format.{Format}
 use Rattle.span.specs.declared.format.Shape.{Shape}
 use Rattle.span.specs.Format.{streams, pairsIn}
+use Rattle.span.specs.Layout.{pictureStart, eavStart, lineStart, crccStart, ancillaryStart, savXyz, eavXyz}
 use Rattle.crcc.specs.declared.sums.Sums.{Sums}
 use Rattle.window.specs.Tests.{holds21, holds22, holds23}
 use Rattle.window.specs.Words.{wordAt}
@@ -22,21 +23,21 @@ use Rattle.read_test21_26.proofs.Sizes.{within-window}
 
 -- where each test asks nothing
 module _ (s : ℕ) (word : ℕ → ℕ) (j t : ℕ) where
-  right-21 : (0 ≤ j → 4 ≤ j) → (1924 ≤ j → 1928 ≤ j) → holds21 s word j t ≡ true
+  right-21 : (0 ≤ j → pictureStart ≤ j) → (eavStart ≤ j → lineStart ≤ j) → holds21 s word j t ≡ true
   unfolding holds21
-  right-21 x y = rw (le-ltb j 4 (x (omega arith)), not-within 1924 1927 j (λ h l. omega (arith, y h)))
+  right-21 x y = rw (le-ltb j pictureStart (x (omega arith)), not-within eavStart eavXyz j (λ h l. omega (arith, y h)))
 
-  right-22 : (1928 ≤ j → 1930 ≤ j) → holds22 s word j t ≡ true
+  right-22 : (lineStart ≤ j → crccStart ≤ j) → holds22 s word j t ≡ true
   unfolding holds22
-  right-22 x = rw (not-within 1928 1929 j (λ h l. omega (arith, x h)))
+  right-22 x = rw (not-within lineStart (lineStart + 1) j (λ h l. omega (arith, x h)))
 
-  right-23 : (3 ≤ j → 4 ≤ j) → (1927 ≤ j → 1928 ≤ j) → holds23 s word j t ≡ true
+  right-23 : (savXyz ≤ j → pictureStart ≤ j) → (eavXyz ≤ j → lineStart ≤ j) → holds23 s word j t ≡ true
   unfolding holds23
-  right-23 x y = rw (ne-eqb j 3 (λ e. omega (arith, x (omega arith))), ne-eqb j 1927 (λ e. omega (arith, y (omega arith))))
+  right-23 x y = rw (ne-eqb j savXyz (λ e. omega (arith, x (omega arith))), ne-eqb j eavXyz (λ e. omega (arith, y (omega arith))))
 
-right-24 : (p : Shape) (w : List ℕ) (c : Sums) (j t : ℕ) → (1930 ≤ j → 1932 ≤ j) → holds24By p w c j t ≡ true
+right-24 : (p : Shape) (w : List ℕ) (c : Sums) (j t : ℕ) → (crccStart ≤ j → ancillaryStart ≤ j) → holds24By p w c j t ≡ true
 unfolding holds24By
-right-24 p w c j t x = rw (ne-eqb j 1930 (λ e. omega (arith, x (omega arith))), ne-eqb j 1931 (λ e. omega (arith, x (omega arith))))
+right-24 p w c j t x = rw (ne-eqb j crccStart (λ e. omega (arith, x (omega arith))), ne-eqb j (crccStart + 1) (λ e. omega (arith, x (omega arith))))
 
 module _ (f : Format) (p : Shape) (w : List ℕ) (c : Sums) where
   -- a test over words from a to before b, and else the rest
@@ -44,22 +45,22 @@ module _ (f : Format) (p : Shape) (w : List ℕ) (c : Sums) where
   judged number a b rest = verdictOf number (wrongIn (holdsAt number f p w c) (streams p * a) (streams p * b)) rest
 
   abbrev from-crcc : Verdict
-  from-crcc = judged 24 1930 1932 passed
+  from-crcc = judged 24 crccStart ancillaryStart passed
 
   abbrev from-next-v : Verdict
-  from-next-v = judged 23 1927 1928 from-crcc
+  from-next-v = judged 23 eavXyz lineStart from-crcc
 
   abbrev from-v : Verdict
-  from-v = judged 23 3 4 from-next-v
+  from-v = judged 23 savXyz pictureStart from-next-v
 
   abbrev from-line : Verdict
-  from-line = judged 22 1928 1930 from-v
+  from-line = judged 22 lineStart crccStart from-v
 
   abbrev from-eav : Verdict
-  from-eav = judged 21 1924 1928 from-line
+  from-eav = judged 21 eavStart lineStart from-line
 
   abbrev from-sav : Verdict
-  from-sav = judged 21 0 4 from-eav
+  from-sav = judged 21 0 pictureStart from-eav
 
   abbrev answer : Verdict
   answer = firstRow (serviceTests p w c)
@@ -72,11 +73,11 @@ module _ (f : Format) (p : Shape) (w : List ℕ) (c : Sums) where
       let word = wordAt p w in
       let some-stream : 1 ≤ s = omega arith in
       in-two-runs s some-stream (holds21 s word) n 21 _ (omega arith) (omega arith) (omega arith) (within-window p (omega arith)) (right-21 s word)
-      ∙ ap (λ (v : Verdict). judged 21 0 4 (judged 21 1924 1928 v))
+      ∙ ap (λ (v : Verdict). judged 21 0 pictureStart (judged 21 eavStart lineStart v))
       (in-one-run s some-stream (holds22 s word) n 22 _ (omega arith) (within-window p (omega arith)) (right-22 s word)
-      ∙ ap (judged 22 1928 1930)
+      ∙ ap (judged 22 lineStart crccStart)
       (in-two-runs s some-stream (holds23 s word) n 23 _ (omega arith) (omega arith) (omega arith) (within-window p (omega arith)) (right-23 s word)
-      ∙ ap (λ (v : Verdict). judged 23 3 4 (judged 23 1927 1928 v))
+      ∙ ap (λ (v : Verdict). judged 23 savXyz pictureStart (judged 23 eavXyz lineStart v))
       (in-one-run s some-stream (holds24By p w c) n 24 passed (omega arith) (within-window p (omega arith)) (right-24 p w c))))
 
   -- a test that says something is the answer; where it says nothing, the rest is
@@ -96,39 +97,39 @@ module _ (f : Format) (p : Shape) (w : List ℕ) (c : Sums) where
         go (some k) e is = let q : v .number ≡ number = ap (λ (r : Verdict). r .number) is in absurd (omega arith)
 
   -- the six runs one after the other
-  module _ (half : 1 ≤ p .«stream_pairs») {sav : Verdict} (sav-is : sav ≡ judged 21 0 4 passed) where
+  module _ (half : 1 ≤ p .«stream_pairs») {sav : Verdict} (sav-is : sav ≡ judged 21 0 pictureStart passed) where
     pub sav-wrong : (sav .number ≡ 0 → ⊥) → sav ≡ answer
-    sav-wrong = ends-here 21 0 4 from-eav (in-turn half) sav-is
+    sav-wrong = ends-here 21 0 pictureStart from-eav (in-turn half) sav-is
 
     to-eav : sav .number ≡ 0 → answer ≡ from-eav
-    to-eav = goes-on 21 0 4 from-eav (in-turn half) sav-is (omega arith)
+    to-eav = goes-on 21 0 pictureStart from-eav (in-turn half) sav-is (omega arith)
 
-    module _ (sav-right : sav .number ≡ 0) {eav : Verdict} (eav-is : eav ≡ judged 21 1924 1928 passed) where
+    module _ (sav-right : sav .number ≡ 0) {eav : Verdict} (eav-is : eav ≡ judged 21 eavStart lineStart passed) where
       pub eav-wrong : (eav .number ≡ 0 → ⊥) → eav ≡ answer
-      eav-wrong = ends-here 21 1924 1928 from-line (to-eav sav-right) eav-is
+      eav-wrong = ends-here 21 eavStart lineStart from-line (to-eav sav-right) eav-is
 
       to-line : eav .number ≡ 0 → answer ≡ from-line
-      to-line = goes-on 21 1924 1928 from-line (to-eav sav-right) eav-is (omega arith)
+      to-line = goes-on 21 eavStart lineStart from-line (to-eav sav-right) eav-is (omega arith)
 
-      module _ (eav-right : eav .number ≡ 0) {line : Verdict} (line-is : line ≡ judged 22 1928 1930 passed) where
+      module _ (eav-right : eav .number ≡ 0) {line : Verdict} (line-is : line ≡ judged 22 lineStart crccStart passed) where
         pub line-wrong : (line .number ≡ 0 → ⊥) → line ≡ answer
-        line-wrong = ends-here 22 1928 1930 from-v (to-line eav-right) line-is
+        line-wrong = ends-here 22 lineStart crccStart from-v (to-line eav-right) line-is
 
         to-v : line .number ≡ 0 → answer ≡ from-v
-        to-v = goes-on 22 1928 1930 from-v (to-line eav-right) line-is (omega arith)
+        to-v = goes-on 22 lineStart crccStart from-v (to-line eav-right) line-is (omega arith)
 
-        module _ (line-right : line .number ≡ 0) {v : Verdict} (v-is : v ≡ judged 23 3 4 passed) where
+        module _ (line-right : line .number ≡ 0) {v : Verdict} (v-is : v ≡ judged 23 savXyz pictureStart passed) where
           pub v-wrong : (v .number ≡ 0 → ⊥) → v ≡ answer
-          v-wrong = ends-here 23 3 4 from-next-v (to-v line-right) v-is
+          v-wrong = ends-here 23 savXyz pictureStart from-next-v (to-v line-right) v-is
 
           to-next-v : v .number ≡ 0 → answer ≡ from-next-v
-          to-next-v = goes-on 23 3 4 from-next-v (to-v line-right) v-is (omega arith)
+          to-next-v = goes-on 23 savXyz pictureStart from-next-v (to-v line-right) v-is (omega arith)
 
-          module _ (v-right : v .number ≡ 0) {next-v : Verdict} (next-v-is : next-v ≡ judged 23 1927 1928 passed) where
+          module _ (v-right : v .number ≡ 0) {next-v : Verdict} (next-v-is : next-v ≡ judged 23 eavXyz lineStart passed) where
             pub next-v-wrong : (next-v .number ≡ 0 → ⊥) → next-v ≡ answer
-            next-v-wrong = ends-here 23 1927 1928 from-crcc (to-next-v v-right) next-v-is
+            next-v-wrong = ends-here 23 eavXyz lineStart from-crcc (to-next-v v-right) next-v-is
 
             -- the last of them is the answer where all before it say nothing
             pub crcc-last : next-v .number ≡ 0 → {crcc : Verdict} → crcc ≡ from-crcc → crcc ≡ answer
             crcc-last next-v-right crcc-is =
-                crcc-is ∙ sym (goes-on 23 1927 1928 from-crcc (to-next-v v-right) next-v-is (omega arith) next-v-right)
+                crcc-is ∙ sym (goes-on 23 eavXyz lineStart from-crcc (to-next-v v-right) next-v-is (omega arith) next-v-right)

@@ -13,6 +13,7 @@ use Rattle.line.specs.declared.stream.StreamLine.{StreamLine}
 use Rattle.line.specs.Stream.{lineBefore}
 use Rattle.span.specs.declared.format.Shape.{Shape}
 use Rattle.span.specs.Format.{streams}
+use Rattle.span.specs.Layout.{eavStart, lineStart, eavXyz}
 use Rattle.packing.specs.declared.bytes.TwoWords.{TwoWords}
 use Rattle.packing.specs.Bytes.{unpacked}
 use Rattle.crcc.specs.Crcc.{crc, crcWord, crccWords}
@@ -93,12 +94,12 @@ module _ (a b : ℕ) (small : a < 4096) (smaller : b < 4096) where
       go (some m) e = let z : _≡_ {A = ℕ} 0 1 = cc (q ∙ named-is (some m) e) in absurd (omega arith)
 
 -- the two words of stream 1
-module _ (p : Shape) (w : List ℕ) {a b : ℕ} (first : a ≡ wordAt p w (1928 * streams p)) (second : b ≡ wordAt p w (1929 * streams p)) where
+module _ (p : Shape) (w : List ℕ) {a b : ℕ} (first : a ≡ wordAt p w (lineStart * streams p)) (second : b ≡ wordAt p w ((lineStart + 1) * streams p)) where
   pub next-is : Option·getD (lineOf a b) 0 ≡ nextLine (streams p) (wordAt p w)
   unfolding nextLine
   next-is =
-      let e : 1928 * streams p ≡ streams p * 1928 + 0 = omega arith in
-      let q : 1929 * streams p ≡ streams p * 1929 + 0 = omega arith in
+      let e : lineStart * streams p ≡ streams p * lineStart + 0 = omega arith in
+      let q : (lineStart + 1) * streams p ≡ streams p * (lineStart + 1) + 0 = omega arith in
       rw (first, second, e, q)
 
 -- ---- the CRCC
@@ -108,8 +109,8 @@ module _ (p : Shape) (w : List ℕ) (i : ℕ) where
   pub six : (c : ℕ)
       → crccWords
       (crcWord (crcWord (crcWord (crcWord (crcWord (crcWord c
-      (wordOf (streams p) (wordAt p w) 1924 i)) (wordOf (streams p) (wordAt p w) 1925 i)) (wordOf (streams p) (wordAt p w) 1926 i))
-      (repaired (wordOf (streams p) (wordAt p w) 1927 i))) (wordOf (streams p) (wordAt p w) 1928 i)) (wordOf (streams p) (wordAt p w) 1929 i))
+      (wordOf (streams p) (wordAt p w) eavStart i)) (wordOf (streams p) (wordAt p w) (eavStart + 1) i)) (wordOf (streams p) (wordAt p w) (eavStart + 2) i))
+      (repaired (wordOf (streams p) (wordAt p w) eavXyz i))) (wordOf (streams p) (wordAt p w) lineStart i)) (wordOf (streams p) (wordAt p w) (lineStart + 1) i))
       ≡ crccReceived p w i c
   unfolding crccReceived table upto crc
   six c = refl
@@ -143,7 +144,7 @@ line-is s word = refl
 
 -- those of word 3 and word 1927 of stream t
 abbrev pub wrongOf : Shape → List ℕ → ℕ → ℕ
-wrongOf p w t = wrongBits (wordOf (streams p) (wordAt p w) 3 t) + wrongBits (wordOf (streams p) (wordAt p w) 1927 t)
+wrongOf p w t = wrongBits (wordOf (streams p) (wordAt p w) 3 t) + wrongBits (wordOf (streams p) (wordAt p w) eavXyz t)
 
 module _ (p : Shape) (w : List ℕ) where
   pub none-summed : 0 ≡ sumOf 0 (wrongOf p w)
@@ -151,7 +152,7 @@ module _ (p : Shape) (w : List ℕ) where
   none-summed = refl
 
   pub one-more : (i : ℕ) {x y sum : ℕ} → x ≡ wrongBits (wordOf (streams p) (wordAt p w) 3 i)
-      → y ≡ wrongBits (wordOf (streams p) (wordAt p w) 1927 i) → sum ≡ sumOf i (wrongOf p w) → sum + (x + y) ≡ sumOf (i + 1) (wrongOf p w)
+      → y ≡ wrongBits (wordOf (streams p) (wordAt p w) eavXyz i) → sum ≡ sumOf i (wrongOf p w) → sum + (x + y) ≡ sumOf (i + 1) (wrongOf p w)
   unfolding sumOf
   one-more i e q r = rw (e, q, r, add-one i)
 

@@ -6,6 +6,7 @@ use native.Mathlib.Omega.{arith}
 use Rattle.span.specs.declared.format.Shape.{Shape}
 use Rattle.span.specs.Format.{streams, pairsIn}
 use Rattle.span.specs.Inside.Format.{Small}
+use Rattle.span.specs.Layout.{ancillaryStart}
 use Rattle.span.proofs.Formats.{few-pairs}
 
 pub few-words : {p : Shape} → Small p → 2 * pairsIn p ≤ 12672
@@ -15,5 +16,5 @@ module _ (p : Shape) where
   pub rising : {a b : ℕ} → a ≤ b → streams p * a ≤ streams p * b
   rising h = mul-le-mul-left (streams p) h
 
-  pub within-window : {a : ℕ} → a ≤ 1932 → streams p * a ≤ 2 * pairsIn p
-  within-window {a} h = let m : streams p * a ≤ streams p * 1932 = mul-le-mul-left (streams p) h in omega arith
+  pub within-window : {a : ℕ} → a ≤ ancillaryStart → streams p * a ≤ 2 * pairsIn p
+  within-window {a} h = let m : streams p * a ≤ streams p * ancillaryStart = mul-le-mul-left (streams p) h in omega arith

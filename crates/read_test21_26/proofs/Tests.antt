@@ -4,7 +4,7 @@ use mathlib.Core.Path.{_≡_, refl}
 use mathlib.Core.Bool.{Bool, true, false, not, _&&_, Bool·beq}
 use mathlib.Core.List.{List}
 use mathlib.Core.Option.{Option, none, some, Option·getD}
-use Prim.Native.Nat.{ℕ, _-_, _≤_, _<_}
+use Prim.Native.Nat.{ℕ, _+_, _-_, _≤_, _<_}
 use native.Mathlib.Omega.{arith}
 use lib.Dec.{eqb}
 use borrow.Author.Tests.{lt-ltb, le-ltb, eq-eqb, ne-eqb, eqb-true}
@@ -16,6 +16,7 @@ use Rattle.ground.proofs.Tests.{both-left}
 use Rattle.line.specs.Stream.{isLine, vOf}
 use Rattle.span.specs.declared.format.Shape.{Shape}
 use Rattle.span.specs.Format.{streams}
+use Rattle.span.specs.Layout.{pictureStart, eavStart, lineStart, crccStart, savXyz, eavXyz}
 use Rattle.word.specs.LineNumber.{ln0, ln1, areWordsOf, lineOf}
 use Rattle.crcc.specs.declared.sums.Sums.{Sums}
 use Rattle.window.specs.Tests.{same, wordOf, named, nextLine, lineRead, holds21, holds22, holds23}
@@ -35,68 +36,68 @@ module _ (s : ℕ) (word : ℕ → ℕ) (j t : ℕ) where
   -- ---- 21
   pub sav-21 : j < 4 → holds21 s word j t ≡ isTiming false j (wordOf s word j t)
   unfolding holds21
-  sav-21 h = rw (lt-ltb j 4 h)
+  sav-21 h = rw (lt-ltb j pictureStart h)
 
-  pub eav-21 : 1924 ≤ j → j < 1928 → holds21 s word j t ≡ isTiming true (j - 1924) (wordOf s word j t)
+  pub eav-21 : eavStart ≤ j → j < lineStart → holds21 s word j t ≡ isTiming true (j - eavStart) (wordOf s word j t)
   unfolding holds21
   eav-21 h l =
-      let far : 4 ≤ j = omega arith in
-      let last : j ≤ 1927 = omega arith in
-      rw (le-ltb j 4 far, is-within 1924 1927 j h last)
+      let far : pictureStart ≤ j = omega arith in
+      let last : j ≤ eavXyz = omega arith in
+      rw (le-ltb j pictureStart far, is-within eavStart eavXyz j h last)
 
-  pub else-21 : 4 ≤ j → (1924 ≤ j → 1928 ≤ j) → holds21 s word j t ≡ true
+  pub else-21 : pictureStart ≤ j → (eavStart ≤ j → lineStart ≤ j) → holds21 s word j t ≡ true
   unfolding holds21
-  else-21 h l = rw (le-ltb j 4 h, not-within 1924 1927 j (λ a b. omega (arith, l a)))
+  else-21 h l = rw (le-ltb j pictureStart h, not-within eavStart eavXyz j (λ a b. omega (arith, l a)))
 
   -- ---- 22
-  pub first-22 : j ≡ 1928 → t ≡ 0 → holds22 s word j t ≡ isSome (named s word)
+  pub first-22 : j ≡ lineStart → t ≡ 0 → holds22 s word j t ≡ isSome (named s word)
   unfolding holds22
-  first-22 e q = rw (is-within 1928 1929 j (omega arith) (omega arith), eq-eqb j 1928 e, eq-eqb t 0 q)
+  first-22 e q = rw (is-within lineStart (lineStart + 1) j (omega arith) (omega arith), eq-eqb j lineStart e, eq-eqb t 0 q)
 
-  pub other-22 : 1928 ≤ j → j < 1930 → (j ≡ 1928 → t ≡ 0 → ⊥) → holds22 s word j t ≡ eqb (wordOf s word j t) (wordOf s word j 0)
+  pub other-22 : lineStart ≤ j → j < crccStart → (j ≡ lineStart → t ≡ 0 → ⊥) → holds22 s word j t ≡ eqb (wordOf s word j t) (wordOf s word j 0)
   unfolding holds22
   other-22 h l x =
-      rw (is-within 1928 1929 j h (omega arith), apart)
+      rw (is-within lineStart (lineStart + 1) j h (omega arith), apart)
     where
-      apart : (eqb j 1928 && eqb t 0) ≡ false
+      apart : (eqb j lineStart && eqb t 0) ≡ false
       apart =
-          on-test (eqb j 1928)
-          (λ a. rw (a, ne-eqb t 0 (λ q. x (eqb-true j 1928 a) q))) (λ a. rw a)
+          on-test (eqb j lineStart)
+          (λ a. rw (a, ne-eqb t 0 (λ q. x (eqb-true j lineStart a) q))) (λ a. rw a)
 
-  pub else-22 : (1928 ≤ j → 1930 ≤ j) → holds22 s word j t ≡ true
+  pub else-22 : (lineStart ≤ j → crccStart ≤ j) → holds22 s word j t ≡ true
   unfolding holds22
-  else-22 l = rw (not-within 1928 1929 j (λ a b. omega (arith, l a)))
+  else-22 l = rw (not-within lineStart (lineStart + 1) j (λ a b. omega (arith, l a)))
 
   -- ---- 23
-  pub sav-23 : j ≡ 3 → holds23 s word j t ≡ same (vIn (wordOf s word j t)) (vOf (lineRead s word))
+  pub sav-23 : j ≡ savXyz → holds23 s word j t ≡ same (vIn (wordOf s word j t)) (vOf (lineRead s word))
   unfolding holds23
-  sav-23 e = rw (eq-eqb j 3 e)
+  sav-23 e = rw (eq-eqb j savXyz e)
 
-  pub eav-23 : j ≡ 1927 → holds23 s word j t ≡ same (vIn (wordOf s word j t)) (vOf (nextLine s word))
+  pub eav-23 : j ≡ eavXyz → holds23 s word j t ≡ same (vIn (wordOf s word j t)) (vOf (nextLine s word))
   unfolding holds23
   eav-23 e =
-      let far : j ≡ 3 → ⊥ = λ q. omega arith in
-      rw (ne-eqb j 3 far, eq-eqb j 1927 e)
+      let far : j ≡ savXyz → ⊥ = λ q. omega arith in
+      rw (ne-eqb j savXyz far, eq-eqb j eavXyz e)
 
-  pub else-23 : (j ≡ 3 → ⊥) → (j ≡ 1927 → ⊥) → holds23 s word j t ≡ true
+  pub else-23 : (j ≡ savXyz → ⊥) → (j ≡ eavXyz → ⊥) → holds23 s word j t ≡ true
   unfolding holds23
-  else-23 x y = rw (ne-eqb j 3 x, ne-eqb j 1927 y)
+  else-23 x y = rw (ne-eqb j savXyz x, ne-eqb j eavXyz y)
 
 -- ---- 24
 module _ (p : Shape) (w : List ℕ) (c : Sums) (j t : ℕ) where
-  pub first-24 : j ≡ 1930 → holds24By p w c j t ≡ eqb (wordOf (streams p) (wordAt p w) j t) (crccReceived p w t (sumIn c t) .crcc0)
+  pub first-24 : j ≡ crccStart → holds24By p w c j t ≡ eqb (wordOf (streams p) (wordAt p w) j t) (crccReceived p w t (sumIn c t) .crcc0)
   unfolding holds24By
-  first-24 e = rw (eq-eqb j 1930 e)
+  first-24 e = rw (eq-eqb j crccStart e)
 
-  pub second-24 : j ≡ 1931 → holds24By p w c j t ≡ eqb (wordOf (streams p) (wordAt p w) j t) (crccReceived p w t (sumIn c t) .crcc1)
+  pub second-24 : j ≡ (crccStart + 1) → holds24By p w c j t ≡ eqb (wordOf (streams p) (wordAt p w) j t) (crccReceived p w t (sumIn c t) .crcc1)
   unfolding holds24By
   second-24 e =
-      let far : j ≡ 1930 → ⊥ = λ q. omega arith in
-      rw (ne-eqb j 1930 far, eq-eqb j 1931 e)
+      let far : j ≡ crccStart → ⊥ = λ q. omega arith in
+      rw (ne-eqb j crccStart far, eq-eqb j (crccStart + 1) e)
 
-  pub else-24 : (j ≡ 1930 → ⊥) → (j ≡ 1931 → ⊥) → holds24By p w c j t ≡ true
+  pub else-24 : (j ≡ crccStart → ⊥) → (j ≡ (crccStart + 1) → ⊥) → holds24By p w c j t ≡ true
   unfolding holds24By
-  else-24 x y = rw (ne-eqb j 1930 x, ne-eqb j 1931 y)
+  else-24 x y = rw (ne-eqb j crccStart x, ne-eqb j (crccStart + 1) y)
 
 -- ---- the line named
 
@@ -113,5 +114,5 @@ some-line s word = go (named s word) refl
     go : (o : Option ℕ) → named s word ≡ o → not (eqb (Option·getD (named s word) 0) 0) ≡ isSome (named s word)
     go none e = rw e
     go (some m) e =
-        let some-number : m ≡ 0 → ⊥ = λ q. omega (arith, named-line (wordOf s word 1928 0) (wordOf s word 1929 0) m e) in
+        let some-number : m ≡ 0 → ⊥ = λ q. omega (arith, named-line (wordOf s word lineStart 0) (wordOf s word (lineStart + 1) 0) m e) in
         rw (e, ne-eqb m 0 some-number)

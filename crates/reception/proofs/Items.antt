@@ -11,10 +11,11 @@ use lib.Dec.{eqb}
 use lib.Seq.{sets, length-take-le}
 use borrow.Author.Tests.{eq-eqb, ne-eqb}
 use Rattle.io.specs.Counts.{Counts}
+use Rattle.ground.proofs.Putting.{Put, then, put-length, put-as}
 use Rattle.text.specs.Number.{decimal}
 use Rattle.text.specs.Put.{endOf, putOf}
 use Rattle.text.proofs.Numbers.{length-digits, places-most-16}
-use Rattle.text.proofs.Putting.{Put, then, put-length, put-as, put-told}
+use Rattle.text.proofs.Putting.{put-told}
 use Rattle.reception.specs.Summary.{delivered, firstLost, lastLost, item, sentLabel, deliveredLabel, lostLabel, firstLabel, lastLabel, which, summary}
 
 -- what a call that puts a text promises

@@ -86,11 +86,11 @@ module _ (k : Knock) where
           ∙ ap (λ (p : ℕ). knocked k q (take i entry) ++ knocked k p (getD entry i 0 ∷ [])) here)
           ∙ append-snoc (knocked k q (take i entry)) (cond (struck k (q + i)) 0 (getD entry i 0)) (drop (i + 1) entry)
 
-      pub struck-turn : {now : List ℕ} → now ≡ doneTo i → struck k (q + i) ≡ true → set now i 0 ≡ doneTo (i + 1)
-      struck-turn e t =
+      pub struck-step : {now : List ℕ} → now ≡ doneTo i → struck k (q + i) ≡ true → set now i 0 ≡ doneTo (i + 1)
+      struck-step e t =
           ap (λ (l : List ℕ). set l i 0) (e ∙ as-it-was)
           ∙ set-at (knocked k q (take i entry)) (getD entry i 0) (drop (i + 1) entry) 0 i length-done
           ∙ sym (one-more ∙ ap (λ (b : Bool). with (cond b 0 (getD entry i 0))) t)
 
-      pub spared-turn : {now : List ℕ} → now ≡ doneTo i → struck k (q + i) ≡ false → now ≡ doneTo (i + 1)
-      spared-turn e t = e ∙ as-it-was ∙ sym (one-more ∙ ap (λ (b : Bool). with (cond b 0 (getD entry i 0))) t)
+      pub spared-step : {now : List ℕ} → now ≡ doneTo i → struck k (q + i) ≡ false → now ≡ doneTo (i + 1)
+      spared-step e t = e ∙ as-it-was ∙ sym (one-more ∙ ap (λ (b : Bool). with (cond b 0 (getD entry i 0))) t)

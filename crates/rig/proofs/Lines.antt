@@ -19,9 +19,9 @@ use Rattle.span.specs.declared.format.Format.{Format}
 use Rattle.span.specs.Span.{spanSymbols, spanAfter, signalFrom}
 use Rattle.span.specs.Stream.{Request}
 use Rattle.span.proofs.Lengths.{known-has-streams, length-of-symbols}
-use Rattle.send.specs.declared.send.Sent.{Sent}
-use Rattle.send.specs.declared.send.Sent.the-variants.{After, UnknownFormat, NoLine, WrongInput, WrongOutput, NotAllowed}
-use Rattle.send.specs.Send.{request, paperSent, sendOf, sentBuffer}
+use Rattle.request.specs.declared.sent.Sent.{Sent}
+use Rattle.request.specs.declared.sent.Sent.the-variants.{After, UnknownFormat, NoLine, WrongInput, WrongOutput, NotAllowed}
+use Rattle.request.specs.Send.{request, paperSent, sendOf, sentBuffer}
 use Rattle.test_picture.specs.Putting.{samplesPut}
 use Rattle.test_picture.specs.TestPicture.{testSamples}
 use Rattle.test_picture.proofs.Puttings.{puts-samples}
@@ -153,17 +153,17 @@ module _ (first k : ℕ) (h : k < 5) (d : Disparity) {after : Disparity} (n : �
   is : after ≡ spanAfter d link (requestOn (first + k))
   is = was ∙ ap (λ (i : ℕ). spanAfter d link (requestOn i)) here
 
-  pub after-turn : afterFrom after (first + (k + 1)) (5 - (k + 1)) ≡ afterFrom d (first + k) (5 - k)
-  after-turn =
+  pub after-step : afterFrom after (first + (k + 1)) (5 - (k + 1)) ≡ afterFrom d (first + k) (5 - k)
+  after-step =
       let m = 5 - (k + 1) in
       let more : 5 - k ≡ suc m = omega arith in
       let next : suc (first + k) ≡ first + (k + 1) = omega arith in
       ap₂ (λ (e : Disparity) (n : ℕ). afterFrom e n m) is (sym next)
       ∙ sym (ap (afterFrom d (first + k)) more ∙ after-more d (first + k) m)
 
-  pub sent-turn : (symbols : List ℕ) {out : List ℕ} → out ≡ sets symbols (19008 * k) (spanSymbols d link (requestOn n))
+  pub sent-step : (symbols : List ℕ) {out : List ℕ} → out ≡ sets symbols (19008 * k) (spanSymbols d link (requestOn n))
       → sets out (19008 * (k + 1)) (sentFrom after (first + (k + 1)) (5 - (k + 1))) ≡ sets symbols (19008 * k) (sentFrom d (first + k) (5 - k))
-  sent-turn symbols put =
+  sent-step symbols put =
       let m = 5 - (k + 1) in
       let more : 5 - k ≡ suc m = omega arith in
       let next : suc (first + k) ≡ first + (k + 1) = omega arith in

@@ -19,7 +19,7 @@ use Rattle.span.specs.declared.content.Content.the-variants.{NoneNamed}
 use Rattle.span.specs.Format.{shapeOf, streams}
 use Rattle.span.specs.Numbers.{IsFormat}
 use Rattle.span.specs.Stream.{Request, picture}
-use Rattle.send.specs.Send.{request}
+use Rattle.request.specs.Send.{request}
 use Rattle.recording.specs.Recording.{Reading, deliveryFrom}
 use Rattle.demands.specs.Demands.{IsRow}
 use Rattle.demands.specs.Form.{readingOf, wordsFor}

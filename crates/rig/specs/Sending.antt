@@ -5,7 +5,7 @@ use Rattle.symbol.specs.declared.disparity.Disparity.{Disparity}
 use Rattle.span.specs.declared.content.Content.the-variants.{NoneNamed}
 use Rattle.span.specs.Span.{spanAfter}
 use Rattle.span.specs.Stream.{Request}
-use Rattle.send.specs.Send.{request}
+use Rattle.request.specs.Send.{request}
 use Rattle.test_picture.specs.TestPicture.{testSamples}
 use Rattle.reception.specs.Link.{link}
 

@@ -1,6 +1,6 @@
 // Sending the test picture, stream line after stream line.
 use line::stream::StreamLine;
-use send::send::Sent;
+use request::sent::Sent;
 use span::content::Content;
 use symbol::disparity::Disparity;
 ghost use mathlib.Core.Path.{_≡_};

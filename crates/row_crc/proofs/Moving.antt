@@ -15,7 +15,7 @@ use Rattle.ground.proofs.Writing.{table-same}
 use Rattle.ground.proofs.Xors.{⊕-zero, zero-⊕, ⊕-self, ⊕-assoc, ⊕-middle, ⊕-div, ⊕-mod}
 use Rattle.crcc.specs.Crcc.{taps, bitStep, bitSteps, crc, crcWord}
 use Rattle.crcc.specs.Inside.Ahead.{ahead}
-use Rattle.crcc.proofs.Linear.{aheadBy, ahead-by, ahead-⊕, ahead-zero, ahead-last, ahead-more, ahead-turned, crc-next, crc-sum}
+use Rattle.crcc.proofs.Linear.{aheadBy, ahead-by, ahead-⊕, ahead-zero, ahead-last, ahead-more, ahead-commutes, crc-next, crc-sum}
 
 -- ---- one bit
 
@@ -65,12 +65,12 @@ multiple-⊕ a b =
     (ap (λ (x : ℕ). x ⊕ (a ⊕ b)) (ahead-⊕ 46 a b) ∙ ⊕-middle (ahead 46 a) (ahead 46 b) a b)
     ∙ ⊕-middle (ahead 139 a ⊕ ahead 53 a) (ahead 139 b ⊕ ahead 53 b) (ahead 46 a ⊕ a) (ahead 46 b ⊕ b)
 
-multiple-turned : (c : ℕ) → multiple (bitStep c 0) ≡ bitStep (multiple c) 0
+multiple-commutes : (c : ℕ) → multiple (bitStep c 0) ≡ bitStep (multiple c) 0
 unfolding multiple
-multiple-turned c =
+multiple-commutes c =
     ap₂ (λ (x y : ℕ). x ⊕ y)
-    (ap₂ (λ (x y : ℕ). x ⊕ y) (ahead-turned 139 c) (ahead-turned 53 c) ∙ sym (zero-bit-⊕ (ahead 139 c) (ahead 53 c)))
-    (ap (λ (x : ℕ). x ⊕ bitStep c 0) (ahead-turned 46 c) ∙ sym (zero-bit-⊕ (ahead 46 c) c))
+    (ap₂ (λ (x y : ℕ). x ⊕ y) (ahead-commutes 139 c) (ahead-commutes 53 c) ∙ sym (zero-bit-⊕ (ahead 139 c) (ahead 53 c)))
+    (ap (λ (x : ℕ). x ⊕ bitStep c 0) (ahead-commutes 46 c) ∙ sym (zero-bit-⊕ (ahead 46 c) c))
     ∙ sym (zero-bit-⊕ (ahead 139 c ⊕ ahead 53 c) (ahead 46 c ⊕ c))
 
 -- computed once, for the taps
@@ -99,7 +99,7 @@ multiple-bits (suc n) c w z =
     multiple-bits n (bitStep c (w % 2)) (w / 2)
     (ap multiple (bit-apart c (w % 2) (omega arith))
     ∙ multiple-⊕ (bitStep c 0) (w % 2 * taps)
-    ∙ ap₂ (λ (x y : ℕ). x ⊕ y) (multiple-turned c ∙ ap (λ (x : ℕ). bitStep x 0) z ∙ zero-bit-zero) (multiple-bit (w % 2) (omega arith))
+    ∙ ap₂ (λ (x y : ℕ). x ⊕ y) (multiple-commutes c ∙ ap (λ (x : ℕ). bitStep x 0) z ∙ zero-bit-zero) (multiple-bit (w % 2) (omega arith))
     ∙ ⊕-zero 0)
 
 pub multiple-word : (x : ℕ) → multiple (crcWord 0 x) ≡ 0

@@ -1,10 +1,5 @@
-pub mod Checking
-pub mod GoodCalls
-pub mod Laws
-pub mod OneToOne
 pub mod Passing
 pub mod Putting
-pub mod Refusals
 pub mod Runs
 pub mod Scaling
 pub mod Sizes

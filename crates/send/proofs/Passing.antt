@@ -16,7 +16,7 @@ use Rattle.crcc.specs.Inside.Sums.{sumIn}
 use Rattle.row_crc.specs.Inside.Sums.{streamRow}
 use Rattle.row_crc.specs.Inside.Sums.{sumsIn}
 use Rattle.send.specs.Inside.Put.{offsetAfter, put, pairChars, groupChars, pictureWord, pairCharsAt, pictureChars}
-use Rattle.send.proofs.Putting.{Put, made, renamed, then, length-group}
+use Rattle.send.proofs.Putting.{PutChars, made, renamed, then, length-group}
 
 pub length-picture : (pairs : ℕ) (w : ℕ → ℕ → ℕ) (n : ℕ) → length (pictureChars pairs n w) ≡ 3 * pairs * n
 unfolding pictureChars
@@ -53,7 +53,7 @@ picture-pairs pairs some few ws (suc n) =
 
 -- the first m pairs are put
 pub record Done (d : ℕ) (ws : List ℕ) (at : ℕ) (before : List ℕ) (pairs m o : ℕ) (out : List ℕ) : Type 0 where
-  pub done : Put d (upto m (λ k. pairCharsAt ws (pairPlace pairs k))) at before o out
+  pub done : PutChars d (upto m (λ k. pairCharsAt ws (pairPlace pairs k))) at before o out
 
 pub none-done : {d : ℕ} (ws : List ℕ) (at : ℕ) (before : List ℕ) (pairs : ℕ) → d ≡ offsetOf (ofOffset d) → Done d ws at before pairs 0 d before
 unfolding offsetAfter put upto symbolsFrom afterRun
@@ -95,7 +95,7 @@ module _ {d at pairs : ℕ} {ws before : List ℕ} where
 
   -- all of them are put
   pub all-done : {m o : ℕ} {out : List ℕ} → 1 ≤ pairs → pairs ≤ 2 → m ≡ pairs * 1920 → Done d ws at before pairs m o out
-      → Put d (pictureChars pairs 1920 (pictureWord ws)) at before o out
+      → PutChars d (pictureChars pairs 1920 (pictureWord ws)) at before o out
   all-done {m} some few past k =
       renamed (picture-pairs pairs some few ws 1920 ∙ ap (λ (m : ℕ). upto m (λ k. pairCharsAt ws (pairPlace pairs k))) (sym past)) (k .done)
 

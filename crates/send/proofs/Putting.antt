@@ -5,8 +5,9 @@ use mathlib.Core.List.{List, [], _∷_, _++_}
 use Prim.Native.Nat.{ℕ, zero, suc, _+_, _*_, _/_, _%_, _≤_, _<_}
 use native.Mathlib.Omega.{arith}
 use lib.ListN.{length, set}
-use lib.Seq.{sets, length-sets}
-use Rattle.ground.proofs.Writing.{sets-append, sets-whole, length-upto, upto-same}
+use lib.Seq.{sets}
+use Rattle.ground.proofs.Putting as buffer
+use Rattle.ground.proofs.Writing.{sets-whole, length-upto, upto-same}
 use Rattle.ground.specs.Written.{upto}
 use Rattle.symbol.specs.declared.disparity.Disparity.{Disparity}
 use Rattle.encoder.specs.Inside.Tables.{offsetOf, ofOffset}
@@ -28,27 +29,30 @@ unfolding offsetAfter
 one-offset d e cs ds t =
     ap (λ (x : Disparity). offsetOf (afterRun x ds)) t ∙ ap offsetOf (sym (after-append (ofOffset d) cs ds))
 
+-- a run of characters is a list of symbols put
+symbols-put : (d at end : ℕ) (cs before after : List ℕ) → after ≡ put d cs at before → end ≡ at + length cs
+    → buffer.Put before after at end (symbolsFrom (ofOffset d) cs)
+unfolding put
+symbols-put d at end cs before after o q =
+    record { written = o; ends = q ∙ ap (λ (n : ℕ). at + n) (sym (length-symbols (ofOffset d) cs)) }
+
 one-buffer : (d e at place : ℕ) (cs ds before after : List ℕ) → ofOffset e ≡ afterRun (ofOffset d) cs → after ≡ put d cs at before
     → place ≡ at + length cs → put e ds place after ≡ put d (cs ++ ds) at before
 unfolding put
 one-buffer d e at place cs ds before after t o q =
-    let x : List ℕ = symbolsFrom (ofOffset d) cs in
-    let y : List ℕ = symbolsFrom (afterRun (ofOffset d) cs) ds in
-    ap (λ (l : List ℕ). sets l place (symbolsFrom (ofOffset e) ds)) o
-    ∙ ap (λ (z : Disparity). sets (sets before at x) place (symbolsFrom z ds)) t
-    ∙ sets-append before x y at place (q ∙ ap (λ (n : ℕ). at + n) (sym (length-symbols (ofOffset d) cs)))
+    buffer.then (symbols-put d at place cs before after o q) (symbols-put e place (place + length ds) ds after (put e ds place after) refl refl) .written
+    ∙ ap (λ (z : Disparity). sets before at (symbolsFrom (ofOffset d) cs ++ symbolsFrom z ds)) t
     ∙ ap (sets before at) (sym (symbols-append (ofOffset d) cs ds))
 
 -- what a call that puts a run of characters does: the offset after it, and the buffer
-pub record Put (d : ℕ) (cs : List ℕ) (at : ℕ) (before : List ℕ) (e : ℕ) (after : List ℕ) : Type 0 where
+pub record PutChars (d : ℕ) (cs : List ℕ) (at : ℕ) (before : List ℕ) (e : ℕ) (after : List ℕ) : Type 0 where
   pub offset : e ≡ offsetAfter d cs
   pub out : after ≡ put d cs at before
 
-module _ {d at e : ℕ} {cs before after : List ℕ} (p : Put d cs at before e after) where
+module _ {d at e : ℕ} {cs before after : List ℕ} (p : PutChars d cs at before e after) where
   -- the buffer keeps its length
   pub same-size : length after ≡ length before
-  unfolding put
-  same-size = ap (λ (l : List ℕ). length l) (p .out) ∙ length-sets before at (symbolsFrom (ofOffset d) cs)
+  same-size = buffer.put-length (symbols-put d at (at + length cs) cs before after (p .out) refl)
 
   pub told : ofOffset e ≡ afterRun (ofOffset d) cs
   told = ap ofOffset (p .offset) ∙ offset-after-is d cs
@@ -59,7 +63,7 @@ module _ {d at e : ℕ} {cs before after : List ℕ} (p : Put d cs at before e a
   is-offset = p .offset ∙ ap offsetOf (sym told)
 
   -- a run and the run after it are one
-  pub then : {place g : ℕ} {ds end : List ℕ} → place ≡ at + length cs → Put e ds place after g end → Put d (cs ++ ds) at before g end
+  pub then : {place g : ℕ} {ds end : List ℕ} → place ≡ at + length cs → PutChars e ds place after g end → PutChars d (cs ++ ds) at before g end
   then {place} {g} {ds} {end} q r = record { offset = offsets; out = r .out ∙ buffers }
     where
       offsets : g ≡ offsetAfter d (cs ++ ds)
@@ -69,7 +73,7 @@ module _ {d at e : ℕ} {cs before after : List ℕ} (p : Put d cs at before e a
       buffers = one-buffer d e at place cs ds before after told (p .out) q
 
 -- a run that fills the buffer is all that stands in it
-pub whole : {d e : ℕ} {cs before after : List ℕ} → Put d cs 0 before e after → length cs ≡ length before
+pub whole : {d e : ℕ} {cs before after : List ℕ} → PutChars d cs 0 before e after → length cs ≡ length before
     → after ≡ symbolsFrom (ofOffset d) cs
 unfolding put
 whole {d} {cs} {before} p q =
@@ -77,7 +81,7 @@ whole {d} {cs} {before} p q =
 
 -- three characters, as the code stores them
 pub three-put : (d at : ℕ) (out : List ℕ) (x y z : ℕ) {t : Three} → t ≡ threeOf (ofOffset d) x y z
-    → Put d (x ∷ y ∷ z ∷ []) at out (t .offset) (set (set (set out at (t .first)) (at + 1) (t .second)) (at + 2) (t .third))
+    → PutChars d (x ∷ y ∷ z ∷ []) at out (t .offset) (set (set (set out at (t .first)) (at + 1) (t .second)) (at + 2) (t .third))
 unfolding offsetAfter put threeOf
 three-put d at out x y z p =
     let one : at + 1 ≡ suc at = omega arith in
@@ -85,7 +89,7 @@ three-put d at out x y z p =
     record { offset = rw p; out = rw (p, one, two) }
 
 -- the two promises of a call as one
-pub made : {d at e : ℕ} {cs before after : List ℕ} → (e ≡ offsetAfter d cs) × (after ≡ put d cs at before) → Put d cs at before e after
+pub made : {d at e : ℕ} {cs before after : List ℕ} → (e ≡ offsetAfter d cs) × (after ≡ put d cs at before) → PutChars d cs at before e after
 made p = record { offset = p .0; out = p .1 }
 
 -- of a number whose low twelve bits are m, what stands above the lowest byte; and of that the lowest byte
@@ -125,7 +129,7 @@ unfolding groupChars
 length-group pairs w = length-upto 3 (λ u. pairChars (w (2 * u)) (w (2 * u + 1))) (λ m. refl) pairs
 
 -- a run by another name
-pub renamed : {d at e : ℕ} {cs ds before after : List ℕ} → ds ≡ cs → Put d cs at before e after → Put d ds at before e after
+pub renamed : {d at e : ℕ} {cs ds before after : List ℕ} → ds ≡ cs → PutChars d cs at before e after → PutChars d ds at before e after
 renamed {d} {at} {e} {before} {after} q p = rw q p
 
 -- the same word on each stream that is there

@@ -21,7 +21,7 @@ use Rattle.packing.specs.declared.bytes.ThreeBytes.{ThreeBytes}
 use Rattle.packing.specs.Bytes.{bytesOf}
 use Rattle.send.specs.declared.coder.Three.{Three}
 use Rattle.send.specs.Inside.Put.{offsetAfter, put, pairChars, runChars, threeOf, KeepsDisparity, blankingChars}
-use Rattle.send.proofs.Putting.{Put, one-offset, three-put}
+use Rattle.send.proofs.Putting.{PutChars, one-offset, three-put}
 
 -- the symbols of a pair of the word
 abbrev pub pairOf : ℕ → ℕ → Three
@@ -90,12 +90,12 @@ module _ {d : ℕ} (o : d ≡ offsetOf (ofOffset d)) where
 
   -- a run of pairs of such a word, as one run of characters
   pub run-made : {w at : ℕ} (n : ℕ) {before after : List ℕ} → KeepsDisparity w → after ≡ put d (runChars n w) at before
-      → Put d (runChars n w) at before d after
+      → PutChars d (runChars n w) at before d after
   run-made n k e = record { offset = run-offset k n; out = e }
 
   -- the ancillary area and the fill
   pub blanking-made : {blank at : ℕ} (p : Shape) {before after : List ℕ} → KeepsDisparity blank → after ≡ put d (blankingChars p blank) at before
-      → Put d (blankingChars p blank) at before d after
+      → PutChars d (blankingChars p blank) at before d after
   blanking-made {blank} p k e =
       let area : List ℕ = runChars (p .«stream_pairs» * p .ancillary) blank in
       record { offset = run-offset fill-stays (p .«fill_pairs») ∙ one-offset d d area (runChars (p .«fill_pairs») fillWord) (run-after k (p .«stream_pairs» * p .ancillary)); out = e }

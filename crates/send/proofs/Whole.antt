@@ -37,9 +37,9 @@ use Rattle.span.proofs.Packing.{bytes-interleaved, bytes-replicate}
 use Rattle.span.proofs.Parts.{parts-from-sav, parts-from-eav, blank-area}
 use Rattle.span.proofs.Samples.{word-is, word-below}
 use Rattle.send.specs.Inside.Put.{timingChars, groupChars, scaledWords, pictureWord, pictureChars, crccAfter, crccChars, offsetAfter, put, afterPictureChars, runChars, blankingChars, wholeChars, spanPut, Fits}
-use Rattle.send.specs.Inside.Send.{Accepted}
+use Rattle.request.specs.Inside.Send.{Accepted}
 use Rattle.send.proofs.Passing.{sum-is}
-use Rattle.send.proofs.Putting.{Put, made, renamed, told, whole, same-group}
+use Rattle.send.proofs.Putting.{PutChars, made, renamed, told, whole, same-group}
 use Rattle.send.proofs.Scaling.{length-words}
 
 -- what stands in brackets another way
@@ -186,6 +186,6 @@ module _ (f : Format) {p : Shape} (is : p ≡ shapeOf f) where
   words-there e = rw is (omega arith)
 
   pub as-asked : (d : Disparity) (n : ℕ) (named : Content) (ws : List ℕ) {o e b : ℕ} {c : ContentBytes} {before after : List ℕ} → o ≡ offsetOf d
-      → c ≡ contentOf f named → b ≡ blankWord f → Put o (wholeChars p b ws n c) 0 before e after
-      → Put (offsetOf d) (spanPut f n named ws) 0 before e after
+      → c ≡ contentOf f named → b ≡ blankWord f → PutChars o (wholeChars p b ws n c) 0 before e after
+      → PutChars (offsetOf d) (spanPut f n named ws) 0 before e after
   as-asked d n named ws q t u made = rw (is, q, t, u) at made

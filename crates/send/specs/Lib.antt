@@ -1,3 +1,1 @@
 pub mod Inside
-pub mod Laws
-pub mod Send

@@ -3,7 +3,7 @@ ghost use mathlib.Core.Path.{_≡_};
 ghost use Prim.Native.Nat.{_≤_};
 ghost use lib.Dec.{eqb};
 ghost use Rattle.ground.specs.Range.{within};
-ghost use Rattle.send.specs.Inside.Check.{allWithin, firstOutside};
+ghost use Rattle.request.specs.Inside.Check.{allWithin, firstOutside};
 
 // 0 if a sample is within the bounds, else how far above them it is. One below the bounds counts as far above, since the difference wraps.
 // So the loop is one wrapping and one saturating difference, of eight samples at a time.

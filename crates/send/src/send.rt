@@ -1,5 +1,6 @@
 // Sending a span (document 01, "Sending").
 use line::stream::StreamLine;
+use request::sent::Sent;
 use span::content::Content;
 use span::format::Format;
 use symbol::disparity::Disparity;
@@ -11,24 +12,9 @@ ghost use Rattle.line.specs.Stream.{isLine};
 ghost use Rattle.span.specs.Format.{isKnown, shapeOf, samplesIn, symbolsIn};
 ghost use Rattle.span.specs.Inside.Sample.{boundsOf};
 ghost use Rattle.span.specs.Span.{spanSymbols, spanAfter};
-ghost use Rattle.send.specs.Send.{request, paperSent, sendOf, sentBuffer};
+ghost use Rattle.request.specs.Send.{request, paperSent, sendOf, sentBuffer};
 ghost use Rattle.send.specs.Inside.Put.{offsetAfter, put, scaledWords, spanPut, AreWords, Fits};
-ghost use Rattle.send.specs.Inside.Send.{Accepted};
-
-pub enum Sent {
-    // The disparity after the span.
-    After(Disparity),
-    // 1
-    UnknownFormat,
-    // 2
-    NoLine,
-    // 3
-    WrongInput,
-    // 4
-    WrongOutput,
-    // 6, with the lowest index in the samples as given.
-    NotAllowed(usize),
-}
+ghost use Rattle.request.specs.Inside.Send.{Accepted};
 
 // A span of words, as many as the format has. The tables are copied once, here, and lent from here on.
 fn send_words(

@@ -16,6 +16,7 @@ use Rattle.span.specs.declared.format.Format.{Format}
 use Rattle.span.specs.declared.format.Shape.{Shape}
 use Rattle.span.specs.Format.{isKnown, tableRow, numbered, shapeOf}
 use Rattle.span.specs.Inside.Format.{Small}
+use Rattle.span.specs.Layout.{ancillaryStart}
 
 -- formats 1 to 3 at 10 or 12 bits
 pub record Known (f : Format) : Type 0 where
@@ -77,7 +78,7 @@ no-row (suc (suc (suc zero))) a b c = absurd (c refl)
 no-row (suc (suc (suc (suc n)))) a b c = refl
 
 -- its pairs of words, the fill apart
-pub few-pairs : {p : Shape} → Small p → p .«stream_pairs» * (1932 + p .ancillary) ≤ 5280
+pub few-pairs : {p : Shape} → Small p → p .«stream_pairs» * (ancillaryStart + p .ancillary) ≤ 5280
 few-pairs {p} s =
-    let m : (1932 + p .ancillary) * p .«stream_pairs» ≤ (1932 + p .ancillary) * 2 = mul-le-mul-left (1932 + p .ancillary) (s .half) in
+    let m : (ancillaryStart + p .ancillary) * p .«stream_pairs» ≤ (ancillaryStart + p .ancillary) * 2 = mul-le-mul-left (ancillaryStart + p .ancillary) (s .half) in
     omega (arith, m, s .ancillary)

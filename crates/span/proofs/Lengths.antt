@@ -18,6 +18,7 @@ use Rattle.span.specs.Format.{formatFrom, isKnown, shapeOf, streams, pai
 use Rattle.span.specs.Laws.{columns}
 use Rattle.span.specs.Span.{interleaved, bytes, wordsFromSav, wordsFromEav, spanWords, charsFromSav, charsFromEav, spanChars, spanSymbols, fillWord}
 use Rattle.span.specs.Stream.{Request, fromSav, fromEav}
+use Rattle.span.specs.Layout.{eavStart}
 use Rattle.span.proofs.Encoding.{length-symbols}
 use Rattle.span.proofs.Interleaving.{length-interleaved}
 use Rattle.span.proofs.Packing.{length-bytes}
@@ -59,9 +60,9 @@ module _ (f : Format) (known : isKnown f ≡ true) where
 
 -- words: any format
 module _ (f : Format) (a : Request) where
-  pub length-words-sav : length (wordsFromSav f a) ≡ streams (shapeOf f) * 1924
+  pub length-words-sav : length (wordsFromSav f a) ≡ streams (shapeOf f) * eavStart
   unfolding wordsFromSav
-  length-words-sav = length-interleaved (streams (shapeOf f)) 1924 (fromSav f a)
+  length-words-sav = length-interleaved (streams (shapeOf f)) eavStart (fromSav f a)
 
   pub length-words-eav :
       length (wordsFromEav f a) ≡ streams (shapeOf f) * (8 + shapeOf f .ancillary) + 2 * shapeOf f .«fill_pairs»
@@ -78,7 +79,7 @@ module _ (f : Format) (a : Request) where
   -- their bytes
   pub length-bytes-sav : length (bytes (wordsFromSav f a)) ≡ eavAt (shapeOf f)
   length-bytes-sav =
-      length-bytes (shapeOf f .«stream_pairs» * 1924) (wordsFromSav f a) (length-words-sav ∙ omega arith) ∙ omega arith
+      length-bytes (shapeOf f .«stream_pairs» * eavStart) (wordsFromSav f a) (length-words-sav ∙ omega arith) ∙ omega arith
 
   pub length-bytes-eav :
       length (bytes (wordsFromEav f a)) ≡ 3 * (shapeOf f .«stream_pairs» * (8 + shapeOf f .ancillary) + shapeOf f .«fill_pairs»)

@@ -27,6 +27,7 @@ use Rattle.span.specs.Format.{shapeOf, streams, pairsIn, symbolsIn, eavA
 use Rattle.span.specs.Sample.{blankWord, sampleWord}
 use Rattle.span.specs.Span.{interleaved, bytes, bytesListed, wordsFromSav, wordsFromEav, spanWords, charsFromSav, charsFromEav, spanChars, spanSymbols, fillWord}
 use Rattle.span.specs.Stream.{Request, sav, picture, eav, lineNumber, crcc, register, ancillary, fromSav, fromEav}
+use Rattle.span.specs.Layout.{eavStart, lineStart, crccStart, ancillaryStart, eavXyz}
 use Rattle.span.proofs.Encoding.{symbol-at}
 use Rattle.span.proofs.Interleaving.{length-interleaved, interleaved-at}
 use Rattle.span.proofs.Lengths.{length-words-sav, length-words, length-bytes-sav, length-chars}
@@ -45,21 +46,21 @@ inside s n j t h l = omega (arith, mul-le-mul-left s h)
 
 module _ (f : Format) (a : Request) where
   -- after what stands from the SAV on stands what stands from the EAV on
-  after-sav : (i : ℕ) → getD (spanWords f a) (streams (shapeOf f) * 1924 + i) 0 ≡ getD (wordsFromEav f a) i 0
+  after-sav : (i : ℕ) → getD (spanWords f a) (streams (shapeOf f) * eavStart + i) 0 ≡ getD (wordsFromEav f a) i 0
   unfolding spanWords
-  after-sav i = getD-second (wordsFromSav f a) (wordsFromEav f a) (streams (shapeOf f) * 1924) i 0 (length-words-sav f a)
+  after-sav i = getD-second (wordsFromSav f a) (wordsFromEav f a) (streams (shapeOf f) * eavStart) i 0 (length-words-sav f a)
 
   -- the fill stands after all streams' words
   pub fill-word :
       (i : ℕ)
       → i < 2 * shapeOf f .«fill_pairs»
-      → getD (spanWords f a) (streams (shapeOf f) * (1932 + shapeOf f .ancillary) + i) 0 ≡ fillWord
+      → getD (spanWords f a) (streams (shapeOf f) * (ancillaryStart + shapeOf f .ancillary) + i) 0 ≡ fillWord
   unfolding wordsFromEav
   fill-word i h =
       let s = streams (shapeOf f) in
       let n = 8 + shapeOf f .ancillary in
       let g = 2 * shapeOf f .«fill_pairs» in
-      let e : s * (1932 + shapeOf f .ancillary) + i ≡ s * 1924 + (s * n + i) = omega arith in
+      let e : s * (ancillaryStart + shapeOf f .ancillary) + i ≡ s * eavStart + (s * n + i) = omega arith in
       ap (λ (k : ℕ). getD (spanWords f a) k 0) e
       ∙ after-sav (s * n + i)
       ∙ getD-second (interleaved s n (fromEav f a)) (replicate g fillWord) (s * n) i 0 (length-interleaved s n (fromEav f a))
@@ -67,21 +68,21 @@ module _ (f : Format) (a : Request) where
 
   module _ (t : ℕ) (l : t < streams (shapeOf f)) where
     -- word j from the SAV on
-    pub word-at-sav : (j : ℕ) → j < 1924 → wordAt f a j t ≡ getD (fromSav f a t) j 0
+    pub word-at-sav : (j : ℕ) → j < eavStart → wordAt f a j t ≡ getD (fromSav f a t) j 0
     unfolding spanWords wordsFromSav
     word-at-sav j h =
         let s = streams (shapeOf f) in
-        getD-first (wordsFromSav f a) (wordsFromEav f a) (s * 1924) (s * j + t) 0 (length-words-sav f a) (inside s 1924 j t h l)
-        ∙ interleaved-at s 1924 (fromSav f a) j t h l
+        getD-first (wordsFromSav f a) (wordsFromEav f a) (s * eavStart) (s * j + t) 0 (length-words-sav f a) (inside s eavStart j t h l)
+        ∙ interleaved-at s eavStart (fromSav f a) j t h l
 
     -- word j from the EAV on
-    pub word-at-eav : (j : ℕ) → j < 8 + shapeOf f .ancillary → wordAt f a (1924 + j) t ≡ getD (fromEav f a t) j 0
+    pub word-at-eav : (j : ℕ) → j < 8 + shapeOf f .ancillary → wordAt f a (eavStart + j) t ≡ getD (fromEav f a t) j 0
     unfolding wordsFromEav
     word-at-eav j h =
         let s = streams (shapeOf f) in
         let n = 8 + shapeOf f .ancillary in
         let g = 2 * shapeOf f .«fill_pairs» in
-        let e : s * (1924 + j) + t ≡ s * 1924 + (s * j + t) = omega arith in
+        let e : s * (eavStart + j) + t ≡ s * eavStart + (s * j + t) = omega arith in
         ap (λ (k : ℕ). getD (spanWords f a) k 0) e
         ∙ after-sav (s * j + t)
         ∙ getD-first (interleaved s n (fromEav f a)) (replicate g fillWord) (s * n) (s * j + t) 0
@@ -108,33 +109,33 @@ module _ (f : Format) (a : Request) where
 
     -- the EAV, with V of the line after
     pub eav-words :
-        (wordAt f a 1924 t ≡ 0xFFF)
-        × (wordAt f a 1925 t ≡ 0x000)
-        × (wordAt f a 1926 t ≡ 0x000)
-        × (wordAt f a 1927 t ≡ timing (vOf (lineAfter (a .line))) true)
+        (wordAt f a eavStart t ≡ 0xFFF)
+        × (wordAt f a (eavStart + 1) t ≡ 0x000)
+        × (wordAt f a (eavStart + 2) t ≡ 0x000)
+        × (wordAt f a eavXyz t ≡ timing (vOf (lineAfter (a .line))) true)
     eav-words =
         (word-at-eav 0 (omega arith), word-at-eav 1 (omega arith), word-at-eav 2 (omega arith), word-at-eav 3 (omega arith))
 
     -- that line's number
     pub line-number-words :
-        (wordAt f a 1928 t ≡ ln0 (lineAfter (a .line))) × (wordAt f a 1929 t ≡ ln1 (lineAfter (a .line)))
+        (wordAt f a lineStart t ≡ ln0 (lineAfter (a .line))) × (wordAt f a (lineStart + 1) t ≡ ln1 (lineAfter (a .line)))
     line-number-words = (word-at-eav 4 (omega arith), word-at-eav 5 (omega arith))
 
     -- the CRCC
     pub crcc-words :
-        (wordAt f a 1930 t ≡ crccWords (register f a t) .crcc0) × (wordAt f a 1931 t ≡ crccWords (register f a t) .crcc1)
+        (wordAt f a crccStart t ≡ crccWords (register f a t) .crcc0) × (wordAt f a (crccStart + 1) t ≡ crccWords (register f a t) .crcc1)
     crcc-words = (word-at-eav 6 (omega arith), word-at-eav 7 (omega arith))
 
     -- the ancillary area
     pub ancillary-word :
-        (i : ℕ) → i < shapeOf f .ancillary → wordAt f a (1932 + i) t ≡ getD (ancillary f (a .line) t) i 0
+        (i : ℕ) → i < shapeOf f .ancillary → wordAt f a (ancillaryStart + i) t ≡ getD (ancillary f (a .line) t) i 0
     ancillary-word i h =
-        let e : 1932 + i ≡ 1924 + (8 + i) = omega arith in
+        let e : ancillaryStart + i ≡ eavStart + (8 + i) = omega arith in
         ap (λ (j : ℕ). wordAt f a j t) e
         ∙ word-at-eav (8 + i) (omega arith)
         ∙ getD-second (eav a ++ (lineNumber a ++ crcc f a t)) (ancillary f (a .line) t) 8 i 0 refl
 
-    pub ancillary-blank : (i : ℕ) → i < shapeOf f .ancillary → wordAt f a (1932 + i) t ≡ blankWord f
+    pub ancillary-blank : (i : ℕ) → i < shapeOf f .ancillary → wordAt f a (ancillaryStart + i) t ≡ blankWord f
     unfolding ancillary
     ancillary-blank i h = ancillary-word i h ∙ getD-replicate (shapeOf f .ancillary) i (blankWord f) 0 h
 
@@ -186,7 +187,7 @@ module _ (f : Format) (a : Request) (some : 1 ≤ shapeOf f .«stream_pairs») w
   bytes-parts : bytes (spanWords f a) ≡ savBytes ++ eavBytes
   unfolding spanWords
   bytes-parts =
-      bytes-append (shapeOf f .«stream_pairs» * 1924) (wordsFromSav f a) (wordsFromEav f a) (length-words-sav f a ∙ omega arith)
+      bytes-append (shapeOf f .«stream_pairs» * eavStart) (wordsFromSav f a) (wordsFromEav f a) (length-words-sav f a ∙ omega arith)
 
   -- every other character k is byte k of the words
   pub char-is-byte :
@@ -225,7 +226,7 @@ module _ (f : Format) (a : Request) (some : 1 ≤ shapeOf f .«stream_pairs») w
     last-word =
         let e :
         2 * (pairsIn (shapeOf f) - 1) + 1
-        ≡ streams (shapeOf f) * (1932 + shapeOf f .ancillary) + (2 * shapeOf f .«fill_pairs» - 1) = omega arith in
+        ≡ streams (shapeOf f) * (ancillaryStart + shapeOf f .ancillary) + (2 * shapeOf f .«fill_pairs» - 1) = omega arith in
         rw e (fill-word f a (2 * shapeOf f .«fill_pairs» - 1) (omega arith))
 
     pub last-char : getD (spanChars f a) (symbolsIn (shapeOf f) - 1) 0 ≡ 0x10

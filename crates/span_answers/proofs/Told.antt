@@ -9,10 +9,10 @@ use Rattle.span.specs.declared.length.Lengths.{Lengths}
 use Rattle.span.specs.declared.length.Lengths.the-variants as Lengths
 use Rattle.span.specs.Length.{paperLengths}
 use Rattle.span.proofs.OneToOne.{lengths-one-to-one}
-use Rattle.send.specs.declared.send.Sent.{Sent}
-use Rattle.send.specs.declared.send.Sent.the-variants as Sent
-use Rattle.send.specs.Send.{paperSent}
-use Rattle.send.proofs.OneToOne.{sent-one-to-one}
+use Rattle.request.specs.declared.sent.Sent.{Sent}
+use Rattle.request.specs.declared.sent.Sent.the-variants as Sent
+use Rattle.request.specs.Send.{paperSent}
+use Rattle.request.proofs.OneToOne.{sent-one-to-one}
 use Rattle.window.specs.declared.delivery.Delivery.{Delivery}
 use Rattle.read.specs.declared.answer.Read.{Read}
 use Rattle.read.specs.declared.answer.Read.the-variants as Read

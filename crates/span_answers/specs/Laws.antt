@@ -4,8 +4,8 @@
 use Rattle.ground.specs.Inside.Answer.{Injective}
 use Rattle.span.specs.declared.length.Lengths.{Lengths}
 use Rattle.span.specs.Length.{paperLengths}
-use Rattle.send.specs.declared.send.Sent.{Sent}
-use Rattle.send.specs.Send.{paperSent}
+use Rattle.request.specs.declared.sent.Sent.{Sent}
+use Rattle.request.specs.Send.{paperSent}
 use Rattle.read.specs.declared.answer.Read.{Read}
 use Rattle.read.specs.Call.{paperRead}
 use Rattle.span_answers.specs.Spans.{lengthsAnswerOf, sendAnswerOf, readAnswerOf}

@@ -1,13 +1,13 @@
 // What the calls on one span answer.
 use read::answer::Read;
-use send::send::Sent;
+use request::sent::Sent;
 use span::content::ContentBytes;
 use span::length::Lengths;
 use window::delivery::Delivery;
 ghost use mathlib.Core.Path.{_≡_};
 ghost use Rattle.ground.specs.Answer.{refused};
 ghost use Rattle.span.specs.Length.{paperLengths};
-ghost use Rattle.send.specs.Send.{paperSent};
+ghost use Rattle.request.specs.Send.{paperSent};
 ghost use Rattle.read.specs.Call.{paperRead};
 ghost use Rattle.span_answers.specs.Spans.{valuesOf, noValues as nothing, lengthsAnswerOf, sendAnswerOf, readAnswerOf};
 

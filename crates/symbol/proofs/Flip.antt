@@ -16,7 +16,7 @@ use Rattle.symbol.specs.Code.{symbolOf, charOf, afterOf}
 use Rattle.symbol.specs.Inside.Code.{flips}
 use Rattle.symbol.specs.Inside.Disparity.{opposite, flippedIf}
 use Rattle.symbol.proofs.Inverse.{encode-decode, decoded-below}
-use Rattle.symbol.proofs.Ones.{onesBetween, ones-by, turns-both}
+use Rattle.symbol.proofs.Ones.{onesBetween, ones-by, flips-both}
 
 -- a symbol has an odd count of ones where its character keeps the disparity, and an even one where it flips it, at both disparities
 parity : (d : Disparity) (c : ℕ) → c < characters → onesIn 10 (symbolOf d c) % 2 ≡ bit (not (flips c))
@@ -29,9 +29,9 @@ parity d c h = ap (λ (n : ℕ). n % 2) (ones-by d c h) ∙ odd d (flips c)
     odd Positive false = refl
 
 -- so of two symbols that differ in one bit exactly one flips it, at whatever disparities they stand
-one-of-two-turns : (d e : Disparity) (b c k : ℕ) → b < characters → c < characters → k < 10
+one-of-two-flips : (d e : Disparity) (b c k : ℕ) → b < characters → c < characters → k < 10
     → symbolOf e b ≡ inverted k (symbolOf d c) → flips b ≡ not (flips c)
-one-of-two-turns d e b c k p q h same =
+one-of-two-flips d e b c k p q h same =
     other (flips b) (flips c) (onesIn 10 (symbolOf d c)) (parity d c q)
     (sym (parity e b p) ∙ ap (λ (s : ℕ). onesIn 10 s % 2) same ∙ inverted-ones 10 k (symbolOf d c) h)
   where
@@ -58,16 +58,16 @@ flip d c k h l = go (charOf d (inverted k (symbolOf d c))) refl
     go none e = inl e
     go (some b) e =
         let p : b < characters = decoded-below d (inverted k (symbolOf d c)) b e in
-        let t = one-of-two-turns d d b c k p h l (encode-decode d (inverted k (symbolOf d c)) b e) in
+        let t = one-of-two-flips d d b c k p h l (encode-decode d (inverted k (symbolOf d c)) b e) in
         inr (
           b,
           e,
-          turns-both d b p ∙ ap (λ (x : Bool). flippedIf x d) t ∙ not-flipped (flips c) d ∙ ap opposite (sym (turns-both d c h)),
+          flips-both d b p ∙ ap (λ (x : Bool). flippedIf x d) t ∙ not-flipped (flips c) d ∙ ap opposite (sym (flips-both d c h)),
         )
 
 -- Neither form of a character becomes a form of that character by one inverted bit: K28.5 and K29.7 above all.
 pub flip-no-form : (d e : Disparity) (c k : ℕ) → c < characters → k < 10 → inverted k (symbolOf d c) ≡ symbolOf e c → ⊥
-flip-no-form d e c k h l q = never (flips c) (one-of-two-turns d e c c k h h l (sym q))
+flip-no-form d e c k h l q = never (flips c) (one-of-two-flips d e c c k h h l (sym q))
   where
     never : (t : Bool) → t ≡ not t → ⊥
     never true x = true≢false x

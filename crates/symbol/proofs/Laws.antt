@@ -4,7 +4,7 @@ use Rattle.symbol.specs.Laws.{SymbolLaws}
 use Rattle.symbol.proofs.Distinct.{one-character}
 use Rattle.symbol.proofs.Flip.{flip, flip-no-form}
 use Rattle.symbol.proofs.Inverse.{decode-encode, encode-decode, illegal-is, illegal-told, data-or-special, opposed-illegal}
-use Rattle.symbol.proofs.Ones.{symbol-below, four-to-six, turns-both}
+use Rattle.symbol.proofs.Ones.{symbol-below, four-to-six, flips-both}
 use Rattle.symbol.proofs.Specials.{known, number-one-to-one}
 
 pub symbol-laws : SymbolLaws
@@ -17,7 +17,7 @@ symbol-laws = record {
   dataOrSpecial = data-or-special;
   tenBits = symbol-below;
   fourToSix = four-to-six;
-  turnsBoth = turns-both;
+  flipsBoth = flips-both;
   opposedIllegal = opposed-illegal;
   flip = flip;
   flipNoForm = flip-no-form;

@@ -45,19 +45,19 @@ four-to-six d c h = rw (ones-of d c h) (bounds d (afterOf d c))
     bounds Positive Positive = omega arith
 
 -- A character flips the disparity at both disparities or at neither.
-pub turns-both : (d : Disparity) (c : ℕ) → c < characters → afterOf d c ≡ flippedIf (flips c) d
+pub flips-both : (d : Disparity) (c : ℕ) → c < characters → afterOf d c ≡ flippedIf (flips c) d
 unfolding afterOf flips
-turns-both d c h =
+flips-both d c h =
     same-is (afterOf d c) (flippedIf (flips c) d) (at-character (λ e k. same (afterOf e k) (flippedIf (flips k) e)) refl refl d c h)
 
 -- So the ones of a symbol are told by the disparity before it and by whether its character flips it.
 pub ones-by : (d : Disparity) (c : ℕ) → c < characters → onesIn 10 (symbolOf d c) ≡ onesBetween d (flippedIf (flips c) d)
-ones-by d c h = ones-of d c h ∙ ap (onesBetween d) (turns-both d c h)
+ones-by d c h = ones-of d c h ∙ ap (onesBetween d) (flips-both d c h)
 
 -- A character whose two forms are the same leaves the disparity as it was.
 pub one-form-stays : (d : Disparity) (c : ℕ) → c < characters → symbolOf Negative c ≡ symbolOf Positive c → afterOf d c ≡ d
 one-form-stays d c h e =
-    turns-both d c h ∙ stays (flips c) (sym (ones-by Negative c h) ∙ ap (onesIn 10) e ∙ ones-by Positive c h) d
+    flips-both d c h ∙ stays (flips c) (sym (ones-by Negative c h) ∙ ap (onesIn 10) e ∙ ones-by Positive c h) d
   where
     stays : (t : Bool) → onesBetween Negative (flippedIf t Negative) ≡ onesBetween Positive (flippedIf t Positive) → (d : Disparity) → flippedIf t d ≡ d
     stays true q d = absurd (omega arith)

@@ -28,7 +28,7 @@ pub record SymbolLaws : Type 0 where
   pub tenBits : (d : Disparity) (c : ℕ) → c < 268 → symbolOf d c < 1024
   pub fourToSix : (d : Disparity) (c : ℕ) → c < 268 → (4 ≤ onesIn 10 (symbolOf d c)) × (onesIn 10 (symbolOf d c) ≤ 6)
   -- a character flips the disparity at both disparities or at neither
-  pub turnsBoth : (d : Disparity) (c : ℕ) → c < 268 → afterOf d c ≡ flippedIf (flips c) d
+  pub flipsBoth : (d : Disparity) (c : ℕ) → c < 268 → afterOf d c ≡ flippedIf (flips c) d
   -- read at the opposite disparity, a symbol of a character with two forms is illegal
   pub opposedIllegal : (d : Disparity) (c : ℕ) → c < 268 → TwoForms c → charOf (opposite d) (symbolOf d c) ≡ none
   -- a character's symbol with one bit inverted is illegal, or is another character's and leaves the opposite disparity

@@ -21,9 +21,9 @@ use Rattle.span.specs.Format.{isKnown, shapeOf, samplesIn, symbolsIn}
 use Rattle.span.specs.Image.{imageOf}
 use Rattle.span.specs.Sample.{blankWord}
 use Rattle.span.specs.Span.{spanAfter}
-use Rattle.send.specs.Send.{request, sendOf}
-use Rattle.send.proofs.Checking.{outside-never}
-use Rattle.send.proofs.Refusals.{sends}
+use Rattle.request.specs.Send.{request, sendOf}
+use Rattle.request.proofs.Checking.{outside-never}
+use Rattle.request.proofs.Refusals.{sends}
 use Rattle.span.specs.Blanking.{blankRow}
 use Rattle.span.specs.Inside.Sample.{boundsOf}
 use Rattle.test_picture.specs.TestPicture.{codeStep, sampleBy, testSamples}

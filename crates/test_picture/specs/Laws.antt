@@ -18,7 +18,7 @@ use Rattle.span.specs.Format.{isKnown, shapeOf, streams, samplesIn, symbolsIn}
 use Rattle.span.specs.Image.{imageOf}
 use Rattle.span.specs.Span.{spanAfter}
 use Rattle.span.specs.Blanking.{blankRow}
-use Rattle.send.specs.Send.{request, sendOf}
+use Rattle.request.specs.Send.{request, sendOf}
 use Rattle.test_picture.specs.Putting.{paperPut, rowAnswer}
 use Rattle.test_picture.specs.TestPicture.{testSample, codeStep, sampleBy, rowAt, testSamples}
 

@@ -1,35 +1,15 @@
 -- Texts that are put one after the other.
 -- Assumes nothing.
-use mathlib.Core.Path.{_≡_, ap, _∙_}
+use mathlib.Core.Path.{_≡_}
 use mathlib.Core.Bool.{true, false}
 use mathlib.Core.List.{List, _++_}
 use Prim.Native.Nat.{ℕ, _+_, _≤_, _<_}
 use native.Mathlib.Omega.{arith}
-use lib.ListN.{length, length-append}
-use lib.Seq.{sets, length-sets}
+use lib.ListN.{length}
+use lib.Seq.{sets}
 use borrow.Author.Tests.{le-leb, lt-leb}
-use Rattle.ground.proofs.Writing.{sets-append}
+use Rattle.ground.proofs.Putting.{Put, then, put-length}
 use Rattle.text.specs.Put.{hasRoom, endOf, putOf}
-
--- a text put at a place, and where it ends
-pub record Put (before after : List ℕ) (at end : ℕ) (text : List ℕ) : Type 0 where
-  pub written : after ≡ sets before at text
-  pub ends : end ≡ at + length text
-
-module _ {o p q : List ℕ} {at mid end : ℕ} {x y : List ℕ} where
-  -- one text and then another
-  pub then : Put o p at mid x → Put p q mid end y → Put o q at end (x ++ y)
-  then f g =
-      record {
-        written = g .written ∙ ap (λ (l : List ℕ). sets l mid y) (f .written) ∙ sets-append o x y at mid (f .ends);
-        ends = rw length-append (omega (arith, f .ends, g .ends));
-      }
-
-pub put-length : {o p : List ℕ} {at end : ℕ} {x : List ℕ} → Put o p at end x → length p ≡ length o
-put-length {o} {p} {at} {end} {x} f = ap length (f .written) ∙ length-sets o at x
-
-pub put-as : {o p : List ℕ} {at end : ℕ} {x y : List ℕ} → x ≡ y → Put o p at end x → Put o p at end y
-put-as {o} {p} {at} {end} e f = record { written = f .written ∙ ap (sets o at) e; ends = f .ends ∙ ap (λ (l : List ℕ). at + length l) e }
 
 -- what a call that puts a text promises, where the text has room
 pub put-told : {o p : List ℕ} {at end : ℕ} (x : List ℕ) → at + length x ≤ length o → end ≡ endOf (length o) at x → p ≡ putOf o at x

@@ -5,7 +5,7 @@ use mathlib.Core.Path.{_≡_, refl, ap}
 use mathlib.Core.Bool.{Bool, true, false, cond, true≢false}
 use mathlib.Core.Logic.{_⊎_, inl, inr, ⊎-elim}
 use mathlib.Core.Option.{none}
-use Prim.Native.Nat.{ℕ, _+_, _≤_, _<_}
+use Prim.Native.Nat.{ℕ, _+_, _-_, _≤_, _<_}
 use lib.Dec.{eqb, ltb}
 use borrow.Author.Tests.{eq-eqb, eqb-true, ltb-true, ltb-false}
 use Rattle.ground.specs.Range.{within}
@@ -15,6 +15,7 @@ use Rattle.line.specs.Stream.{isActive}
 use Rattle.span.specs.declared.format.Format.{Format}
 use Rattle.span.specs.Format.{shapeOf}
 use Rattle.span.specs.Span.{fillWord}
+use Rattle.span.specs.Layout.{pictureStart, eavStart, lineStart, crccStart, ancillaryStart, eavXyz}
 use Rattle.word.specs.LineNumber.{lineOf}
 use Rattle.window.specs.Tests.{mayBring, wordOf, holds21, lineRead, holds22, holds23, holds24, holds25, holds26}
 
@@ -38,50 +39,50 @@ answered false x e = absurd (true≢false e)
 
 module _ (s : ℕ) (word : ℕ → ℕ) (j t : ℕ) where
   -- SAV and EAV
-  pub judged-21 : holds21 s word j t ≡ false → (j < 4) ⊎ ((1924 ≤ j) × (j ≤ 1927))
+  pub judged-21 : holds21 s word j t ≡ false → (j < pictureStart) ⊎ ((eavStart ≤ j) × (j ≤ eavXyz))
   unfolding holds21
   judged-21 e =
       ⊎-elim (λ c. inl (ltb-true _ _ c)) (λ c. inr (from-low _ _ _ c, to-high _ _ _ c))
-      (asked-twice (ltb j 4) (within 1924 1927 j) _ _ e)
+      (asked-twice (ltb j pictureStart) (within eavStart eavXyz j) _ _ e)
 
   -- line numbers
-  pub judged-22 : holds22 s word j t ≡ false → (1928 ≤ j) × (j ≤ 1929)
+  pub judged-22 : holds22 s word j t ≡ false → (lineStart ≤ j) × (j ≤ (lineStart + 1))
   unfolding holds22
   judged-22 e = let c = asked _ _ e in (from-low _ _ _ c, to-high _ _ _ c)
 
   -- XYZ
-  pub judged-23 : holds23 s word j t ≡ false → (j ≡ 3) ⊎ (j ≡ 1927)
+  pub judged-23 : holds23 s word j t ≡ false → (j ≡ 3) ⊎ (j ≡ eavXyz)
   unfolding holds23
   judged-23 e = ⊎-elim (λ c. inl (eqb-true _ _ c)) (λ c. inr (eqb-true _ _ c)) (asked-twice _ _ _ _ e)
 
   -- CRCC
-  pub judged-24 : holds24 s word j t ≡ false → (j ≡ 1930) ⊎ (j ≡ 1931)
+  pub judged-24 : holds24 s word j t ≡ false → (j ≡ crccStart) ⊎ (j ≡ (crccStart + 1))
   unfolding holds24
   judged-24 e = ⊎-elim (λ c. inl (eqb-true _ _ c)) (λ c. inr (eqb-true _ _ c)) (asked-twice _ _ _ _ e)
 
   -- the picture, on lines 42 to 1121
   pub judged-25 : (f : Format) → holds25 s word f j t ≡ false
-      → (4 ≤ j) × (j ≤ 1923) × (42 ≤ lineRead s word) × (lineRead s word ≤ 1121)
+      → (pictureStart ≤ j) × (j ≤ 1923) × (42 ≤ lineRead s word) × (lineRead s word ≤ 1121)
   unfolding holds25
   judged-25 f e =
       let may = mayBring f (lineRead s word) t (wordOf s word j t) in
-      let c = asked (within 4 1923 j) may e in
-      let line = asked (isActive (lineRead s word)) _ (answered (within 4 1923 j) may e) in
+      let c = asked (within pictureStart (eavStart - 1) j) may e in
+      let line = asked (isActive (lineRead s word)) _ (answered (within pictureStart (eavStart - 1) j) may e) in
       (from-low _ _ _ c, to-high _ _ _ c, from-low _ _ _ line, to-high _ _ _ line)
 
   -- the fill
-  pub judged-26 : (f : Format) → holds26 s word f j t ≡ false → 1932 + shapeOf f .ancillary ≤ j
+  pub judged-26 : (f : Format) → holds26 s word f j t ≡ false → ancillaryStart + shapeOf f .ancillary ≤ j
   unfolding holds26
   judged-26 f e =
-      let ahead = ltb j (1932 + shapeOf f .ancillary) in
+      let ahead = ltb j (ancillaryStart + shapeOf f .ancillary) in
       ltb-false _ _ (unless ahead (eqb (wordOf s word j t) fillWord) e)
 
 -- whether stream 1 names a line is asked at its LN0, and not at its LN1
 module _ (s : ℕ) (word : ℕ → ℕ) where
-  pub nameless : lineOf (wordOf s word 1928 0) (wordOf s word 1929 0) ≡ none → holds22 s word 1928 0 ≡ false
+  pub nameless : lineOf (wordOf s word lineStart 0) (wordOf s word (lineStart + 1) 0) ≡ none → holds22 s word lineStart 0 ≡ false
   unfolding holds22 within
   nameless e = ap isSome e
 
-  pub asked-once : holds22 s word 1929 0 ≡ true
+  pub asked-once : holds22 s word (lineStart + 1) 0 ≡ true
   unfolding holds22 within
-  asked-once = eq-eqb (wordOf s word 1929 0) (wordOf s word 1929 0) refl
+  asked-once = eq-eqb (wordOf s word (lineStart + 1) 0) (wordOf s word (lineStart + 1) 0) refl

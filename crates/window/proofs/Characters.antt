@@ -16,6 +16,7 @@ use Rattle.span.specs.declared.content.ContentBytes.{ContentBytes}
 use Rattle.span.specs.declared.format.Shape.{Shape}
 use Rattle.span.specs.Format.{streams, pairsIn, symbolsIn, eavAt}
 use Rattle.span.specs.Span.{bytes}
+use Rattle.span.specs.Layout.{eavStart}
 use Rattle.span.proofs.Packing.{bytes-append, length-bytes}
 use Rattle.span.proofs.Synchronised.{length-both, in-second, kept-byte}
 use Rattle.window.specs.Encoded.{charsOf, AreContent}
@@ -31,25 +32,25 @@ replacing k content1 content2 = numberOf k ∷ numberOf k ∷ content1 ∷ conte
 module _ (p : Shape) (some : 1 ≤ p .«stream_pairs») (c : ContentBytes) (words : List ℕ) (long : length words ≡ 2 * pairsIn p) where
   -- the words before the EAV, and those from it on
   abbrev before : List ℕ
-  before = take (1924 * streams p) words
+  before = take (eavStart * streams p) words
 
   abbrev behind : List ℕ
-  behind = drop (1924 * streams p) words
+  behind = drop (eavStart * streams p) words
 
-  length-before : length before ≡ 2 * (p .«stream_pairs» * 1924)
-  length-before = length-take-le (1924 * streams p) words (omega (arith, long)) ∙ omega arith
+  length-before : length before ≡ 2 * (p .«stream_pairs» * eavStart)
+  length-before = length-take-le (eavStart * streams p) words (omega (arith, long)) ∙ omega arith
 
   -- their bytes
   bytes-before : length (bytes before) ≡ eavAt p
-  bytes-before = length-bytes (p .«stream_pairs» * 1924) before length-before ∙ omega arith
+  bytes-before = length-bytes (p .«stream_pairs» * eavStart) before length-before ∙ omega arith
 
   bytes-behind : length (bytes behind) ≡ 3 * (p .«stream_pairs» * (8 + p .ancillary) + p .«fill_pairs»)
   bytes-behind =
-      length-bytes (p .«stream_pairs» * (8 + p .ancillary) + p .«fill_pairs») behind (length-drop (1924 * streams p) words ∙ omega (arith, long))
+      length-bytes (p .«stream_pairs» * (8 + p .ancillary) + p .«fill_pairs») behind (length-drop (eavStart * streams p) words ∙ omega (arith, long))
 
   bytes-parts : bytes words ≡ bytes before ++ bytes behind
   bytes-parts =
-      ap bytes (sym (take-append-drop (1924 * streams p) words)) ∙ bytes-append (p .«stream_pairs» * 1924) before behind length-before
+      ap bytes (sym (take-append-drop (eavStart * streams p) words)) ∙ bytes-append (p .«stream_pairs» * eavStart) before behind length-before
 
   -- as many characters as there are symbols in a span
   pub length-chars : length (charsOf p c words) ≡ symbolsIn p

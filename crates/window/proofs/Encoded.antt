@@ -24,6 +24,7 @@ use Rattle.span.specs.declared.format.Shape.{Shape}
 use Rattle.span.specs.Encoding.{symbolsFrom, afterRun}
 use Rattle.span.specs.Format.{isKnown, shapeOf, streams, pairsIn, symbolsIn, eavAt}
 use Rattle.span.specs.Span.{interleaved, bytes, bytesListed}
+use Rattle.span.specs.Layout.{eavStart}
 use Rattle.span.proofs.Encoding.{length-symbols}
 use Rattle.span.proofs.Interleaving.{length-interleaved, interleaved-at}
 use Rattle.span.proofs.Lengths.{known-has-streams}
@@ -294,7 +295,7 @@ module _ (f : Format) (known : isKnown f ≡ true) (words : List ℕ) (long : le
   has-streams = known-has-streams f known
 
   -- words that begin with a SAV, and that have an EAV where it stands
-  pub restored-words : Begins s words 0 → Begins s words 1924 → Restored (shapeOf f) words
+  pub restored-words : Begins s words 0 → Begins s words eavStart → Restored (shapeOf f) words
   restored-words sav eav =
       record {
         sav =
@@ -303,8 +304,8 @@ module _ (f : Format) (known : isKnown f ≡ true) (words : List ℕ) (long : le
             ap (λ (n : ℕ). getD (bytes words) n 0) e ∙ bytes-begin half has-streams words (pairsIn (shapeOf f)) long 0 (omega arith) sav i h;
         eav =
             λ i h.
-            let e : eavAt (shapeOf f) + i ≡ 3 * (half * 1924) + i = omega arith in
-            ap (λ (n : ℕ). getD (bytes words) n 0) e ∙ bytes-begin half has-streams words (pairsIn (shapeOf f)) long 1924 (omega arith) eav i h;
+            let e : eavAt (shapeOf f) + i ≡ 3 * (half * eavStart) + i = omega arith in
+            ap (λ (n : ℕ). getD (bytes words) n 0) e ∙ bytes-begin half has-streams words (pairsIn (shapeOf f)) long eavStart (omega arith) eav i h;
       }
 
   -- words that meet test 21 do

@@ -15,6 +15,7 @@ use Rattle.ground.proofs.Searches.{miss-from, is-miss-from}
 use Rattle.span.specs.declared.format.Shape.{Shape}
 use Rattle.span.specs.Format.{streams}
 use Rattle.span.specs.Span.{fillWord}
+use Rattle.span.specs.Layout.{ancillaryStart}
 use Rattle.packing.specs.declared.bytes.TwoWords.{TwoWords}
 use Rattle.window.specs.Words.{wordAt}
 use Rattle.window.specs.Inside.Fill.{fillRight}
@@ -45,10 +46,10 @@ turn {w} {from} {q} {x} f is a b =
 
 module _ (p : Shape) (w : List ℕ) (some-streams : 1 ≤ p .«stream_pairs») where
   -- the fill begins after all words of the streams
-  behind : (k : ℕ) → p .«stream_pairs» * (1932 + p .ancillary) ≤ k → Behind p k
+  behind : (k : ℕ) → p .«stream_pairs» * (ancillaryStart + p .ancillary) ≤ k → Behind p k
   behind k h = record { sav = omega arith; eav = λ a. omega arith }
 
-  word-right : (k : ℕ) → p .«stream_pairs» * (1932 + p .ancillary) ≤ k / 2 → Both (plainPair w (3 * (k / 2))) → wordAt p w k ≡ fillWord
+  word-right : (k : ℕ) → p .«stream_pairs» * (ancillaryStart + p .ancillary) ≤ k / 2 → Both (plainPair w (3 * (k / 2))) → wordAt p w k ≡ fillWord
   unfolding wordAt
   word-right k h both =
       let e = pair-plain p w (k / 2) (behind (k / 2) h) in
@@ -59,32 +60,32 @@ module _ (p : Shape) (w : List ℕ) (some-streams : 1 ≤ p .«stream_pairs») w
   wrong k = not (eqb (wordAt p w k) fillWord)
 
   -- where all pairs are looked at, none is
-  pub all-right : Filled w (p .«stream_pairs» * (1932 + p .ancillary)) (p .«stream_pairs» * (1932 + p .ancillary) + p .«fill_pairs») → fillRight p w ≡ true
+  pub all-right : Filled w (p .«stream_pairs» * (ancillaryStart + p .ancillary)) (p .«stream_pairs» * (ancillaryStart + p .ancillary) + p .«fill_pairs») → fillRight p w ≡ true
   unfolding fillRight
   all-right f =
-      rw (is-miss-from wrong (2 * p .«fill_pairs») (streams p * (1932 + p .ancillary))
+      rw (is-miss-from wrong (2 * p .«fill_pairs») (streams p * (ancillaryStart + p .ancillary))
       (record {
         never =
             λ k h l.
-            let low : p .«stream_pairs» * (1932 + p .ancillary) ≤ k / 2 = omega arith in
+            let low : p .«stream_pairs» * (ancillaryStart + p .ancillary) ≤ k / 2 = omega arith in
             ap not (eq-eqb _ _ (word-right k low (f .right (k / 2) (omega arith) low)));
       }))
 
   -- one is enough
-  one-wrong : (k : ℕ) → streams p * (1932 + p .ancillary) ≤ k → k < streams p * (1932 + p .ancillary) + 2 * p .«fill_pairs»
+  one-wrong : (k : ℕ) → streams p * (ancillaryStart + p .ancillary) ≤ k → k < streams p * (ancillaryStart + p .ancillary) + 2 * p .«fill_pairs»
       → (wordAt p w k ≡ fillWord → ⊥) → fillRight p w ≡ false
   unfolding fillRight
-  one-wrong k h l x = go (firstFrom (streams p * (1932 + p .ancillary)) (2 * p .«fill_pairs») wrong) refl
+  one-wrong k h l x = go (firstFrom (streams p * (ancillaryStart + p .ancillary)) (2 * p .«fill_pairs») wrong) refl
     where
-      go : (o : Option ℕ) → firstFrom (streams p * (1932 + p .ancillary)) (2 * p .«fill_pairs») wrong ≡ o → fillRight p w ≡ false
+      go : (o : Option ℕ) → firstFrom (streams p * (ancillaryStart + p .ancillary)) (2 * p .«fill_pairs») wrong ≡ o → fillRight p w ≡ false
       go none e =
-          let never = miss-from wrong (2 * p .«fill_pairs») (streams p * (1932 + p .ancillary)) e .never k h l in
+          let never = miss-from wrong (2 * p .«fill_pairs») (streams p * (ancillaryStart + p .ancillary)) e .never k h l in
           absurd (true≢false (sym (ap not (ne-eqb (wordAt p w k) fillWord x)) ∙ never))
       go (some j) e = rw e
 
   -- the first word of a pair, or the second
-  module _ {x : TwoWords} (q : ℕ) (is : x ≡ plainPair w (3 * q)) (h : p .«stream_pairs» * (1932 + p .ancillary) ≤ q)
-      (l : q < p .«stream_pairs» * (1932 + p .ancillary) + p .«fill_pairs») where
+  module _ {x : TwoWords} (q : ℕ) (is : x ≡ plainPair w (3 * q)) (h : p .«stream_pairs» * (ancillaryStart + p .ancillary) ≤ q)
+      (l : q < p .«stream_pairs» * (ancillaryStart + p .ancillary) + p .«fill_pairs») where
     pub first-wrong : (x .a ≡ 0x100 → ⊥) → fillRight p w ≡ false
     first-wrong other = one-wrong (2 * q) (omega arith) (omega arith) (λ e. other (word-a p w q is (behind q h) ∙ e))
 

@@ -78,9 +78,9 @@ module _ (w v : List ℕ) (c : ℕ → ℕ) (n i k : ℕ) (x : OneBit w v c n i 
       ∙ ap₂ afterOf (before j (omega arith)) (ap meant (x .kept j (λ q. omega arith)))
       ∙ sym (running-on w j)
 
-  -- there the disparity turns
-  turned : runningAt v (suc i) ≡ opposite (runningAt w (suc i))
-  turned = go (flip (runningAt w i) (c i) k (x .small i) (x .bit))
+  -- there the disparity flips
+  flipped : runningAt v (suc i) ≡ opposite (runningAt w (suc i))
+  flipped = go (flip (runningAt w i) (c i) k (x .small i) (x .bit))
     where
       here : runningAt v i ≡ runningAt w i
       here = before i (omega arith)
@@ -120,7 +120,7 @@ module _ (w v : List ℕ) (c : ℕ → ℕ) (n i k : ℕ) (x : OneBit w v c n i 
 
   -- so it stays the opposite, symbol after symbol
   stays-opposite : (m : ℕ) → suc i + m < n → runningAt v (suc i + m) ≡ opposite (runningAt w (suc i + m))
-  stays-opposite zero h = rw add-zero turned
+  stays-opposite zero h = rw add-zero flipped
   stays-opposite (suc m) h = rw add-suc (passes (suc i + m) (omega arith) (omega arith) (stays-opposite m (omega arith)))
 
   -- and there is no character with two forms after it
@@ -212,7 +212,7 @@ module _ (f : Format) (a : Request) (good : Sendable f a) (d : Disparity) (i k :
         ∙ ap (symbolOf (runningAt arrived i))
         (ap (λ (j : ℕ). meant (symbolAt arrived j)) e ∙ last-read f arrived (good .known) acc))
 
-    -- so the start is as it was, and the disparity turns at the bit
+    -- so the start is as it was, and the disparity flips at the bit
     one-bit : OneBit sent arrived (λ j. getD (spanChars f a) j 0) (symbolsIn (shapeOf f)) i k
     one-bit =
         record {

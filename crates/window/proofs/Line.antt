@@ -3,12 +3,13 @@
 use mathlib.Core.Path.{_≡_, refl, sym, ap₂, _∙_}
 use mathlib.Core.Bool.{true}
 use mathlib.Core.List.{List}
-use Prim.Native.Nat.{ℕ, _≤_, _<_}
+use Prim.Native.Nat.{ℕ, _+_, _≤_, _<_}
 use native.Mathlib.Omega.{arith}
 use Rattle.ground.proofs.Ranges.{from-low, to-high}
 use Rattle.line.specs.Stream.{lineBefore}
 use Rattle.span.specs.declared.format.Format.{Format}
 use Rattle.span.specs.Format.{isKnown, shapeOf, streams}
+use Rattle.span.specs.Layout.{lineStart}
 use Rattle.span.proofs.Lengths.{known-has-streams}
 use Rattle.word.specs.LineNumber.{ln0, ln1}
 use Rattle.word.specs.Word.{guarded}
@@ -35,8 +36,8 @@ module _ (f : Format) (w : List ℕ) (known : isKnown f ≡ true) (acc : Accepte
       (m : ℕ)
       × (1 ≤ m)
       × (m ≤ 1125)
-      × (wordOf s word 1928 0 ≡ ln0 m)
-      × (wordOf s word 1929 0 ≡ ln1 m)
+      × (wordOf s word lineStart 0 ≡ ln0 m)
+      × (wordOf s word (lineStart + 1) 0 ≡ ln1 m)
       × (deliveryOf f w .line .0 ≡ lineBefore m)
   unfolding deliveryOf lineRead
   line-answered =
@@ -52,14 +53,14 @@ module _ (f : Format) (w : List ℕ) (known : isKnown f ≡ true) (acc : Accepte
 
   -- every other stream has the same two words
   pub all-streams :
-      (t : ℕ) → t < s → (wordOf s word 1928 t ≡ wordOf s word 1928 0) × (wordOf s word 1929 t ≡ wordOf s word 1929 0)
+      (t : ℕ) → t < s → (wordOf s word lineStart t ≡ wordOf s word lineStart 0) × (wordOf s word (lineStart + 1) t ≡ wordOf s word (lineStart + 1) 0)
   all-streams t l = (
     ln0-told f word (acc .words) t l ∙ sym (ln0-told f word (acc .words) 0 streamed),
     ln1-told f word (acc .words) t l ∙ sym (ln1-told f word (acc .words) 0 streamed),
   )
 
   -- the lost recital: LN0 of line 128 and LN1 of line 127 are no line's words
-  pub recital : wordOf s word 1928 0 ≡ ln0 128 → wordOf s word 1929 0 ≡ ln1 127 → ⊥
+  pub recital : wordOf s word lineStart 0 ≡ ln0 128 → wordOf s word (lineStart + 1) 0 ≡ ln1 127 → ⊥
   unfolding ln0 ln1 guarded
   recital p q =
       let (m, from, to, low, high, _) = line-answered in

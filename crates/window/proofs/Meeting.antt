@@ -3,7 +3,7 @@
 use mathlib.Core.Path.{_≡_, sym, ap, _∙_}
 use mathlib.Core.Bool.{Bool, true, false}
 use mathlib.Core.Option.{Option·getD}
-use Prim.Native.Nat.{ℕ, zero, suc, _+_, _*_, _/_, _%_, _≤_, _<_}
+use Prim.Native.Nat.{ℕ, zero, suc, _+_, _-_, _*_, _/_, _%_, _≤_, _<_}
 use native.Mathlib.Nat.{le-div-iff-mul-le}
 use native.Mathlib.Omega.{arith}
 use lib.Dec.{eqb}
@@ -18,6 +18,7 @@ use Rattle.line.proofs.Lines.{after-before}
 use Rattle.span.specs.declared.format.Format.{Format}
 use Rattle.span.specs.Format.{shapeOf, streams, pairsIn}
 use Rattle.span.specs.Span.{fillWord}
+use Rattle.span.specs.Layout.{pictureStart, eavStart, lineStart, crccStart, ancillaryStart, savXyz, eavXyz}
 use Rattle.crcc.specs.Crcc.{crccWords}
 use Rattle.word.specs.LineNumber.{ln0, ln1, areWordsOf, lineOf}
 use Rattle.word.specs.Repair.{nearest}
@@ -34,7 +35,7 @@ use Rattle.window.proofs.Symbols.{some-told}
 -- a test that holds at all places holds at word j of stream t
 module _ (f : Format) (t : ℕ) (l : t < streams (shapeOf f)) (holds : ℕ → ℕ → Bool)
     (all : (k : ℕ) → k < 2 * pairsIn (shapeOf f) → placed (streams (shapeOf f)) holds k ≡ true) where
-  held : (j : ℕ) → j < 1932 + shapeOf f .ancillary → holds j t ≡ true
+  held : (j : ℕ) → j < ancillaryStart + shapeOf f .ancillary → holds j t ≡ true
   held j h = at-word (streams (shapeOf f)) (omega arith) (2 * pairsIn (shapeOf f)) holds all j t l (in-span (shapeOf f) j t h l)
 
 -- ---- 21: timing words
@@ -45,7 +46,7 @@ module _ (f : Format) (word : ℕ → ℕ) (t : ℕ) (l : t < streams (shapeOf f
   abbrev code : ℕ → ℕ
   code j = wordOf (streams (shapeOf f)) word j t
 
-  is-timing : (j : ℕ) → j < 1932 → holds21 (streams (shapeOf f)) word j t ≡ true
+  is-timing : (j : ℕ) → j < ancillaryStart → holds21 (streams (shapeOf f)) word j t ≡ true
   is-timing j h = held f t l (holds21 (streams (shapeOf f)) word) all j (omega arith)
 
   -- the three words before XYZ, and H of XYZ
@@ -58,13 +59,13 @@ module _ (f : Format) (word : ℕ → ℕ) (t : ℕ) (l : t < streams (shapeOf f
     is-timing 3 (omega arith),
   )
 
-  pub eav-told : (code 1924 ≡ 0xFFF) × (code 1925 ≡ 0x000) × (code 1926 ≡ 0x000) × (hasH true (nearest (code 1927)) ≡ true)
+  pub eav-told : (code eavStart ≡ 0xFFF) × (code (eavStart + 1) ≡ 0x000) × (code (eavStart + 2) ≡ 0x000) × (hasH true (nearest (code eavXyz)) ≡ true)
   unfolding holds21 within
   eav-told = (
-    eqb-true (code 1924) 0xFFF (is-timing 1924 (omega arith)),
-    eqb-true (code 1925) 0x000 (is-timing 1925 (omega arith)),
-    eqb-true (code 1926) 0x000 (is-timing 1926 (omega arith)),
-    is-timing 1927 (omega arith),
+    eqb-true (code eavStart) 0xFFF (is-timing eavStart (omega arith)),
+    eqb-true (code (eavStart + 1)) 0x000 (is-timing (eavStart + 1) (omega arith)),
+    eqb-true (code (eavStart + 2)) 0x000 (is-timing (eavStart + 2) (omega arith)),
+    is-timing eavXyz (omega arith),
   )
 
 -- ---- 22 of stream 1, and the fill
@@ -77,18 +78,18 @@ line-named a b t = hit (areWordsOf a b) 1126 (Option·getD (lineOf a b) 0) (some
 module _ (f : Format) (word : ℕ → ℕ) (m : Meets f word) (l : 0 < streams (shapeOf f)) where
   -- it is of a line, so its words are those of that line's number
   next-named :
-      areWordsOf (wordOf (streams (shapeOf f)) word 1928 0) (wordOf (streams (shapeOf f)) word 1929 0) (nextLine (streams (shapeOf f)) word)
+      areWordsOf (wordOf (streams (shapeOf f)) word lineStart 0) (wordOf (streams (shapeOf f)) word (lineStart + 1) 0) (nextLine (streams (shapeOf f)) word)
       ≡ true
   unfolding holds22 within nextLine
-  next-named = line-named _ _ (held f 0 l (holds22 (streams (shapeOf f)) word) (m .lineNumber) 1928 (omega arith))
+  next-named = line-named _ _ (held f 0 l (holds22 (streams (shapeOf f)) word) (m .lineNumber) lineStart (omega arith))
 
   pub next-is-line : isLine (nextLine (streams (shapeOf f)) word) ≡ true
   next-is-line = named-is-line _ _ _ next-named
 
-  pub first-ln0 : wordOf (streams (shapeOf f)) word 1928 0 ≡ ln0 (nextLine (streams (shapeOf f)) word)
+  pub first-ln0 : wordOf (streams (shapeOf f)) word lineStart 0 ≡ ln0 (nextLine (streams (shapeOf f)) word)
   first-ln0 = sym (named-ln0 _ _ _ next-named)
 
-  pub first-ln1 : wordOf (streams (shapeOf f)) word 1929 0 ≡ ln1 (nextLine (streams (shapeOf f)) word)
+  pub first-ln1 : wordOf (streams (shapeOf f)) word (lineStart + 1) 0 ≡ ln1 (nextLine (streams (shapeOf f)) word)
   first-ln1 = sym (named-ln1 _ _ _ next-named)
 
   -- that line follows the one read
@@ -98,13 +99,13 @@ module _ (f : Format) (word : ℕ → ℕ) (m : Meets f word) (l : 0 < streams (
 
   -- 26: after all words of the streams is fill
   pub fill-told :
-      (k : ℕ) → streams (shapeOf f) * (1932 + shapeOf f .ancillary) ≤ k → k < 2 * pairsIn (shapeOf f) → word k ≡ fillWord
+      (k : ℕ) → streams (shapeOf f) * (ancillaryStart + shapeOf f .ancillary) ≤ k → k < 2 * pairsIn (shapeOf f) → word k ≡ fillWord
   unfolding holds26
   fill-told k from h =
       let s = streams (shapeOf f) in
-      let past : 1932 + shapeOf f .ancillary ≤ k / s = le-div-iff-mul-le l .1 (omega arith) in
+      let past : ancillaryStart + shapeOf f .ancillary ≤ k / s = le-div-iff-mul-le l .1 (omega arith) in
       rw (place-again s l k)
-      at (eqb-true (word (s * (k / s) + k % s)) fillWord (rw (le-ltb (k / s) (1932 + shapeOf f .ancillary) past) at (m .fill k h)))
+      at (eqb-true (word (s * (k / s) + k % s)) fillWord (rw (le-ltb (k / s) (ancillaryStart + shapeOf f .ancillary) past) at (m .fill k h)))
 
 -- ---- 22 to 25 at stream t
 
@@ -132,62 +133,62 @@ module _ (f : Format) (word : ℕ → ℕ) (m : Meets f word) (t : ℕ) (l : t <
   is-next = sym (next-follows f word m (omega arith))
 
   -- the line number
-  pub ln0-told : at 1928 ≡ ln0 next
+  pub ln0-told : at lineStart ≡ ln0 next
   unfolding holds22 within
   ln0-told =
-      on-test (eqb t 0) (λ z. ap (λ (u : ℕ). wordOf s word 1928 u) (eqb-true t 0 z))
-      (λ z. eqb-true (at 1928) (wordOf s word 1928 0) (rw z at (held f t l (holds22 s word) (m .lineNumber) 1928 (omega arith))))
+      on-test (eqb t 0) (λ z. ap (λ (u : ℕ). wordOf s word lineStart u) (eqb-true t 0 z))
+      (λ z. eqb-true (at lineStart) (wordOf s word lineStart 0) (rw z at (held f t l (holds22 s word) (m .lineNumber) lineStart (omega arith))))
       ∙ first-ln0 f word m (omega arith) ∙ ap ln0 is-next
 
-  pub ln1-told : at 1929 ≡ ln1 next
+  pub ln1-told : at (lineStart + 1) ≡ ln1 next
   unfolding holds22 within
   ln1-told =
-      eqb-true (at 1929) (wordOf s word 1929 0) (held f t l (holds22 s word) (m .lineNumber) 1929 (omega arith))
+      eqb-true (at (lineStart + 1)) (wordOf s word (lineStart + 1) 0) (held f t l (holds22 s word) (m .lineNumber) (lineStart + 1) (omega arith))
       ∙ first-ln1 f word m (omega arith) ∙ ap ln1 is-next
 
   -- V of XYZ
-  sav-v : same (vIn (at 3)) (vOf (lineRead s word)) ≡ true
+  sav-v : same (vIn (at savXyz)) (vOf (lineRead s word)) ≡ true
   unfolding holds23
   sav-v = held f t l (holds23 s word) (m .v) 3 (omega arith)
 
-  eav-v : same (vIn (at 1927)) (vOf next) ≡ true
+  eav-v : same (vIn (at eavXyz)) (vOf next) ≡ true
   unfolding holds23
   eav-v =
-      let told : same (vIn (at 1927)) (vOf (nextLine s word)) ≡ true = held f t l (holds23 s word) (m .v) 1927 (omega arith) in
+      let told : same (vIn (at eavXyz)) (vOf (nextLine s word)) ≡ true = held f t l (holds23 s word) (m .v) eavXyz (omega arith) in
       rw is-next at told
 
   -- XYZ, repaired
-  pub eav-repaired : repaired (at 1927) ≡ timing (vOf next) true
-  eav-repaired = repaired-is (at 1927) (vOf next) true (eav-told f word t l (m .timing) .3) eav-v
+  pub eav-repaired : repaired (at eavXyz) ≡ timing (vOf next) true
+  eav-repaired = repaired-is (at eavXyz) (vOf next) true (eav-told f word t l (m .timing) .3) eav-v
 
   -- XYZ, where no bit is wrong
   module _ (small : (k : ℕ) → word k < 4096) (none-wrong : repairCount s word ≡ 0) where
-    right : wrongBits (at 3) + wrongBits (at 1927) ≡ 0
+    right : wrongBits (at savXyz) + wrongBits (at eavXyz) ≡ 0
     unfolding repairCount
-    right = parts-zero s (λ t. wrongBits (wordOf s word 3 t) + wrongBits (wordOf s word 1927 t)) none-wrong t l
+    right = parts-zero s (λ t. wrongBits (wordOf s word savXyz t) + wrongBits (wordOf s word eavXyz t)) none-wrong t l
 
-    pub sav-xyz : at 3 ≡ timing (vOf (lineRead s word)) false
+    pub sav-xyz : at savXyz ≡ timing (vOf (lineRead s word)) false
     sav-xyz =
-        whole-timing (at 3) (vOf (lineRead s word)) false (sav-told f word t l (m .timing) .3) sav-v (small (s * 3 + t)) (omega (arith, right))
+        whole-timing (at savXyz) (vOf (lineRead s word)) false (sav-told f word t l (m .timing) .3) sav-v (small (s * savXyz + t)) (omega (arith, right))
 
-    pub eav-xyz : at 1927 ≡ timing (vOf next) true
+    pub eav-xyz : at eavXyz ≡ timing (vOf next) true
     eav-xyz =
-        whole-timing (at 1927) (vOf next) true (eav-told f word t l (m .timing) .3) eav-v (small (s * 1927 + t)) (omega (arith, right))
+        whole-timing (at eavXyz) (vOf next) true (eav-told f word t l (m .timing) .3) eav-v (small (s * eavXyz + t)) (omega (arith, right))
 
   -- the CRCC
-  pub crcc0-told : at 1930 ≡ crccWords (registerOf s word t) .crcc0
+  pub crcc0-told : at crccStart ≡ crccWords (registerOf s word t) .crcc0
   unfolding holds24
   crcc0-told =
-      eqb-true (at 1930) (crccWords (registerOf s word t) .crcc0) (held f t l (holds24 s word) (m .crcc) 1930 (omega arith))
+      eqb-true (at crccStart) (crccWords (registerOf s word t) .crcc0) (held f t l (holds24 s word) (m .crcc) crccStart (omega arith))
 
-  pub crcc1-told : at 1931 ≡ crccWords (registerOf s word t) .crcc1
+  pub crcc1-told : at (crccStart + 1) ≡ crccWords (registerOf s word t) .crcc1
   unfolding holds24
   crcc1-told =
-      eqb-true (at 1931) (crccWords (registerOf s word t) .crcc1) (held f t l (holds24 s word) (m .crcc) 1931 (omega arith))
+      eqb-true (at (crccStart + 1)) (crccWords (registerOf s word t) .crcc1) (held f t l (holds24 s word) (m .crcc) (crccStart + 1) (omega arith))
 
   -- the picture
-  pub picture-told : (i : ℕ) → i < 1920 → mayBring f (lineRead s word) t (at (4 + i)) ≡ true
+  pub picture-told : (i : ℕ) → i < 1920 → mayBring f (lineRead s word) t (at (pictureStart + i)) ≡ true
   unfolding holds25
   picture-told i h =
-      rw (is-within 4 1923 (4 + i) (omega arith) (omega arith))
-      at (held f t l (holds25 s word f) (m .picture) (4 + i) (omega arith))
+      rw (is-within pictureStart (eavStart - 1) (pictureStart + i) (omega arith) (omega arith))
+      at (held f t l (holds25 s word f) (m .picture) (pictureStart + i) (omega arith))

@@ -10,6 +10,7 @@ use borrow.Author.Tests.{ltb-true, ltb-false}
 use Rattle.ground.proofs.Cases.{on-test}
 use Rattle.span.specs.declared.format.Shape.{Shape}
 use Rattle.span.specs.Format.{streams, pairsIn}
+use Rattle.span.specs.Layout.{ancillaryStart}
 use Rattle.span.proofs.Places.{inside}
 use Rattle.window.specs.Read.{placed}
 
@@ -44,8 +45,8 @@ module _ (s : ℕ) (some : 1 ≤ s) where
     at-place f k h = f (k / s) (k % s) (stream-below k) (rw (place-again k) h)
 
 -- a word of a stream stands in the span
-pub in-span : (p : Shape) (j t : ℕ) → j < 1932 + p .ancillary → t < streams p → streams p * j + t < 2 * pairsIn p
-in-span p j t h l = omega (arith, inside (streams p) (1932 + p .ancillary) j t h l)
+pub in-span : (p : Shape) (j t : ℕ) → j < ancillaryStart + p .ancillary → t < streams p → streams p * j + t < 2 * pairsIn p
+in-span p j t h l = omega (arith, inside (streams p) (ancillaryStart + p .ancillary) j t h l)
 
 -- ---- the first four of SAV and EAV
 

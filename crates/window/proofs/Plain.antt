@@ -11,6 +11,7 @@ use borrow.Author.Tests.{ltb-true, ltb-false}
 use Rattle.ground.proofs.Cases.{on-test}
 use Rattle.span.specs.declared.format.Shape.{Shape}
 use Rattle.span.specs.Format.{streams, eavAt}
+use Rattle.span.specs.Layout.{pictureStart, eavStart, lineStart}
 use Rattle.packing.specs.declared.bytes.TwoWords.{TwoWords}
 use Rattle.packing.specs.Bytes.{unpacked}
 use Rattle.window.specs.Scan.{byteOf, symbolAt}
@@ -34,20 +35,20 @@ pub record Behind (p : Shape) (q : ℕ) : Type 0 where
 
 -- word j of streams 2u and 2u + 1, where it is none of a timing code
 module _ (p : Shape) (j u : ℕ) (h : u < p .«stream_pairs») where
-  pub in-pair : 4 ≤ j → (1924 ≤ j → 1928 ≤ j) → Behind p (p .«stream_pairs» * j + u)
+  pub in-pair : pictureStart ≤ j → (eavStart ≤ j → lineStart ≤ j) → Behind p (p .«stream_pairs» * j + u)
   in-pair behind apart =
       let m : p .«stream_pairs» * 4 ≤ p .«stream_pairs» * j = mul-le-mul-left (p .«stream_pairs») behind in
-      record { sav = omega arith; eav = λ a. on-test (ltb j 1924) (before a) after }
+      record { sav = omega arith; eav = λ a. on-test (ltb j eavStart) (before a) after }
     where
-      before : eavAt p ≤ 3 * (p .«stream_pairs» * j + u) + 2 → ltb j 1924 ≡ true → eavAt p + 4 ≤ 3 * (p .«stream_pairs» * j + u)
+      before : eavAt p ≤ 3 * (p .«stream_pairs» * j + u) + 2 → ltb j eavStart ≡ true → eavAt p + 4 ≤ 3 * (p .«stream_pairs» * j + u)
       before a t =
-          let b : j ≤ 1923 = omega (arith, ltb-true j 1924 t) in
+          let b : j ≤ 1923 = omega (arith, ltb-true j eavStart t) in
           let m : p .«stream_pairs» * j ≤ p .«stream_pairs» * 1923 = mul-le-mul-left (p .«stream_pairs») b in
           omega arith
 
-      after : ltb j 1924 ≡ false → eavAt p + 4 ≤ 3 * (p .«stream_pairs» * j + u)
+      after : ltb j eavStart ≡ false → eavAt p + 4 ≤ 3 * (p .«stream_pairs» * j + u)
       after t =
-          let m : p .«stream_pairs» * 1928 ≤ p .«stream_pairs» * j = mul-le-mul-left (p .«stream_pairs») (apart (ltb-false j 1924 t)) in
+          let m : p .«stream_pairs» * lineStart ≤ p .«stream_pairs» * j = mul-le-mul-left (p .«stream_pairs») (apart (ltb-false j eavStart t)) in
           omega arith
 
 -- ---- what they are

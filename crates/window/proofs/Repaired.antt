@@ -29,6 +29,7 @@ use Rattle.span.specs.Format.{shapeOf, streams, pairsIn}
 use Rattle.span.specs.Sample.{sampleWord}
 use Rattle.span.specs.Span.{spanWords, fillWord}
 use Rattle.span.specs.Stream.{Request, picture, register}
+use Rattle.span.specs.Layout.{pictureStart, eavStart, lineStart, crccStart, ancillaryStart, savXyz, eavXyz}
 use Rattle.span.proofs.Lengths.{known-has-streams}
 use Rattle.span.proofs.Places.{wordAt as sentAt, fill-word, sav-words, picture-word, eav-words, line-number-words, crcc-words}
 use Rattle.window.specs.Encoded.{wordIn, Meets, IsXyz, Disturbed, wrongAt}
@@ -48,12 +49,12 @@ module _ (f : Format) (a : Request) (word : ℕ → ℕ) (t : ℕ) (l : t < stre
 
   -- a word that is not an XYZ is as sent, and an XYZ is near the one sent
   abbrev Kept : ℕ → Type 0
-  Kept j = (j ≡ 3 → ⊥) → (j ≡ 1927 → ⊥) → word (st * j + t) ≡ sentAt f a j t
+  Kept j = (j ≡ savXyz → ⊥) → (j ≡ eavXyz → ⊥) → word (st * j + t) ≡ sentAt f a j t
 
   abbrev Near : ℕ → Type 0
   Near j = IsXyz j → distance (word (st * j + t)) (sentAt f a j t) ≤ 1
 
-  kept-holds : (j x : ℕ) → (j ≡ 3 → ⊥) → (j ≡ 1927 → ⊥) → sentAt f a j t ≡ x → Kept j → eqb (word (st * j + t)) x ≡ true
+  kept-holds : (j x : ℕ) → (j ≡ savXyz → ⊥) → (j ≡ eavXyz → ⊥) → sentAt f a j t ≡ x → Kept j → eqb (word (st * j + t)) x ≡ true
   kept-holds j x p q e kept = eq-eqb (word (st * j + t)) x (kept p q ∙ e)
 
   pub timing-holds : (j : ℕ) → Kept j → Near j → holds21 st word j t ≡ true
@@ -61,18 +62,18 @@ module _ (f : Format) (a : Request) (word : ℕ → ℕ) (t : ℕ) (l : t < stre
   timing-holds =
       let sav = sav-words f a t l in
       let eav = eav-words f a t l in
-      each-place 1924
+      each-place eavStart
       (four (λ j. Kept j → Near j → holds21 st word j t ≡ true)
       (λ kept near. kept-holds 0 0xFFF (λ e. omega arith) (λ e. omega arith) (sav .0) kept)
       (λ kept near. kept-holds 1 0x000 (λ e. omega arith) (λ e. omega arith) (sav .1) kept)
       (λ kept near. kept-holds 2 0x000 (λ e. omega arith) (λ e. omega arith) (sav .2) kept)
-      (λ kept near. near-h (word (st * 3 + t)) (vOf (a .line)) false (rw (sav .3) at (near (inl refl)))))
-      (four (λ i. Kept (1924 + i) → Near (1924 + i) → holds21 st word (1924 + i) t ≡ true)
-      (λ kept near. kept-holds 1924 0xFFF (λ e. omega arith) (λ e. omega arith) (eav .0) kept)
-      (λ kept near. kept-holds 1925 0x000 (λ e. omega arith) (λ e. omega arith) (eav .1) kept)
-      (λ kept near. kept-holds 1926 0x000 (λ e. omega arith) (λ e. omega arith) (eav .2) kept)
-      (λ kept near. near-h (word (st * 1927 + t)) (vOf (lineAfter (a .line))) true (rw (eav .3) at (near (inr refl)))))
-      (λ j past q kept near. simp (le-ltb j 4 past, not-within 1924 1927 j (λ x y. omega (arith, q x))))
+      (λ kept near. near-h (word (st * savXyz + t)) (vOf (a .line)) false (rw (sav .3) at (near (inl refl)))))
+      (four (λ i. Kept (eavStart + i) → Near (eavStart + i) → holds21 st word (eavStart + i) t ≡ true)
+      (λ kept near. kept-holds eavStart 0xFFF (λ e. omega arith) (λ e. omega arith) (eav .0) kept)
+      (λ kept near. kept-holds (eavStart + 1) 0x000 (λ e. omega arith) (λ e. omega arith) (eav .1) kept)
+      (λ kept near. kept-holds (eavStart + 2) 0x000 (λ e. omega arith) (λ e. omega arith) (eav .2) kept)
+      (λ kept near. near-h (word (st * eavXyz + t)) (vOf (lineAfter (a .line))) true (rw (eav .3) at (near (inr refl)))))
+      (λ j past q kept near. simp (le-ltb j pictureStart past, not-within eavStart eavXyz j (λ x y. omega (arith, q x))))
 
 -- ---- all words
 
@@ -103,13 +104,13 @@ module _ (f : Format) (a : Request) (good : Sendable f a) (words : List ℕ) (di
 
   module _ (j t : ℕ) (l : t < s) where
     -- word j of stream t is as sent, if it is not an XYZ
-    pub as-sent : s * j + t < n → (j ≡ 3 → ⊥) → (j ≡ 1927 → ⊥) → word (s * j + t) ≡ sentAt f a j t
+    pub as-sent : s * j + t < n → (j ≡ savXyz → ⊥) → (j ≡ eavXyz → ⊥) → word (s * j + t) ≡ sentAt f a j t
     as-sent h x y =
         let e = word-of-place s has-streams j t l in
         disturbed .same (s * j + t) h (λ q. x (sym e ∙ q)) (λ q. y (sym e ∙ q))
 
     -- so are those before the ancillary area
-    early : j < 1932 → (j ≡ 3 → ⊥) → (j ≡ 1927 → ⊥) → word (s * j + t) ≡ sentAt f a j t
+    early : j < ancillaryStart → (j ≡ savXyz → ⊥) → (j ≡ eavXyz → ⊥) → word (s * j + t) ≡ sentAt f a j t
     early h = as-sent (in-span (shapeOf f) j t (omega arith) l)
 
     -- it is an XYZ at its place
@@ -126,12 +127,12 @@ module _ (f : Format) (a : Request) (good : Sendable f a) (words : List ℕ) (di
           early 2 t l (omega arith) (λ e. omega arith) (λ e. omega arith) ∙ sent .2,
         )
 
-    is-eav : (word (s * 1924 + t) ≡ 0xFFF) × (word (s * 1925 + t) ≡ 0x000) × (word (s * 1926 + t) ≡ 0x000)
+    is-eav : (word (s * eavStart + t) ≡ 0xFFF) × (word (s * (eavStart + 1) + t) ≡ 0x000) × (word (s * (eavStart + 2) + t) ≡ 0x000)
     is-eav =
         let sent = eav-words f a t l in (
-          early 1924 t l (omega arith) (λ e. omega arith) (λ e. omega arith) ∙ sent .0,
-          early 1925 t l (omega arith) (λ e. omega arith) (λ e. omega arith) ∙ sent .1,
-          early 1926 t l (omega arith) (λ e. omega arith) (λ e. omega arith) ∙ sent .2,
+          early eavStart t l (omega arith) (λ e. omega arith) (λ e. omega arith) ∙ sent .0,
+          early (eavStart + 1) t l (omega arith) (λ e. omega arith) (λ e. omega arith) ∙ sent .1,
+          early (eavStart + 2) t l (omega arith) (λ e. omega arith) (λ e. omega arith) ∙ sent .2,
         )
 
   -- so the replaced bytes are known
@@ -148,31 +149,31 @@ module _ (f : Format) (a : Request) (good : Sendable f a) (words : List ℕ) (di
     next = lineAfter (a .line)
 
     -- by word and stream
-    near-at : (j t : ℕ) → t < s → j < 1932 → IsXyz j → distance (word (s * j + t)) (sentAt f a j t) ≤ 1
+    near-at : (j t : ℕ) → t < s → j < ancillaryStart → IsXyz j → distance (word (s * j + t)) (sentAt f a j t) ≤ 1
     near-at j t l h x = near (s * j + t) (in-span (shapeOf f) j t (omega arith) l) (is-xyz j t l x)
 
     module _ (t : ℕ) (l : t < s) where
-      sav-near : distance (word (s * 3 + t)) (timing (vOf (a .line)) false) ≤ 1
+      sav-near : distance (word (s * savXyz + t)) (timing (vOf (a .line)) false) ≤ 1
       sav-near = rw (sav-words f a t l .3) at (near-at 3 t l (omega arith) (inl refl))
 
-      eav-near : distance (word (s * 1927 + t)) (timing (vOf next) true) ≤ 1
-      eav-near = rw (eav-words f a t l .3) at (near-at 1927 t l (omega arith) (inr refl))
+      eav-near : distance (word (s * eavXyz + t)) (timing (vOf next) true) ≤ 1
+      eav-near = rw (eav-words f a t l .3) at (near-at eavXyz t l (omega arith) (inr refl))
 
       -- the line's number
-      is-ln0 : word (s * 1928 + t) ≡ ln0 next
-      is-ln0 = early 1928 t l (omega arith) (λ e. omega arith) (λ e. omega arith) ∙ line-number-words f a t l .0
+      is-ln0 : word (s * lineStart + t) ≡ ln0 next
+      is-ln0 = early lineStart t l (omega arith) (λ e. omega arith) (λ e. omega arith) ∙ line-number-words f a t l .0
 
-      is-ln1 : word (s * 1929 + t) ≡ ln1 next
-      is-ln1 = early 1929 t l (omega arith) (λ e. omega arith) (λ e. omega arith) ∙ line-number-words f a t l .1
+      is-ln1 : word (s * (lineStart + 1) + t) ≡ ln1 next
+      is-ln1 = early (lineStart + 1) t l (omega arith) (λ e. omega arith) (λ e. omega arith) ∙ line-number-words f a t l .1
 
       -- the picture
-      is-picture : (i : ℕ) → i < 1920 → word (s * (4 + i) + t) ≡ sampleWord f (a .line) t (getD (a .samples) (1920 * t + i) 0)
-      is-picture i h = early (4 + i) t l (omega arith) (λ e. omega arith) (λ e. omega arith) ∙ picture-word f a t l i h
+      is-picture : (i : ℕ) → i < 1920 → word (s * (pictureStart + i) + t) ≡ sampleWord f (a .line) t (getD (a .samples) (1920 * t + i) 0)
+      is-picture i h = early (pictureStart + i) t l (omega arith) (λ e. omega arith) (λ e. omega arith) ∙ picture-word f a t l i h
 
       -- so the register is that of what was sent
       same-register : registerOf s word t ≡ register f a t
       same-register =
-          register-is f a word t is-picture (is-eav t l) (near-repaired (word (s * 1927 + t)) (vOf next) true eav-near) (is-ln0, is-ln1)
+          register-is f a word t is-picture (is-eav t l) (near-repaired (word (s * eavXyz + t)) (vOf next) true eav-near) (is-ln0, is-ln1)
 
     -- the line named
     named-is : named s word ≡ some next
@@ -196,82 +197,82 @@ module _ (f : Format) (a : Request) (good : Sendable f a) (words : List ℕ) (di
     -- the picture words are those sent
     pub near-rows : rows s word ≡ upto s (picture f a)
     unfolding rows
-    near-rows = upto-same s (column s word 4 1920) (picture f a) (λ t l. picture-column f a word t (is-picture t l))
+    near-rows = upto-same s (column s word pictureStart 1920) (picture f a) (λ t l. picture-column f a word t (is-picture t l))
 
     -- each wrong bit is counted
     pub near-repairs :
         repairCount s word
-        ≡ sumOf s (λ t. wrongAt f a words (s * 3 + t) + wrongAt f a words (s * 1927 + t))
+        ≡ sumOf s (λ t. wrongAt f a words (s * savXyz + t) + wrongAt f a words (s * eavXyz + t))
     unfolding repairCount
     near-repairs =
-        sum-same s (λ t. wrongBits (word (s * 3 + t)) + wrongBits (word (s * 1927 + t)))
-        (λ t. wrongAt f a words (s * 3 + t) + wrongAt f a words (s * 1927 + t))
+        sum-same s (λ t. wrongBits (word (s * savXyz + t)) + wrongBits (word (s * eavXyz + t)))
+        (λ t. wrongAt f a words (s * savXyz + t) + wrongAt f a words (s * eavXyz + t))
         (λ t l.
         ap₂ (λ (x y : ℕ). x + y)
-        (near-wrong (word (s * 3 + t)) (vOf (a .line)) false (sav-near t l) ∙ ap (distance (word (s * 3 + t))) (sym (sav-words f a t l .3)))
-        (near-wrong (word (s * 1927 + t)) (vOf next) true (eav-near t l)
-        ∙ ap (distance (word (s * 1927 + t))) (sym (eav-words f a t l .3))))
+        (near-wrong (word (s * savXyz + t)) (vOf (a .line)) false (sav-near t l) ∙ ap (distance (word (s * savXyz + t))) (sym (sav-words f a t l .3)))
+        (near-wrong (word (s * eavXyz + t)) (vOf next) true (eav-near t l)
+        ∙ ap (distance (word (s * eavXyz + t))) (sym (eav-words f a t l .3))))
 
     -- ---- tests 22 to 26
     module _ (t : ℕ) (l : t < s) where
       -- 22: every stream has the words of stream 1
-      same-ln0 : holds22 s word 1928 t ≡ true
+      same-ln0 : holds22 s word lineStart t ≡ true
       unfolding holds22 within
       same-ln0 =
           on-test (eqb t 0) (λ u. simp (u, named-is))
           (λ u. simp (u, is-ln0 t l, is-ln0 0 has-streams, eq-eqb (ln0 next) (ln0 next) refl))
 
-      same-ln1 : holds22 s word 1929 t ≡ true
+      same-ln1 : holds22 s word (lineStart + 1) t ≡ true
       unfolding holds22 within
-      same-ln1 = eq-eqb (word (s * 1929 + t)) (word (s * 1929 + 0)) (is-ln1 t l ∙ sym (is-ln1 0 has-streams))
+      same-ln1 = eq-eqb (word (s * (lineStart + 1) + t)) (word (s * (lineStart + 1) + 0)) (is-ln1 t l ∙ sym (is-ln1 0 has-streams))
 
       line-number-holds : (j : ℕ) → holds22 s word j t ≡ true
       unfolding holds22
       line-number-holds =
-          each-of-two 1928 1929 same-ln0 same-ln1
-          (λ j x y. simp (not-within 1928 1929 j (λ p q. x (omega arith))))
+          each-of-two lineStart (lineStart + 1) same-ln0 same-ln1
+          (λ j x y. simp (not-within lineStart (lineStart + 1) j (λ p q. x (omega arith))))
 
       -- 23: V is that of the line, and that of the line named
-      v-of-sav : holds23 s word 3 t ≡ true
+      v-of-sav : holds23 s word savXyz t ≡ true
       unfolding holds23
       v-of-sav =
-          same-test (vIn (word (s * 3 + t))) (vOf (lineRead s word))
-          (near-v (word (s * 3 + t)) (vOf (a .line)) false (sav-near t l) ∙ ap vOf (sym near-line))
+          same-test (vIn (word (s * savXyz + t))) (vOf (lineRead s word))
+          (near-v (word (s * savXyz + t)) (vOf (a .line)) false (sav-near t l) ∙ ap vOf (sym near-line))
 
-      v-of-eav : holds23 s word 1927 t ≡ true
+      v-of-eav : holds23 s word eavXyz t ≡ true
       unfolding holds23
       v-of-eav =
-          same-test (vIn (word (s * 1927 + t))) (vOf (nextLine s word))
-          (near-v (word (s * 1927 + t)) (vOf next) true (eav-near t l) ∙ ap vOf (sym next-is))
+          same-test (vIn (word (s * eavXyz + t))) (vOf (nextLine s word))
+          (near-v (word (s * eavXyz + t)) (vOf next) true (eav-near t l) ∙ ap vOf (sym next-is))
 
       v-holds : (j : ℕ) → holds23 s word j t ≡ true
       unfolding holds23
-      v-holds = each-of-two 3 1927 v-of-sav v-of-eav (λ j x y. simp (ne-eqb j 3 x, ne-eqb j 1927 y))
+      v-holds = each-of-two savXyz eavXyz v-of-sav v-of-eav (λ j x y. simp (ne-eqb j savXyz x, ne-eqb j eavXyz y))
 
       -- 24: the CRCC
-      crcc0-holds : holds24 s word 1930 t ≡ true
+      crcc0-holds : holds24 s word crccStart t ≡ true
       unfolding holds24
       crcc0-holds =
-          eq-eqb (word (s * 1930 + t)) (crccWords (registerOf s word t) .crcc0)
-          (early 1930 t l (omega arith) (λ e. omega arith) (λ e. omega arith)
+          eq-eqb (word (s * crccStart + t)) (crccWords (registerOf s word t) .crcc0)
+          (early crccStart t l (omega arith) (λ e. omega arith) (λ e. omega arith)
           ∙ crcc-words f a t l .0 ∙ ap (λ (r : ℕ). crccWords r .crcc0) (sym (same-register t l)))
 
-      crcc1-holds : holds24 s word 1931 t ≡ true
+      crcc1-holds : holds24 s word (crccStart + 1) t ≡ true
       unfolding holds24
       crcc1-holds =
-          eq-eqb (word (s * 1931 + t)) (crccWords (registerOf s word t) .crcc1)
-          (early 1931 t l (omega arith) (λ e. omega arith) (λ e. omega arith)
+          eq-eqb (word (s * (crccStart + 1) + t)) (crccWords (registerOf s word t) .crcc1)
+          (early (crccStart + 1) t l (omega arith) (λ e. omega arith) (λ e. omega arith)
           ∙ crcc-words f a t l .1 ∙ ap (λ (r : ℕ). crccWords r .crcc1) (sym (same-register t l)))
 
       crcc-holds : (j : ℕ) → holds24 s word j t ≡ true
       unfolding holds24
-      crcc-holds = each-of-two 1930 1931 crcc0-holds crcc1-holds (λ j x y. simp (ne-eqb j 1930 x, ne-eqb j 1931 y))
+      crcc-holds = each-of-two crccStart (crccStart + 1) crcc0-holds crcc1-holds (λ j x y. simp (ne-eqb j crccStart x, ne-eqb j (crccStart + 1) y))
 
       -- 25: the picture
       picture-holds : (j : ℕ) → holds25 s word f j t ≡ true
       unfolding holds25
       picture-holds j =
-          on-test (within 4 1923 j)
+          on-test (within pictureStart (eavStart - 1) j)
           (λ u.
           let i = j - 4 in
           let e : j ≡ 4 + i = omega (arith, from-low _ _ _ u) in
@@ -285,12 +286,12 @@ module _ (f : Format) (a : Request) (good : Sendable f a) (words : List ℕ) (di
       fill-holds : (j : ℕ) → s * j + t < n → holds26 s word f j t ≡ true
       unfolding holds26
       fill-holds j h =
-          on-test (ltb j (1932 + shapeOf f .ancillary)) (λ u. simp u)
+          on-test (ltb j (ancillaryStart + shapeOf f .ancillary)) (λ u. simp u)
           (λ u.
-          let past : 1932 + shapeOf f .ancillary ≤ j = ltb-false j (1932 + shapeOf f .ancillary) u in
-          let from : s * (1932 + shapeOf f .ancillary) ≤ s * j = mul-le-mul-left s past in
-          let i = s * j + t - s * (1932 + shapeOf f .ancillary) in
-          let e : s * j + t ≡ s * (1932 + shapeOf f .ancillary) + i = omega arith in
+          let past : ancillaryStart + shapeOf f .ancillary ≤ j = ltb-false j (ancillaryStart + shapeOf f .ancillary) u in
+          let from : s * (ancillaryStart + shapeOf f .ancillary) ≤ s * j = mul-le-mul-left s past in
+          let i = s * j + t - s * (ancillaryStart + shapeOf f .ancillary) in
+          let e : s * j + t ≡ s * (ancillaryStart + shapeOf f .ancillary) + i = omega arith in
           let filled : word (s * j + t) ≡ fillWord =
           as-sent j t l h (λ x. omega arith) (λ x. omega arith)
           ∙ ap (λ (k : ℕ). getD (spanWords f a) k 0) e ∙ fill-word f a i (omega arith) in

@@ -16,6 +16,7 @@ use Rattle.span.specs.Content.{contentOf}
 use Rattle.span.specs.Format.{shapeOf, streams}
 use Rattle.span.specs.Span.{wordsFromSav, wordsFromEav, spanWords, charsFromSav, charsFromEav, spanChars, spanSymbols, spanAfter}
 use Rattle.span.specs.Stream.{Request, picture}
+use Rattle.span.specs.Layout.{eavStart, savXyz, eavXyz}
 use Rattle.span.proofs.Lengths.{length-words-sav, length-words}
 use Rattle.window.specs.Encoded.{charsOf, Encodes, wordIn, Meets, Disturbed, wrongAt}
 use Rattle.window.specs.Read.{pictureOf, readSpan, repairsOf}
@@ -45,17 +46,17 @@ module _ (f : Format) (a : Request) where
   pub sent-chars : spanChars f a ≡ charsOf (shapeOf f) content words
   unfolding spanChars charsFromSav charsFromEav charsOf spanWords
   sent-chars =
-      let long : length (wordsFromSav f a) ≡ 1924 * s = length-words-sav f a ∙ omega arith in
-      rw (take-at (wordsFromSav f a) (wordsFromEav f a) (1924 * s) long, drop-at (wordsFromSav f a) (wordsFromEav f a) (1924 * s) long)
+      let long : length (wordsFromSav f a) ≡ eavStart * s = length-words-sav f a ∙ omega arith in
+      rw (take-at (wordsFromSav f a) (wordsFromEav f a) (eavStart * s) long, drop-at (wordsFromSav f a) (wordsFromEav f a) (eavStart * s) long)
 
   -- no bit is wrong
   right-at : (k : ℕ) → wrongAt f a words k ≡ 0
   right-at k = no-distance (wordIn words k)
 
-  none-wrong : sumOf s (λ t. wrongAt f a words (s * 3 + t) + wrongAt f a words (s * 1927 + t)) ≡ 0
+  none-wrong : sumOf s (λ t. wrongAt f a words (s * savXyz + t) + wrongAt f a words (s * eavXyz + t)) ≡ 0
   none-wrong =
-      zero-sum s (λ t. wrongAt f a words (s * 3 + t) + wrongAt f a words (s * 1927 + t))
-      (λ t. omega (arith, right-at (s * 3 + t), right-at (s * 1927 + t)))
+      zero-sum s (λ t. wrongAt f a words (s * savXyz + t) + wrongAt f a words (s * eavXyz + t))
+      (λ t. omega (arith, right-at (s * savXyz + t), right-at (s * eavXyz + t)))
 
   -- its words are those of a span that is sent, XYZ and all
   as-sent : Sendable f a → Disturbed f a words

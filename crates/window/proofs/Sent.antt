@@ -25,6 +25,7 @@ use Rattle.span.specs.Format.{shapeOf, streams}
 use Rattle.span.specs.Sample.{blankWord, allowed, sampleWord}
 use Rattle.span.specs.Span.{across, interleaved, fillWord, wordsFromSav, wordsFromEav, spanWords}
 use Rattle.span.specs.Stream.{Request, sav, picture, eav, lineNumber, crcc, register, ancillary, fromSav, fromEav}
+use Rattle.span.specs.Layout.{pictureStart, eavStart, lineStart, eavXyz}
 use Rattle.span.proofs.Formats.{Known, known-told}
 use Rattle.span.proofs.Samples.{word-is, word-below}
 use Rattle.window.specs.Encoded.{wordIn}
@@ -130,7 +131,7 @@ module _ (f : Format) (a : Request) (good : Sendable f a) where
   unfolding spanWords wordsFromSav wordsFromEav
   sent-twelve-bits =
       both-twelve (wordsFromSav f a) (wordsFromEav f a)
-      (interleaved-twelve s 1924 (fromSav f a) from-sav-twelve)
+      (interleaved-twelve s eavStart (fromSav f a) from-sav-twelve)
       (both-twelve (interleaved s (8 + shapeOf f .ancillary) (fromEav f a)) (replicate (2 * shapeOf f .«fill_pairs») fillWord)
       (interleaved-twelve s (8 + shapeOf f .ancillary) (fromEav f a) from-eav-twelve)
       (again-twelve (2 * shapeOf f .«fill_pairs») fillWord (omega arith)))
@@ -161,24 +162,24 @@ module _ (f : Format) (a : Request) (word : ℕ → ℕ) (t : ℕ) where
   abbrev next : ℕ
   next = lineAfter (a .line)
 
-  module _ (brought : (i : ℕ) → i < 1920 → at (4 + i) ≡ sampleWord f (a .line) t (getD (a .samples) (1920 * t + i) 0)) where
+  module _ (brought : (i : ℕ) → i < 1920 → at (pictureStart + i) ≡ sampleWord f (a .line) t (getD (a .samples) (1920 * t + i) 0)) where
     -- its picture
-    pub picture-column : column (streams (shapeOf f)) word 4 1920 t ≡ picture f a t
+    pub picture-column : column (streams (shapeOf f)) word pictureStart 1920 t ≡ picture f a t
     unfolding picture
-    picture-column = table-same 1920 (λ i. at (4 + i)) (λ i. sampleWord f (a .line) t (getD (a .samples) (1920 * t + i) 0)) brought
+    picture-column = table-same 1920 (λ i. at (pictureStart + i)) (λ i. sampleWord f (a .line) t (getD (a .samples) (1920 * t + i) 0)) brought
 
     -- the register, over the picture, the EAV with its XYZ repaired, and the line number
     pub register-is :
-        (at 1924 ≡ 0xFFF) × (at 1925 ≡ 0x000) × (at 1926 ≡ 0x000)
-        → repaired (at 1927) ≡ timing (vOf next) true
-        → (at 1928 ≡ ln0 next) × (at 1929 ≡ ln1 next)
+        (at eavStart ≡ 0xFFF) × (at (eavStart + 1) ≡ 0x000) × (at (eavStart + 2) ≡ 0x000)
+        → repaired (at eavXyz) ≡ timing (vOf next) true
+        → (at lineStart ≡ ln0 next) × (at (lineStart + 1) ≡ ln1 next)
         → registerOf (streams (shapeOf f)) word t ≡ register f a t
     unfolding registerOf register
     register-is code xyz number =
-        let before : column (streams (shapeOf f)) word 1924 3 t ≡ 0xFFF ∷ 0x000 ∷ 0x000 ∷ [] =
-        three-entries (λ i. at (1924 + i)) ∙ rw (code .0, code .1, code .2) in
-        let behind : column (streams (shapeOf f)) word 1928 2 t ≡ lineNumber a =
-        two-entries (λ i. at (1928 + i)) ∙ rw (number .0, number .1) in
+        let before : column (streams (shapeOf f)) word eavStart 3 t ≡ 0xFFF ∷ 0x000 ∷ 0x000 ∷ [] =
+        three-entries (λ i. at (eavStart + i)) ∙ rw (code .0, code .1, code .2) in
+        let behind : column (streams (shapeOf f)) word lineStart 2 t ≡ lineNumber a =
+        two-entries (λ i. at (lineStart + i)) ∙ rw (number .0, number .1) in
         ap (crc 0)
         (ap₂ (λ (x y : List ℕ). x ++ y) picture-column
         (ap₂ (λ (x y : List ℕ). x ++ y) before (ap₂ (λ (x : ℕ) (l : List ℕ). x ∷ l) xyz behind)))

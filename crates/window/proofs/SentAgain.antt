@@ -21,6 +21,7 @@ use Rattle.span.specs.Format.{isKnown, shapeOf, streams, samplesIn, pairsIn, sy
 use Rattle.span.specs.Sample.{blankWord, allowed, sampleWord}
 use Rattle.span.specs.Span.{spanWords, spanSymbols}
 use Rattle.span.specs.Stream.{Request, register}
+use Rattle.span.specs.Layout.{pictureStart, eavStart, lineStart, ancillaryStart}
 use Rattle.span.proofs.Formats.{known-told}
 use Rattle.span.proofs.Lengths.{known-has-streams, length-words}
 use Rattle.span.proofs.Places.{sav-words, picture-word, eav-words, line-number-words, crcc-words, ancillary-blank, fill-word}
@@ -61,9 +62,9 @@ module _ (f : Format) (known : isKnown f ≡ true) (n t x : ℕ) (may : mayBring
 
 module _ (f : Format) (known : isKnown f ≡ true) (word : ℕ → ℕ) (small : (k : ℕ) → word k < 4096) (m : Meets f word)
     (none-wrong : repairCount (streams (shapeOf f)) word ≡ 0)
-    (blankAncillary : (j t : ℕ) → 1932 ≤ j → j < 1932 + shapeOf f .ancillary → t < streams (shapeOf f)
+    (blankAncillary : (j t : ℕ) → ancillaryStart ≤ j → j < ancillaryStart + shapeOf f .ancillary → t < streams (shapeOf f)
     → wordOf (streams (shapeOf f)) word j t ≡ blankWord f)
-    (blankLine : isActive (lineRead (streams (shapeOf f)) word) ≡ false → (j t : ℕ) → 4 ≤ j → j < 1924 → t < streams (shapeOf f)
+    (blankLine : isActive (lineRead (streams (shapeOf f)) word) ≡ false → (j t : ℕ) → pictureStart ≤ j → j < eavStart → t < streams (shapeOf f)
     → wordOf (streams (shapeOf f)) word j t ≡ 0x100)
     (c : ContentBytes) where
   abbrev s : ℕ
@@ -74,7 +75,7 @@ module _ (f : Format) (known : isKnown f ≡ true) (word : ℕ → ℕ) (small :
 
   -- sample i
   sample-at : (i : ℕ) → i < samplesIn (shapeOf f)
-      → getD (a .samples) i 0 ≡ sampleOf f (a .line) (wordOf s word (4 + i % 1920) (i / 1920))
+      → getD (a .samples) i 0 ≡ sampleOf f (a .line) (wordOf s word (pictureStart + i % 1920) (i / 1920))
   sample-at i h = getD-table (samplesIn (shapeOf f)) _ i 0 h
 
   -- words of stream t: as they are, and as they are sent
@@ -97,7 +98,7 @@ module _ (f : Format) (known : isKnown f ≡ true) (word : ℕ → ℕ) (small :
         (is .3 ∙ sym (sav-xyz f word m t l small none-wrong))
 
     -- the picture, sample by sample
-    sample-of : (i : ℕ) → i < 1920 → getD (a .samples) (1920 * t + i) 0 ≡ sampleOf f (a .line) (at (4 + i))
+    sample-of : (i : ℕ) → i < 1920 → getD (a .samples) (1920 * t + i) 0 ≡ sampleOf f (a .line) (at (pictureStart + i))
     sample-of i h =
         let q : (1920 * t + i) / 1920 ≡ t = omega arith in
         let r : (1920 * t + i) % 1920 ≡ i = omega arith in
@@ -105,16 +106,16 @@ module _ (f : Format) (known : isKnown f ≡ true) (word : ℕ → ℕ) (small :
 
     -- each is allowed, and its word is sent for it
     again : (i : ℕ) (h : i < 1920)
-        → (allowed f (a .line) t (sampleOf f (a .line) (at (4 + i))) ≡ true)
-        × (sampleWord f (a .line) t (sampleOf f (a .line) (at (4 + i))) ≡ at (4 + i))
+        → (allowed f (a .line) t (sampleOf f (a .line) (at (pictureStart + i))) ≡ true)
+        × (sampleWord f (a .line) t (sampleOf f (a .line) (at (pictureStart + i))) ≡ at (pictureStart + i))
     again i h =
-        sample-again f known (a .line) t (at (4 + i)) (picture-told f word m t l i h)
-        (λ b. blankLine b (4 + i) t (omega arith) (omega arith) l)
+        sample-again f known (a .line) t (at (pictureStart + i)) (picture-told f word m t l i h)
+        (λ b. blankLine b (pictureStart + i) t (omega arith) (omega arith) l)
 
-    sample-same : (i : ℕ) → i < 1920 → sampleWord f (a .line) t (getD (a .samples) (1920 * t + i) 0) ≡ at (4 + i)
+    sample-same : (i : ℕ) → i < 1920 → sampleWord f (a .line) t (getD (a .samples) (1920 * t + i) 0) ≡ at (pictureStart + i)
     sample-same i h = ap (sampleWord f (a .line) t) (sample-of i h) ∙ again i h .1
 
-    picture-same : (i : ℕ) → i < 1920 → sent (4 + i) ≡ at (4 + i)
+    picture-same : (i : ℕ) → i < 1920 → sent (pictureStart + i) ≡ at (pictureStart + i)
     picture-same i h = picture-word f a t l i h ∙ sample-same i h
 
     -- the register: over the same words
@@ -125,45 +126,45 @@ module _ (f : Format) (known : isKnown f ≡ true) (word : ℕ → ℕ) (small :
         (ln0-told f word m t l, ln1-told f word m t l)
 
     -- from the EAV to the CRCC
-    eav-same : (i : ℕ) → i < 4 → sent (1924 + i) ≡ at (1924 + i)
+    eav-same : (i : ℕ) → i < 4 → sent (eavStart + i) ≡ at (eavStart + i)
     eav-same =
         let is = eav-words f a t l in
         let told = eav-told f word t l (m .timing) in
-        four (λ i. sent (1924 + i) ≡ at (1924 + i))
+        four (λ i. sent (eavStart + i) ≡ at (eavStart + i))
         (is .0 ∙ sym (told .0))
         (is .1 ∙ sym (told .1))
         (is .2 ∙ sym (told .2))
         (is .3 ∙ sym (eav-xyz f word m t l small none-wrong))
 
-    number-same : (i : ℕ) → i < 4 → sent (1928 + i) ≡ at (1928 + i)
+    number-same : (i : ℕ) → i < 4 → sent (lineStart + i) ≡ at (lineStart + i)
     number-same =
-        four (λ i. sent (1928 + i) ≡ at (1928 + i))
+        four (λ i. sent (lineStart + i) ≡ at (lineStart + i))
         (line-number-words f a t l .0 ∙ sym (ln0-told f word m t l))
         (line-number-words f a t l .1 ∙ sym (ln1-told f word m t l))
         (crcc-words f a t l .0 ∙ ap (λ (r : ℕ). crccWords r .crcc0) (sym register-same) ∙ sym (crcc0-told f word m t l))
         (crcc-words f a t l .1 ∙ ap (λ (r : ℕ). crccWords r .crcc1) (sym register-same) ∙ sym (crcc1-told f word m t l))
 
     -- the ancillary area
-    ancillary-same : (i : ℕ) → i < shapeOf f .ancillary → sent (1932 + i) ≡ at (1932 + i)
+    ancillary-same : (i : ℕ) → i < shapeOf f .ancillary → sent (ancillaryStart + i) ≡ at (ancillaryStart + i)
     ancillary-same i h =
-        ancillary-blank f a t l i h ∙ sym (blankAncillary (1932 + i) t (omega arith) (omega arith) l)
+        ancillary-blank f a t l i h ∙ sym (blankAncillary (ancillaryStart + i) t (omega arith) (omega arith) l)
 
     -- all words of the stream
-    stream-same : (j : ℕ) → j < 1932 + shapeOf f .ancillary → sent j ≡ at j
+    stream-same : (j : ℕ) → j < ancillaryStart + shapeOf f .ancillary → sent j ≡ at j
     stream-same j h =
         split j 4 (sav-same j)
         (λ i e.
-        split j 1924 (λ x. rw e (picture-same i (omega arith)))
+        split j eavStart (λ x. rw e (picture-same i (omega arith)))
         (λ i e.
-        split j 1928 (λ x. rw e (eav-same i (omega arith)))
+        split j lineStart (λ x. rw e (eav-same i (omega arith)))
         (λ i e.
-        split j 1932 (λ x. rw e (number-same i (omega arith)))
+        split j ancillaryStart (λ x. rw e (number-same i (omega arith)))
         (λ i e. rw e (ancillary-same i (omega arith))))))
 
   -- so all words are those that are sent
   word-same : (k : ℕ) → k < 2 * pairsIn (shapeOf f) → getD (spanWords f a) k 0 ≡ word k
   word-same k h =
-      let n = 1932 + shapeOf f .ancillary in
+      let n = ancillaryStart + shapeOf f .ancillary in
       let some : 1 ≤ s = omega (arith, known-has-streams f known) in
       split k (s * n)
       (λ b.
@@ -203,9 +204,9 @@ module _ (f : Format) (known : isKnown f ≡ true) (word : ℕ → ℕ) (small :
 
 module _ (f : Format) (w : List ℕ) (known : isKnown f ≡ true) (long : length w ≡ symbolsIn (shapeOf f)) (acc : Accepted f w)
     (none-wrong : repairCount (streams (shapeOf f)) (wordAt (shapeOf f) w) ≡ 0)
-    (blankAncillary : (j t : ℕ) → 1932 ≤ j → j < 1932 + shapeOf f .ancillary → t < streams (shapeOf f)
+    (blankAncillary : (j t : ℕ) → ancillaryStart ≤ j → j < ancillaryStart + shapeOf f .ancillary → t < streams (shapeOf f)
     → wordOf (streams (shapeOf f)) (wordAt (shapeOf f) w) j t ≡ blankWord f)
-    (blankLine : isActive (lineRead (streams (shapeOf f)) (wordAt (shapeOf f) w)) ≡ false → (j t : ℕ) → 4 ≤ j → j < 1924
+    (blankLine : isActive (lineRead (streams (shapeOf f)) (wordAt (shapeOf f) w)) ≡ false → (j t : ℕ) → pictureStart ≤ j → j < eavStart
     → t < streams (shapeOf f) → wordOf (streams (shapeOf f)) (wordAt (shapeOf f) w) j t ≡ 0x100) where
   -- its answer may be sent
   pub sendable-again : Sendable f (requestAgain f w)

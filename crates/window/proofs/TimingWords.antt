@@ -18,6 +18,7 @@ use Rattle.span.specs.declared.format.Format.{Format}
 use Rattle.span.specs.Encoding.{symbolsFrom, afterRun}
 use Rattle.span.specs.Format.{shapeOf, streams, pairsIn}
 use Rattle.span.specs.Stream.{Request, picture}
+use Rattle.span.specs.Layout.{savXyz}
 use Rattle.span.proofs.Lengths.{known-has-streams}
 use Rattle.span.proofs.Places.{wordAt as sentAt, sav-words, eav-words}
 use Rattle.window.specs.Encoded.{charsOf, AreContent, Encodes, wordIn, IsXyz, Disturbed, wrongAt}
@@ -81,7 +82,7 @@ module _ (f : Format) (a : Request) (good : Sendable f a) (words : List ℕ) (di
             content = c;
             before = d;
             after = afterRun d (charsOf (shapeOf f) c words);
-            repairs = repairsOf (sumOf s (λ t. wrongAt f a words (s * 3 + t) + wrongAt f a words (s * 1927 + t)));
+            repairs = repairsOf (sumOf s (λ t. wrongAt f a words (s * savXyz + t) + wrongAt f a words (s * 1927 + t)));
           }))
           × (pictureOf f w ≡ upto s (picture f a))
       repaired-delivered = (

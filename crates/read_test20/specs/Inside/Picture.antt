@@ -9,6 +9,7 @@ use Rattle.packing.specs.declared.bytes.TwoWords.{TwoWords}
 use Rattle.read_test20.specs.declared.picture.Passed.{Passed}
 use Rattle.ground.specs.Written.{table}
 use Rattle.span.specs.declared.format.Shape.{Shape}
+use Rattle.span.specs.Layout.{pictureStart}
 use Rattle.window.specs.Inside.Columns.{columnOf}
 use Rattle.window.specs.Inside.Given.{plainPair}
 use Rattle.read_test20.specs.Inside.Run.{RunInv}
@@ -16,7 +17,7 @@ use Rattle.read_test20.specs.Inside.See.{seenThree, seenSix, GatherInv, 
 
 -- word i of the picture in streams 2u and 2u + 1, with this many pairs of streams
 abbrev pub pairIn : ℕ → List ℕ → ℕ → ℕ → TwoWords
-pairIn pairs w u i = plainPair w (3 * (pairs * (4 + i) + u))
+pairIn pairs w u i = plainPair w (3 * (pairs * (pictureStart + i) + u))
 
 -- two words put into the rows of two streams
 abbrev pub putPair : TwoWords → ℕ → List ℕ → List ℕ

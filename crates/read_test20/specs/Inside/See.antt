@@ -1,4 +1,4 @@
--- What is gathered from symbols without an early exit. That it is correct is the law `see-turn`.
+-- What is gathered from symbols without an early exit. That it is correct is the law `see-step`.
 -- Assumes nothing.
 use mathlib.Core.Path.{_≡_}
 use Prim.Native.Nat.{ℕ, _+_, _-_, _*_, _/_, _%_, _≤_, _<_}

@@ -11,6 +11,7 @@ use Rattle.span.specs.declared.format.Format.{Format}
 use Rattle.span.specs.declared.format.Shape.{Shape}
 use Rattle.span.specs.Format.{shapeOf, streams}
 use Rattle.span.specs.Inside.Fit.{ready}
+use Rattle.span.specs.Inside.Layout.{eavSymbol}
 use Rattle.window.specs.Scan.{startOf, runningAt, holds20}
 use Rattle.window.specs.Tests.{rows as rowsOf}
 use Rattle.window.specs.Words.{wordAt}
@@ -58,8 +59,8 @@ pub record RunTo (w : List ℕ) (from to flips : ℕ) : Type 0 where
 
 -- everything after the picture
 pub record Ending (p : Shape) (w : List ℕ) (flips after : ℕ) : Type 0 where
-  pub eav : RunInv w 266 266 (5772 * p .«stream_pairs») (5772 * p .«stream_pairs» + 2) (maskBy flips)
-  pub bytes : RunInv w 0 255 (5772 * p .«stream_pairs» + 2) (length w) (maskBy after)
+  pub eav : RunInv w 266 266 (eavSymbol * p .«stream_pairs») (eavSymbol * p .«stream_pairs» + 2) (maskBy flips)
+  pub bytes : RunInv w 0 255 (eavSymbol * p .«stream_pairs» + 2) (length w) (maskBy after)
 
 -- a window for which test 20 holds: its disparities, the CRC of each stream over its picture words, and these words stream by stream
 pub record Wholly (p : Shape) (w : List ℕ) (r : Taken) (rows : List ℕ) : Type 0 where

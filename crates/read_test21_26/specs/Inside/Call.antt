@@ -8,6 +8,7 @@ use lib.ListN.{length}
 use Rattle.span.specs.declared.format.Format.{Format}
 use Rattle.span.specs.declared.format.Shape.{Shape}
 use Rattle.span.specs.Format.{isKnown, shapeOf, streams, symbolsIn}
+use Rattle.span.specs.Layout.{pictureStart, eavStart, ancillaryStart}
 use Rattle.crcc.specs.declared.sums.Sums.{Sums}
 use Rattle.window.specs.Read.{placed, contentIn, repairsOf}
 use Rattle.window.specs.Tests.{lineRead, repairCount}
@@ -45,12 +46,12 @@ serviceIf f w c = cond (isWindow f (length w)) (serviceOf (shapeOf f) w c) noSer
 unfoldable pub place25 : Format → List ℕ → ℕ
 place25 f w =
     let s = streams (shapeOf f) in
-    firstWrong (placed s (picture25 f s (wordAt (shapeOf f) w))) (4 * s) (1924 * s)
+    firstWrong (placed s (picture25 f s (wordAt (shapeOf f) w))) (pictureStart * s) (eavStart * s)
 
 unfoldable pub place26 : Format → List ℕ → ℕ
 place26 f w =
     let s = streams (shapeOf f) in
-    let from = s * (1932 + shapeOf f .ancillary) in
+    let from = s * (ancillaryStart + shapeOf f .ancillary) in
     firstWrong (placed s (fill26 s (wordAt (shapeOf f) w))) from (from + 2 * shapeOf f .«fill_pairs»)
 
 abbrev pub placeIf : ℕ → Format → List ℕ → ℕ

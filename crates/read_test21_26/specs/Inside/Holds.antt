@@ -12,6 +12,7 @@ use Rattle.span.specs.declared.format.Format.{Format}
 use Rattle.span.specs.declared.format.Shape.{Shape}
 use Rattle.span.specs.Format.{streams}
 use Rattle.span.specs.Span.{fillWord}
+use Rattle.span.specs.Layout.{eavStart, lineStart, crccStart, eavXyz}
 use Rattle.crcc.specs.declared.crcc.CrccWords.{CrccWords}
 use Rattle.crcc.specs.Crcc.{crc, crccWords}
 use Rattle.packing.specs.Sample.{allowedWord}
@@ -40,14 +41,14 @@ unfoldable pub crccReceived : Shape → List ℕ → ℕ → ℕ → CrccWords
 crccReceived p w t c =
     let s = streams p in
     crccWords
-    (crc c (column s (wordAt p w) 1924 3 t ++ (repaired (wordOf s (wordAt p w) 1927 t) ∷ column s (wordAt p w) 1928 2 t)))
+    (crc c (column s (wordAt p w) eavStart 3 t ++ (repaired (wordOf s (wordAt p w) eavXyz t) ∷ column s (wordAt p w) lineStart 2 t)))
 
 -- test 24, given the sums that the pictures of the streams leave; it is test 24 if these are the sums of the window (law `sums-right`)
 unfoldable pub holds24By : Shape → List ℕ → Sums → ℕ → ℕ → Bool
 holds24By p w c j t =
     let word = wordOf (streams p) (wordAt p w) j t in
-    cond (eqb j 1930) (eqb word (crccReceived p w t (sumIn c t) .crcc0))
-    (cond (eqb j 1931) (eqb word (crccReceived p w t (sumIn c t) .crcc1)) true)
+    cond (eqb j crccStart) (eqb word (crccReceived p w t (sumIn c t) .crcc0))
+    (cond (eqb j (crccStart + 1)) (eqb word (crccReceived p w t (sumIn c t) .crcc1)) true)
 
 -- the test with a number
 unfoldable pub holdsOf : ℕ → Format → Shape → List ℕ → Sums → ℕ → ℕ → Bool

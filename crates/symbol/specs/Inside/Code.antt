@@ -8,7 +8,7 @@ use Rattle.symbol.specs.declared.disparity.Disparity.the-variants.{Negat
 use Rattle.symbol.specs.Code.{afterOf, symbolOf}
 use Rattle.symbol.specs.Disparity.{isPositive}
 
--- whether character c takes negative disparity to positive (and then positive to negative: law `turns-both`)
+-- whether character c takes negative disparity to positive (and then positive to negative: law `flips-both`)
 unfoldable pub flips : ℕ → Bool
 flips c = isPositive (afterOf Negative c)
 

@@ -6,6 +6,7 @@ use mathlib.Core.List.{List}
 use lib.Dec.{eqb}
 use Rattle.span.specs.declared.format.Shape.{Shape}
 use Rattle.span.specs.Format.{streams}
+use Rattle.span.specs.Layout.{pictureStart}
 use Rattle.crcc.specs.Crcc.{crc}
 use Rattle.window.specs.Tests.{column}
 use Rattle.window.specs.Words.{wordAt}
@@ -19,8 +20,8 @@ columnOf p w first count t = column (streams p) (wordAt p w) first count t
 abbrev pub sumsOf : Shape → List ℕ → Sums
 sumsOf p w =
     record {
-      first = crc 0 (columnOf p w 4 1920 0);
-      second = crc 0 (columnOf p w 4 1920 1);
-      third = cond (eqb (p .«stream_pairs») 1) 0 (crc 0 (columnOf p w 4 1920 2));
-      fourth = cond (eqb (p .«stream_pairs») 1) 0 (crc 0 (columnOf p w 4 1920 3));
+      first = crc 0 (columnOf p w pictureStart 1920 0);
+      second = crc 0 (columnOf p w pictureStart 1920 1);
+      third = cond (eqb (p .«stream_pairs») 1) 0 (crc 0 (columnOf p w pictureStart 1920 2));
+      fourth = cond (eqb (p .«stream_pairs») 1) 0 (crc 0 (columnOf p w pictureStart 1920 3));
     }

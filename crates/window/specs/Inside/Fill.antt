@@ -8,9 +8,10 @@ use Rattle.ground.specs.Search.{firstFrom, isSome}
 use Rattle.span.specs.declared.format.Shape.{Shape}
 use Rattle.span.specs.Format.{streams}
 use Rattle.span.specs.Span.{fillWord}
+use Rattle.span.specs.Layout.{ancillaryStart}
 use Rattle.window.specs.Words.{wordAt}
 
 -- every fill word is right
 unfoldable pub fillRight : Shape → List ℕ → Bool
 fillRight p w =
-    not (isSome (firstFrom (streams p * (1932 + p .ancillary)) (2 * p .«fill_pairs») (λ k. not (eqb (wordAt p w k) fillWord))))
+    not (isSome (firstFrom (streams p * (ancillaryStart + p .ancillary)) (2 * p .«fill_pairs») (λ k. not (eqb (wordAt p w k) fillWord))))

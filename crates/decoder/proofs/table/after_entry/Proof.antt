@@ -1,4 +1,4 @@
--- `decoder::table::after_entry` meets its contract: bit 11 of the entry says whether the disparity turns.
+-- `decoder::table::after_entry` meets its contract: bit 11 of the entry says whether the disparity flips.
 -- Assumes nothing.
 use borrow.Author.Needs.{needs}
 use Rattle.decoder.proofs.table.after_entry.Statement.{statement}

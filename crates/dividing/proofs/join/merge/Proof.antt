@@ -1,4 +1,4 @@
--- `dividing::join::merge` meets its contract: after j turns the row begins with the samples of j pairs.
+-- `dividing::join::merge` meets its contract: after j iterations the row begins with the samples of j pairs.
 -- Assumes nothing.
 use mathlib.Core.Path.{_≡_, ap, _∙_}
 use mathlib.Core.List.{List}

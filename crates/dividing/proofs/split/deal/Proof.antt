@@ -1,4 +1,4 @@
--- `dividing::split::deal` meets its contract: after j turns each image's row begins with its j samples.
+-- `dividing::split::deal` meets its contract: after j iterations each image's row begins with its j samples.
 -- Assumes nothing.
 use mathlib.Core.Path.{_≡_, ap, _∙_}
 use mathlib.Core.List.{List}

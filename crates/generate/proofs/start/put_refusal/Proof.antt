@@ -3,7 +3,8 @@
 use mathlib.Core.Path.{_≡_}
 use native.Mathlib.Omega.{arith}
 use lib.ListN.{length}
-use Rattle.text.proofs.Putting.{Put, put-told}
+use Rattle.ground.proofs.Putting.{Put}
+use Rattle.text.proofs.Putting.{put-told}
 use borrow.Author.Needs.{needs}
 use Rattle.generate.proofs.start.put_refusal.Statement.{statement}
 use Rattle.generate.proofs.start.put_refusal.Tie as tie

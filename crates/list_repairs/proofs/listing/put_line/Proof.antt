@@ -4,7 +4,7 @@ use Prim.Native.Nat.{_+_, _≤_, _<_}
 use lib.ListN.{length}
 use native.Mathlib.Omega.{arith}
 use borrow.Author.Needs.{needs}
-use Rattle.text.proofs.Putting.{put-length, then}
+use Rattle.ground.proofs.Putting.{put-length, then}
 use Rattle.list_repairs.proofs.Lines.{start-most}
 use Rattle.list_repairs.proofs.Pieces.{start-put}
 use Rattle.list_repairs.proofs.listing.put_line.Statement.{statement}

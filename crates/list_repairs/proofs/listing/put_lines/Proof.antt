@@ -1,4 +1,4 @@
--- `list_repairs::listing::put_lines` meets its contract: after i turns the first i lines are there.
+-- `list_repairs::listing::put_lines` meets its contract: after i iterations the first i lines are there.
 -- Assumes nothing.
 use mathlib.Core.Path.{_≡_, sym, _∙_}
 use Prim.Native.Nat.{_-_, _≤_}
@@ -7,7 +7,7 @@ use native.Mathlib.Omega.{arith}
 use lib.ListN.{length}
 use lib.Seq.{length-take-le}
 use borrow.Author.Needs.{needs}
-use Rattle.text.proofs.Putting.{Put, put-length}
+use Rattle.ground.proofs.Putting.{Put, put-length}
 use Rattle.list_repairs.specs.Text.{lineCount, repairLines}
 use Rattle.list_repairs.proofs.Lines.{none-listed, one-more, listed-most}
 use Rattle.list_repairs.proofs.listing.put_lines.Statement.{statement}

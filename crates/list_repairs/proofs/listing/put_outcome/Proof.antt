@@ -3,8 +3,9 @@
 use mathlib.Core.Path.{_≡_, sym, ap, _∙_}
 use Prim.Native.Nat.{_+_, _≤_}
 use lib.ListN.{length}
+use Rattle.ground.proofs.Putting.{put-as}
 use Rattle.word.specs.Repair.{paperRepair, repairOf}
-use Rattle.text.proofs.Putting.{put-told, put-as}
+use Rattle.text.proofs.Putting.{put-told}
 use Rattle.list_repairs.specs.Text.{refusedLine, outcome}
 use Rattle.list_repairs.proofs.Lines.{near-enough}
 use Rattle.list_repairs.proofs.Pieces.{repaired-put}

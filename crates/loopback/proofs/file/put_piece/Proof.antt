@@ -7,9 +7,9 @@ use native.Mathlib.Omega.{arith}
 use lib.ListN.{length, drop, length-take}
 use borrow.Author.Needs.{needs}
 use Rattle.ground.specs.Written.{upto}
+use Rattle.ground.proofs.Putting.{Put, put-length}
 use Rattle.line.specs.Stream.{isActive}
 use Rattle.rig.specs.Frame.{lineOfPiece}
-use Rattle.text.proofs.Putting.{Put, put-length}
 use Rattle.loopback.proofs.Bytes.{lineBytes, no-line, active-put, blank-put, piece-put}
 use Rattle.loopback.proofs.file.put_piece.Statement.{statement}
 use Rattle.loopback.proofs.file.put_piece.Tie as tie

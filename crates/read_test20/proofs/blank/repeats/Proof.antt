@@ -6,7 +6,7 @@ use native.Mathlib.Omega.{arith}
 use borrow.Author.Needs.{needs}
 use borrow.Author.Tests.{eqb-true}
 use Rattle.window.specs.Scan.{symbolAt}
-use Rattle.read_test20.proofs.Blanks.{repeats-turn}
+use Rattle.read_test20.proofs.Blanks.{repeats-step}
 use Rattle.read_test20.proofs.blank.repeats.Statement.{statement}
 use Rattle.read_test20.proofs.blank.repeats.Tie as tie
 use Rattle.read_test20.proofs.blank.repeats.Reads as reads
@@ -49,7 +49,7 @@ loop-again : tie.Need-loop-again Inv-loop μ-loop
 loop-again c =
     let w = c .before .before .before .before .args .symbols .now in
     let v = c .before .before .before .loop in
-    (omega (arith, v .inv .0), search needs, λ z k h l. repeats-turn w (v .other) (v .i) z (λ y. v .inv .2 y k h) l)
+    (omega (arith, v .inv .0), search needs, λ z k h l. repeats-step w (v .other) (v .i) z (λ y. v .inv .2 y k h) l)
 
 returns : tie.Need-returns Inv-loop μ-loop
 returns c =

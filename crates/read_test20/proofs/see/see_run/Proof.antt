@@ -5,7 +5,7 @@ use Prim.Native.Nat.{_-_, _≤_}
 use native.Mathlib.Omega.{arith}
 use borrow.Author.Needs.{needs}
 use Rattle.read_test20.specs.Inside.See.{GatherInv}
-use Rattle.read_test20.proofs.Seeing.{seen-turn}
+use Rattle.read_test20.proofs.Seeing.{seen-step}
 use Rattle.read_test20.proofs.see.see_run.Statement.{statement}
 use Rattle.read_test20.proofs.see.see_run.Tie as tie
 use Rattle.read_test20.proofs.see.see_run.Reads as reads
@@ -37,7 +37,7 @@ loop-less : tie.Need-loop-less Inv-loop μ-loop
 loop-less c = search needs
 
 loop-again : tie.Need-loop-again Inv-loop μ-loop
-loop-again c = (search needs, seen-turn (c .before .before .before .before .before .args .symbols .now) (c .before .before .before .loop .inv .1) (c .see .ensures))
+loop-again c = (search needs, seen-step (c .before .before .before .before .before .args .symbols .now) (c .before .before .before .loop .inv .1) (c .see .ensures))
 
 returns : tie.Need-returns Inv-loop μ-loop
 returns c = let end : c .before .loop .i ≡ c .before .before .before .args .to = omega (arith, c .before .loop .inv .0) in rw end at (c .before .loop .inv .1)

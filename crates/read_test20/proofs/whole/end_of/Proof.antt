@@ -6,6 +6,7 @@ use Prim.Native.Nat.{_+_, _*_}
 use native.Mathlib.Omega.{arith}
 use borrow.Author.Needs.{needs}
 use borrow.Author.Tests.{not-true, not-false}
+use Rattle.span.specs.Inside.Layout.{eavSymbol, ancillarySymbol}
 use Rattle.read_test20.proofs.Gathering.{join}
 use Rattle.read_test20.specs.Inside.Whole.{Tied}
 use Rattle.read_test20.proofs.Kept.{eav-stands, bytes-stand}
@@ -85,7 +86,7 @@ returns-3 c =
     let s = c .before .before .before .before .before .before .before .before .before in
     let w = s .args .symbols .now in
     let right = sym (c .before .before .passes .ensures) ∙ not-false _ (c .before .if2 .left) in
-    let at : 5772 * s .args .p .«stream_pairs» + 24 * s .args .p .«stream_pairs» ≡ 5796 * s .args .p .«stream_pairs» = omega arith in
+    let at : eavSymbol * s .args .p .«stream_pairs» + 24 * s .args .p .«stream_pairs» ≡ ancillarySymbol * s .args .p .«stream_pairs» = omega arith in
     let e = c .tail-of .ensures in (
       λ t.
           record {

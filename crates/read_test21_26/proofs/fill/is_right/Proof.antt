@@ -5,6 +5,7 @@ use Prim.Native.Nat.{_+_, _*_, _-_, _≤_}
 use native.Mathlib.Omega.{arith}
 use Rattle.window.proofs.Filling.{Filled, begin, turn, all-right, first-wrong, second-wrong}
 use borrow.Author.Needs.{needs}
+use Rattle.span.specs.Layout.{ancillaryStart}
 use Rattle.read_test21_26.proofs.fill.is_right.Statement.{statement}
 use Rattle.read_test21_26.proofs.fill.is_right.Tie as tie
 
@@ -67,7 +68,7 @@ returns-3 : tie.Need-returns-3 Inv-loop μ-loop
 returns-3 c =
     let s = c .before .before .before .before .before .before .before in
     let v = c .before .loop in
-    let end : v .q ≡ s .args .p .«stream_pairs» * (1932 + s .args .p .ancillary) + s .args .p .«fill_pairs» = omega (arith, v .inv .0, c .loop-test .left) in
+    let end : v .q ≡ s .args .p .«stream_pairs» * (ancillaryStart + s .args .p .ancillary) + s .args .p .«fill_pairs» = omega (arith, v .inv .0, c .loop-test .left) in
     sym (all-right (s .args .p) (s .args .symbols .now) (s .pre .half) (rw end at (v .inv .1)))
 
 pub is-right-spec : {M : Type 1} → statement M

@@ -4,6 +4,7 @@ use mathlib.Core.Path.{_≡_, ap, ap₂, _∙_}
 use Prim.Native.Nat.{ℕ, _+_, _*_, _%_}
 use native.Mathlib.Omega.{arith}
 use Rattle.span.specs.Format.{streams}
+use Rattle.span.specs.Layout.{eavStart, lineStart, eavXyz}
 use Rattle.crcc.specs.Crcc.{crcWord, crccWords}
 use Rattle.word.specs.Received.{repaired}
 use Rattle.window.specs.Words.{wordAt}
@@ -93,17 +94,17 @@ crcc-words-requires c κs = search needs
 returns : tie.Need-returns
 returns c =
     let a = c .before .before .before .before .before .before .before .before .before .before .before .before .before .before .before .before .args in
-    let k0 : 1924 * (2 * a .p .«stream_pairs») + a .i ≡ streams (a .p) * 1924 + a .i = omega arith in
+    let k0 : eavStart * (2 * a .p .«stream_pairs») + a .i ≡ streams (a .p) * eavStart + a .i = omega arith in
     let x0 = c .before .before .before .before .before .before .before .before .before .before .before .before .before .word-at .ensures .0 ∙ ap (wordAt (a .p) (a .symbols .now)) k0 in
-    let k1 : 1924 * (2 * a .p .«stream_pairs») + a .i + 2 * a .p .«stream_pairs» ≡ streams (a .p) * 1925 + a .i = omega arith in
+    let k1 : eavStart * (2 * a .p .«stream_pairs») + a .i + 2 * a .p .«stream_pairs» ≡ streams (a .p) * (eavStart + 1) + a .i = omega arith in
     let x1 = c .before .before .before .before .before .before .before .before .before .before .before .word-at2 .ensures .0 ∙ ap (wordAt (a .p) (a .symbols .now)) k1 in
-    let k2 : 1924 * (2 * a .p .«stream_pairs») + a .i + 2 * (2 * a .p .«stream_pairs») ≡ streams (a .p) * 1926 + a .i = omega arith in
+    let k2 : eavStart * (2 * a .p .«stream_pairs») + a .i + 2 * (2 * a .p .«stream_pairs») ≡ streams (a .p) * (eavStart + 2) + a .i = omega arith in
     let x2 = c .before .before .before .before .before .before .before .before .before .word-at3 .ensures .0 ∙ ap (wordAt (a .p) (a .symbols .now)) k2 in
-    let k3 : 1924 * (2 * a .p .«stream_pairs») + a .i + 3 * (2 * a .p .«stream_pairs») ≡ streams (a .p) * 1927 + a .i = omega arith in
+    let k3 : eavStart * (2 * a .p .«stream_pairs») + a .i + 3 * (2 * a .p .«stream_pairs») ≡ streams (a .p) * eavXyz + a .i = omega arith in
     let x3 = c .before .before .before .before .before .before .before .word-at4 .ensures .0 ∙ ap (wordAt (a .p) (a .symbols .now)) k3 in
-    let k4 : 1924 * (2 * a .p .«stream_pairs») + a .i + 4 * (2 * a .p .«stream_pairs») ≡ streams (a .p) * 1928 + a .i = omega arith in
+    let k4 : eavStart * (2 * a .p .«stream_pairs») + a .i + 4 * (2 * a .p .«stream_pairs») ≡ streams (a .p) * lineStart + a .i = omega arith in
     let x4 = c .before .before .before .before .word-at5 .ensures .0 ∙ ap (wordAt (a .p) (a .symbols .now)) k4 in
-    let k5 : 1924 * (2 * a .p .«stream_pairs») + a .i + 5 * (2 * a .p .«stream_pairs») ≡ streams (a .p) * 1929 + a .i = omega arith in
+    let k5 : eavStart * (2 * a .p .«stream_pairs») + a .i + 5 * (2 * a .p .«stream_pairs») ≡ streams (a .p) * (lineStart + 1) + a .i = omega arith in
     let x5 = c .before .before .word-at6 .ensures .0 ∙ ap (wordAt (a .p) (a .symbols .now)) k5 in
     let low : c .before .before .before .before .before .before .before .word-at4 .result % 4096 ≡ c .before .before .before .before .before .before .before .word-at4 .result = omega (arith, c .before .before .before .before .before .before .before .word-at4 .ensures .1) in
     let xyz = c .before .before .before .before .before .before .repaired-word .ensures ∙ ap (λ (x : ℕ). repaired x) (low ∙ x3) in

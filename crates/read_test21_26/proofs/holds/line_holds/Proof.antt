@@ -6,6 +6,7 @@ use Prim.Native.Nat.{ℕ, _+_, _*_, _/_, _%_, _≤_}
 use native.Mathlib.Omega.{arith}
 use lib.Dec.{eqb}
 use Rattle.span.specs.Format.{streams}
+use Rattle.span.specs.Layout.{lineStart}
 use Rattle.window.specs.Words.{wordAt}
 use Rattle.read_test21_26.proofs.Reading.{here, word-before, first-word, first-stream, not-first}
 use Rattle.read_test21_26.proofs.Tests.{first-22, other-22, else-22, some-line}
@@ -33,7 +34,7 @@ returns c =
     let at = c .before .if1 .taken in
     ap (λ (x : ℕ). not (eqb x 0)) (c .number-of .ensures ∙ s .pre .1 .1)
     ∙ some-line (streams (a .p)) (wordAt (a .p) (a .symbols .now))
-    ∙ sym (first-22 (streams (a .p)) (wordAt (a .p) (a .symbols .now)) (a .k / streams (a .p)) (a .k % streams (a .p)) (first-word (streams (a .p)) some-streams (a .k) 1928 at) (first-stream (streams (a .p)) some-streams (a .k) 1928 at))
+    ∙ sym (first-22 (streams (a .p)) (wordAt (a .p) (a .symbols .now)) (a .k / streams (a .p)) (a .k % streams (a .p)) (first-word (streams (a .p)) some-streams (a .k) lineStart at) (first-stream (streams (a .p)) some-streams (a .k) lineStart at))
 
 word-at-requires : tie.Need-word-at-requires
 word-at-requires c κs = search needs
@@ -61,7 +62,7 @@ returns-2 c =
     let zero : streams (a .p) * (a .k / streams (a .p)) ≡ streams (a .p) * (a .k / streams (a .p)) + 0 = omega arith in
     ap₂ eqb word (c .word-at2 .ensures .0 ∙ ap (wordAt (a .p) (a .symbols .now)) zero)
     ∙ sym (other-22 (streams (a .p)) (wordAt (a .p) (a .symbols .now)) (a .k / streams (a .p)) (a .k % streams (a .p)) (c .before .before .before .if2 .taken) (c .before .before .if3 .taken)
-    (not-first (streams (a .p)) some-streams (a .k) 1928 (c .before .before .before .before .if1 .left)))
+    (not-first (streams (a .p)) some-streams (a .k) lineStart (c .before .before .before .before .if1 .left)))
 
 returns-3 : tie.Need-returns-3
 returns-3 c =

@@ -5,6 +5,7 @@ use mathlib.Core.Bool.{true, false}
 use Prim.Native.Nat.{ℕ, _-_, _/_, _%_, _≤_}
 use native.Mathlib.Omega.{arith}
 use Rattle.span.specs.Format.{streams}
+use Rattle.span.specs.Layout.{eavStart}
 use Rattle.word.specs.Received.{isTiming}
 use Rattle.window.specs.Words.{wordAt}
 use Rattle.read_test21_26.proofs.Reading.{here-below}
@@ -42,7 +43,7 @@ returns-2 c =
     let s = c .before .before .before .before .before .before .before in
     let a = s .args in
     c .is-timing2 .ensures
-    ∙ ap (λ (x : ℕ). isTiming true (a .k / streams (a .p) - 1924) x)
+    ∙ ap (λ (x : ℕ). isTiming true (a .k / streams (a .p) - eavStart) x)
     (here-below (a .p) (a .symbols .now) (a .k) (s .pre .0 .half) (c .before .before .before .before .word-at .ensures .0))
     ∙ sym (eav-21 (streams (a .p)) (wordAt (a .p) (a .symbols .now)) (a .k / streams (a .p)) (a .k % streams (a .p)) (c .before .before .if2 .taken) (c .before .if3 .taken))
 

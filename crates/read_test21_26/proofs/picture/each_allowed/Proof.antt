@@ -8,7 +8,7 @@ use lib.Dec.{eqb}
 use lib.ListN.{length, drop}
 use borrow.Author.Needs.{needs}
 use Rattle.read_test21_26.specs.Inside.Picture.{allAllowed}
-use Rattle.read_test21_26.proofs.Allowing.{look-turn, look-done}
+use Rattle.read_test21_26.proofs.Allowing.{look-step, look-done}
 use Rattle.read_test21_26.proofs.picture.each_allowed.Statement.{statement}
 use Rattle.read_test21_26.proofs.picture.each_allowed.Tie as tie
 
@@ -41,7 +41,7 @@ loop-again c =
     let a = c .before .before .before .before .before .args in
     let v = c .before .before .before .loop in
     let h : v .i < length (a .rows .now) = search needs in
-    look-turn (a .depth) (v .found) (a .rows .now) (v .i) h (c .wrong-word .ensures) ∙ v .inv
+    look-step (a .depth) (v .found) (a .rows .now) (v .i) h (c .wrong-word .ensures) ∙ v .inv
 
 returns : tie.Need-returns Inv-loop μ-loop
 returns c =

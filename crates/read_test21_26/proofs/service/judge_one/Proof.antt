@@ -5,6 +5,7 @@ use mathlib.Core.Option.{Option}
 use Prim.Native.Nat.{ℕ, _≤_}
 use native.Mathlib.Omega.{arith}
 use borrow.Author.Needs.{needs}
+use Rattle.span.specs.Layout.{ancillaryStart}
 use Rattle.read_test21_26.specs.Inside.Holds.{holdsAt}
 use Rattle.read_test21_26.specs.Inside.Verdict.{passed, verdictOf}
 use Rattle.read_test21_26.proofs.Searching.{found, not-found}
@@ -18,7 +19,7 @@ mul-s c = search needs
 mul-first-wrong : tie.Need-mul-first-wrong
 mul-first-wrong c =
     let s = c .before .before in
-    let from : s .args .from ≤ 1932 = omega arith in
+    let from : s .args .from ≤ ancillaryStart = omega arith in
     omega (arith, few-words (s .pre .0 .given .small), within-window (s .args .p) from)
 
 mul-first-wrong-2 : tie.Need-mul-first-wrong-2

@@ -4,6 +4,7 @@ use mathlib.Core.Path.{_≡_, sym, ap, _∙_}
 use Prim.Native.Nat.{_+_, _-_, _*_, _≤_, _<_}
 use native.Mathlib.Omega.{arith}
 use Rattle.span.specs.Format.{eavAt}
+use Rattle.span.specs.Inside.Layout.{eavSymbol}
 use Rattle.window.specs.Words.{byteAt}
 use Rattle.window.proofs.Bytes.{byte-sav, byte-eav, byte-else}
 use Rattle.window.proofs.Symbols.{byte-is}
@@ -49,7 +50,7 @@ returns-3 : tie.Need-returns-3
 returns-3 c =
     let s = c .before .before .before .before .before .before in
     let a = s .args in
-    let i = a .i - 5772 * a .p .«stream_pairs» in
+    let i = a .i - eavSymbol * a .p .«stream_pairs» in
     let h : i < 4 = omega arith in
     let back : eavAt (a .p) + i ≡ a .i = omega arith in
     c .fixed-byte2 .ensures

@@ -6,7 +6,7 @@ use Prim.Native.Nat.{_+_, _-_, _≤_, _<_}
 use native.Mathlib.Omega.{arith}
 use lib.ListN.{length}
 use borrow.Author.Needs.{needs}
-use Rattle.rig.proofs.Knocking.{doneTo, none-done, length-done-to, struck-turn, spared-turn, all-done}
+use Rattle.rig.proofs.Knocking.{doneTo, none-done, length-done-to, struck-step, spared-step, all-done}
 use Rattle.rig.proofs.knock.strike.Statement.{statement}
 use Rattle.rig.proofs.knock.strike.Tie as tie
 
@@ -45,8 +45,8 @@ loop-again c =
     let inside : v .i < length (a .symbols .now) = omega arith in
     let done =
     ⊎-elim
-    (λ w. w .1 ∙ struck-turn (a .k) (a .from) (a .symbols .now) (v .i) inside (v .inv .2) (sym (test .is-struck .ensures) ∙ w .0 .taken))
-    (λ w. w .1 ∙ spared-turn (a .k) (a .from) (a .symbols .now) (v .i) inside (v .inv .2) (sym (test .is-struck .ensures) ∙ w .0 .left))
+    (λ w. w .1 ∙ struck-step (a .k) (a .from) (a .symbols .now) (v .i) inside (v .inv .2) (sym (test .is-struck .ensures) ∙ w .0 .taken))
+    (λ w. w .1 ∙ spared-step (a .k) (a .from) (a .symbols .now) (v .i) inside (v .inv .2) (sym (test .is-struck .ensures) ∙ w .0 .left))
     (c .if1 .came) in
     (omega arith, ap length done ∙ length-done-to (a .k) (a .from) (a .symbols .now) (v .i + 1), done)
 

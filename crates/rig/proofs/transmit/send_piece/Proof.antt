@@ -13,7 +13,7 @@ use Rattle.reception.specs.Link.{link}
 use Rattle.reception.proofs.Parts.{part-put}
 use Rattle.rig.specs.Sending.{requestOn, afterFrom}
 use Rattle.rig.specs.Inside.Sending.{sentFrom}
-use Rattle.rig.proofs.Lines.{length-span, next-line, no-line-more, all-sent, after-turn, sent-turn}
+use Rattle.rig.proofs.Lines.{length-span, next-line, no-line-more, all-sent, after-step, sent-step}
 use Rattle.rig.proofs.transmit.send_piece.Statement.{statement}
 use Rattle.rig.proofs.transmit.send_piece.Tie as tie
 
@@ -93,8 +93,8 @@ loop-again c =
       search needs,
       search needs,
       λ h. c .line-after .ensures ∙ next-line (v .l .0) (omega (arith, here, start .pre .1 .0)) ∙ omega (arith, here),
-      after-turn (a .first .0) (v .k) inside (v .d) (v .l .0) here (sent .send-line .ensures .0) ∙ v .inv .4,
-      sent-turn (a .first .0) (v .k) inside (v .d) (v .l .0) here (sent .send-line .ensures .0) (v .symbols) put ∙ v .inv .5,
+      after-step (a .first .0) (v .k) inside (v .d) (v .l .0) here (sent .send-line .ensures .0) ∙ v .inv .4,
+      sent-step (a .first .0) (v .k) inside (v .d) (v .l .0) here (sent .send-line .ensures .0) (v .symbols) put ∙ v .inv .5,
     )
 
 same-length : tie.Need-same-length Inv-loop μ-loop

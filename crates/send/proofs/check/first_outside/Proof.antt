@@ -8,7 +8,7 @@ use lib.ListN.{length, getD}
 use borrow.Author.Count.{below-none, below-more}
 use borrow.Author.Needs.{needs}
 use Rattle.ground.specs.Range.{within}
-use Rattle.send.proofs.Checking.{each-within, outside-first, outside-never}
+use Rattle.request.proofs.Checking.{each-within, outside-first, outside-never}
 use Rattle.send.proofs.check.first_outside.Statement.{statement}
 use Rattle.send.proofs.check.first_outside.Tie as tie
 

@@ -7,8 +7,8 @@ use native.Mathlib.Omega.{arith}
 use lib.Dec.{eqb}
 use lib.ListN.{length, drop}
 use borrow.Author.Needs.{needs}
-use Rattle.send.specs.Inside.Check.{allWithin}
-use Rattle.send.proofs.Checking.{look-flip, look-done}
+use Rattle.request.specs.Inside.Check.{allWithin}
+use Rattle.request.proofs.Checking.{look-flip, look-done}
 use Rattle.send.proofs.check.none_outside.Statement.{statement}
 use Rattle.send.proofs.check.none_outside.Tie as tie
 

@@ -2,7 +2,7 @@
 -- Assumes nothing.
 use native.Mathlib.Omega.{arith}
 use borrow.Author.Needs.{needs}
-use Rattle.send.proofs.Checking.{far-outside, near-within}
+use Rattle.request.proofs.Checking.{far-outside, near-within}
 use Rattle.send.proofs.check.outside.Statement.{statement}
 use Rattle.send.proofs.check.outside.Tie as tie
 

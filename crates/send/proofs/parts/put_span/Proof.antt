@@ -12,7 +12,7 @@ use Rattle.word.specs.Timing.{timing}
 use Rattle.send.specs.declared.picture.Passed.{Passed}
 use Rattle.send.specs.Inside.Put.{put, timingChars, pictureWord, pictureChars, passedAt, afterPictureChars, wholeChars}
 use Rattle.send.proofs.Passing.{length-picture}
-use Rattle.send.proofs.Putting.{Put, made, renamed, then, is-offset, same-size}
+use Rattle.send.proofs.Putting.{PutChars, made, renamed, then, is-offset, same-size}
 use Rattle.send.proofs.Runs.{blanking-made}
 use Rattle.send.proofs.Sizes.{length-after-picture}
 use Rattle.send.proofs.TimingCodes.{length-timing}
@@ -23,7 +23,7 @@ use Rattle.send.proofs.parts.put_span.Tie as tie
 -- the picture, by the offset and the buffer that it leaves
 passed-put : (pairs : ℕ) (ws : List ℕ) {d at : ℕ} {q : Passed} {before after : List ℕ}
     → (q ≡ passedAt pairs d ws) × (after ≡ put d (pictureChars pairs 1920 (pictureWord ws)) at before)
-    → Put d (pictureChars pairs 1920 (pictureWord ws)) at before (q .offset) after
+    → PutChars d (pictureChars pairs 1920 (pictureWord ws)) at before (q .offset) after
 passed-put pairs ws e = made (ap (λ (q : Passed). q .offset) (e .0), e .1)
 
 v-of-requires : tie.Need-v-of-requires

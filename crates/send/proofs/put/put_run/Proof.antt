@@ -1,4 +1,4 @@
--- `send::put::put_run` meets its contract: after i turns the first i pairs stand in the buffer.
+-- `send::put::put_run` meets its contract: after i iterations the first i pairs stand in the buffer.
 -- Assumes nothing.
 use mathlib.Core.Path.{_≡_, refl, ap, _∙_}
 use Prim.Native.Nat.{_-_, _≤_}

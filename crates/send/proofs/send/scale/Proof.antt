@@ -1,4 +1,4 @@
--- `send::send::scale` meets its contract: after i turns the first i words stand in their places.
+-- `send::send::scale` meets its contract: after i iterations the first i words stand in their places.
 -- Assumes nothing.
 use mathlib.Core.Path.{_≡_, refl, ap, _∙_}
 use Prim.Native.Nat.{_-_, _≤_}

@@ -7,8 +7,8 @@ use borrow.Author.Tests.{not-true, not-false}
 use Rattle.ground.proofs.Answers.{when-refused}
 use Rattle.span.specs.declared.length.SpanLengths.{SpanLengths}
 use Rattle.span.specs.Format.{shapeOf, samplesIn}
-use Rattle.send.specs.Send.{request}
-use Rattle.send.proofs.Refusals.{send-meets-1, send-meets-2, send-meets-3, send-meets-4}
+use Rattle.request.specs.Send.{request}
+use Rattle.request.proofs.Refusals.{send-meets-1, send-meets-2, send-meets-3, send-meets-4}
 use borrow.Author.Needs.{needs}
 use Rattle.send.proofs.send.send.Statement.{statement}
 use Rattle.send.proofs.send.send.Tie as tie

@@ -13,9 +13,9 @@ use Rattle.line.specs.Stream.{isActive}
 use Rattle.span.specs.declared.format.Format.{Format}
 use Rattle.span.specs.declared.sample.Bounds.{Bounds}
 use Rattle.span.specs.Inside.Sample.{boundsOf}
-use Rattle.send.specs.Send.{request}
-use Rattle.send.specs.Inside.Check.{firstOutside}
-use Rattle.send.proofs.Refusals.{send-meets-6, sends, is-good}
+use Rattle.request.specs.Send.{request}
+use Rattle.request.specs.Inside.Check.{firstOutside}
+use Rattle.request.proofs.Refusals.{send-meets-6, sends, is-good}
 use borrow.Author.Needs.{needs}
 use Rattle.send.proofs.send.send_samples.Statement.{statement}
 use Rattle.send.proofs.send.send_samples.Tie as tie

@@ -1,7 +1,7 @@
 -- `send::send::send_scaled` meets its contract: the words are the samples by the factor.
 -- Assumes nothing.
 use mathlib.Core.Path.{_∙_}
-use Rattle.send.specs.Send.{request}
+use Rattle.request.specs.Send.{request}
 use Rattle.send.proofs.Scaling.{length-words, are-words}
 use Rattle.send.proofs.Whole.{fits, span-put}
 use borrow.Author.Needs.{needs}

@@ -7,7 +7,7 @@ use lib.Seq.{length-take-le}
 use Rattle.span.specs.declared.format.Format.{Format}
 use Rattle.span.specs.Format.{shapeOf, samplesIn}
 use Rattle.span.proofs.Formats.{small}
-use Rattle.send.specs.Send.{request}
+use Rattle.request.specs.Send.{request}
 use Rattle.send.proofs.Scaling.{as-they-are, are-words}
 use Rattle.send.proofs.Whole.{fits, span-put}
 use borrow.Author.Needs.{needs}

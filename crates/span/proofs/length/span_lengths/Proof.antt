@@ -7,12 +7,13 @@ use borrow.Author.Needs.{needs}
 use Rattle.span.specs.declared.format.Shape.{Shape}
 use Rattle.span.specs.declared.length.SpanLengths.{SpanLengths}
 use Rattle.span.specs.Format.{samplesIn, symbolsIn}
+use Rattle.span.specs.Layout.{ancillaryStart}
 use Rattle.span.proofs.Formats.{small, few-pairs}
 use Rattle.span.proofs.length.span_lengths.Statement.{statement}
 use Rattle.span.proofs.length.span_lengths.Tie as tie
 
 -- the sums as the code makes them, and as the definitions do
-lengths-are : {p q : Shape} → p ≡ q → _≡_ {A = SpanLengths} (record { samples = 3840 * p .«stream_pairs»; symbols = 3 * (p .«stream_pairs» * (1932 + p .ancillary) + p .«fill_pairs») }) (record { samples = samplesIn q; symbols = symbolsIn q })
+lengths-are : {p q : Shape} → p ≡ q → _≡_ {A = SpanLengths} (record { samples = 3840 * p .«stream_pairs»; symbols = 3 * (p .«stream_pairs» * (ancillaryStart + p .ancillary) + p .«fill_pairs») }) (record { samples = samplesIn q; symbols = symbolsIn q })
 lengths-are {p} {q} e =
     let samples : 3840 * p .«stream_pairs» ≡ samplesIn p = omega arith in
     ap (λ (n : ℕ). record { samples = n; symbols = symbolsIn p }) samples ∙ ap (λ (x : Shape). record { samples = samplesIn x; symbols = symbolsIn x }) e

@@ -1,7 +1,7 @@
 -- `span_answers::spans::send_answer` meets its contract: case by case.
 -- Assumes nothing.
-use Rattle.send.specs.declared.send.Sent.{Sent}
-use Rattle.send.specs.Send.{paperSent}
+use Rattle.request.specs.declared.sent.Sent.{Sent}
+use Rattle.request.specs.Send.{paperSent}
 use Rattle.span_answers.specs.declared.spans.SendAnswer.{SendAnswer}
 use Rattle.span_answers.specs.Spans.{sendAnswerOf}
 use Rattle.boundary.proofs.Cases.{by-case}

@@ -1,4 +1,4 @@
--- `test_picture::row::put_codes` meets its contract: after x turns the first x samples are there.
+-- `test_picture::row::put_codes` meets its contract: after x iterations the first x samples are there.
 -- Assumes nothing.
 use mathlib.Core.Path.{_≡_, ap, _∙_}
 use mathlib.Core.List.{List}

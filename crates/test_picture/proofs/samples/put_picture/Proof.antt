@@ -1,4 +1,4 @@
--- `test_picture::samples::put_picture` meets its contract: after i turns the images of i rows are there.
+-- `test_picture::samples::put_picture` meets its contract: after i iterations the images of i rows are there.
 -- Assumes nothing.
 use mathlib.Core.Path.{_≡_, refl, ap, ap₂, _∙_}
 use mathlib.Core.List.{List, _++_}

@@ -1,4 +1,4 @@
--- `text::words::read_words` meets its contract: after i turns the first i words are there.
+-- `text::words::read_words` meets its contract: after i iterations the first i words are there.
 -- Assumes nothing.
 use mathlib.Core.Path.{_≡_, refl, ap, _∙_}
 use mathlib.Core.List.{List}

@@ -8,7 +8,7 @@ use Rattle.span.specs.declared.format.Format.{Format}
 use Rattle.span.specs.Format.{isKnown, shapeOf, samplesIn}
 use Rattle.span.specs.Sample.{allowed}
 use Rattle.span.specs.Stream.{Request}
-use Rattle.send.specs.Send.{forbidden}
+use Rattle.request.specs.Send.{forbidden}
 
 -- what may be sent, the symbol buffer apart
 pub record Accepted (f : Format) (a : Request) : Type 0 where

@@ -11,7 +11,7 @@ use Rattle.symbol.specs.declared.disparity.Disparity.{Disparity}
 use Rattle.span.specs.declared.format.Format.{Format}
 use Rattle.span.specs.Span.{spanAfter}
 use Rattle.span.specs.Stream.{Request}
-use Rattle.send.specs.Send.{paperSent, sendOf}
+use Rattle.request.specs.Send.{paperSent, sendOf}
 
 -- formats 1 to 3, with the samples and the symbols of a span
 abbrev pub Sized : ℕ → ℕ → ℕ → Type 0

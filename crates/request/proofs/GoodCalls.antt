@@ -20,12 +20,12 @@ use Rattle.span.specs.Inside.Sample.{boundsOf}
 use Rattle.span.specs.Span.{spanAfter}
 use Rattle.span.specs.Stream.{Request}
 use Rattle.span.proofs.Formats.{is-known, known-told}
-use Rattle.send.specs.Laws.{Sized, GoodCall}
-use Rattle.send.specs.Send.{sendOf}
-use Rattle.send.specs.Inside.Check.{firstOutside}
-use Rattle.send.specs.Inside.Send.{Accepted}
-use Rattle.send.proofs.Checking.{outside-never}
-use Rattle.send.proofs.Refusals.{forbidden-is, send-meets-1, send-meets-2, send-meets-3, send-meets-4, send-meets-6, sends, is-good}
+use Rattle.request.specs.Laws.{Sized, GoodCall}
+use Rattle.request.specs.Send.{sendOf}
+use Rattle.request.specs.Inside.Check.{firstOutside}
+use Rattle.request.specs.Inside.Send.{Accepted}
+use Rattle.request.proofs.Checking.{outside-never}
+use Rattle.request.proofs.Refusals.{forbidden-is, send-meets-1, send-meets-2, send-meets-3, send-meets-4, send-meets-6, sends, is-good}
 
 -- the bounds of a line, in those numbers
 module _ (f : Format) (n x : ℕ) where

@@ -17,8 +17,8 @@ use Rattle.span.specs.Format.{isKnown, shapeOf, samplesIn, symbolsIn}
 use Rattle.span.specs.Sample.{allowed}
 use Rattle.span.specs.Span.{spanSymbols, spanAfter}
 use Rattle.span.specs.Stream.{Request}
-use Rattle.send.specs.declared.send.Sent.{Sent}
-use Rattle.send.specs.declared.send.Sent.the-variants.{After, UnknownFormat, NoLine, WrongInput, WrongOutput, NotAllowed}
+use Rattle.request.specs.declared.sent.Sent.{Sent}
+use Rattle.request.specs.declared.sent.Sent.the-variants.{After, UnknownFormat, NoLine, WrongInput, WrongOutput, NotAllowed}
 
 abbrev pub request : ℕ → Content → List ℕ → Request
 request n content samples = record { line = n; content = content; samples = samples }

@@ -18,7 +18,7 @@ use Rattle.ground.proofs.Ranges.{is-within, not-within}
 use Rattle.ground.proofs.Reading.{next-left}
 use Rattle.ground.proofs.Searches.{Lowest, hit, is-hit, is-miss}
 use Rattle.ground.proofs.Tests.{both-left, both-right}
-use Rattle.send.specs.Inside.Check.{allWithin, firstOutside}
+use Rattle.request.specs.Inside.Check.{allWithin, firstOutside}
 
 -- what is put in and is not 0 stays
 stays : (found out : ℕ) → eqb out 0 ≡ false → eqb (bitOr found out) 0 ≡ false

@@ -7,9 +7,9 @@ use Rattle.ground.specs.Answer.{Answer, refused, given}
 use Rattle.ground.specs.Inside.Answer.{Injective}
 use Rattle.ground.proofs.Answers.{told-again}
 use Rattle.symbol.specs.declared.disparity.Disparity.{Disparity}
-use Rattle.send.specs.declared.send.Sent.{Sent}
-use Rattle.send.specs.declared.send.Sent.the-variants.{After, UnknownFormat, NoLine, WrongInput, WrongOutput, NotAllowed}
-use Rattle.send.specs.Send.{paperSent}
+use Rattle.request.specs.declared.sent.Sent.{Sent}
+use Rattle.request.specs.declared.sent.Sent.the-variants.{After, UnknownFormat, NoLine, WrongInput, WrongOutput, NotAllowed}
+use Rattle.request.specs.Send.{paperSent}
 
 abbrev sentAgain : Answer Disparity → Sent
 sentAgain (refused n place) =

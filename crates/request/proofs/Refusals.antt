@@ -19,10 +19,10 @@ use Rattle.span.specs.Span.{spanAfter}
 use Rattle.span.specs.Stream.{Request}
 use Rattle.span.proofs.Formats.{known-told}
 use Rattle.span.proofs.Samples.{allowed-is}
-use Rattle.send.specs.Send.{forbidden, firstForbidden, sendOf}
-use Rattle.send.specs.Inside.Check.{firstOutside}
-use Rattle.send.specs.Inside.Send.{Accepted}
-use Rattle.send.proofs.Checking.{outsideAt, found-first, found-none}
+use Rattle.request.specs.Send.{forbidden, firstForbidden, sendOf}
+use Rattle.request.specs.Inside.Check.{firstOutside}
+use Rattle.request.specs.Inside.Send.{Accepted}
+use Rattle.request.proofs.Checking.{outsideAt, found-first, found-none}
 
 module _ (f : Format) (a : Request) where
   abbrev low : ℕ

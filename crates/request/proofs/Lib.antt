@@ -1,0 +1,5 @@
+pub mod Checking
+pub mod GoodCalls
+pub mod Laws
+pub mod OneToOne
+pub mod Refusals

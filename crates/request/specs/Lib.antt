@@ -1,0 +1,3 @@
+pub mod Inside
+pub mod Laws
+pub mod Send
