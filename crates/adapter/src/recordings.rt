@@ -13,7 +13,7 @@ pub extern "C" fn brazulint_find(format: u32, depth: u32, symbols: &[u16], start
     ensures { λ r. ⌜ r ≡ findAnswerOf (findOf (formatFrom format depth) (now (symbols .entry)) start) ⌝ }
 {
     let f = boundary::numbers::format_from(format, depth);
-    recording_answers::recordings::find_answer(recording::find::find(f, symbols, start as usize))
+    recording_answers::recordings::find_answer(finding::find::find(f, symbols, start as usize))
 }
 
 // The same span, into rows: 1, 3, 4, 5.
@@ -29,7 +29,7 @@ pub extern "C" fn brazulint_next(
     ensures rows { λ _. ⌜ now (rows .exit) ≡ rowsNext (formatFrom format depth) (now (symbols .entry)) start (now (rows .entry)) ⌝ }
 {
     let f = boundary::numbers::format_from(format, depth);
-    recording_answers::recordings::next_answer(recording::next::next_span(
+    recording_answers::recordings::next_answer(finding::next::next_span(
         f,
         symbols,
         start as usize,

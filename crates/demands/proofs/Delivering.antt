@@ -13,7 +13,7 @@ use Rattle.ground.specs.Answer.{given, Answer}
 use Rattle.ground.specs.Bit.{inverted}
 use Rattle.span.specs.declared.format.Format.{Format}
 use Rattle.span.specs.Format.{isKnown, shapeOf, samplesIn, symbolsIn}
-use Rattle.read.proofs.Windows.{read-is}
+use Rattle.window.proofs.Windows.{read-is}
 use Rattle.delivery.specs.Delivery.{Found, deliver, deliverBy as deliverBy, movedBy, concatenated, placedFrom, Each}
 use Rattle.delivery.specs.Marked.{AllAfter}
 use Rattle.delivery.proofs.Cutting.{cut}
@@ -25,17 +25,17 @@ use Rattle.recording.specs.Call.{spanned, nextOf, findOf, nextRows, rowsNext}
 use Rattle.recording.specs.Recording.{limit, Reading, reading, nextFrom, deliveryFrom}
 use Rattle.recording.proofs.Calling.{finds-place, finds-none}
 use Rattle.recording.proofs.Readings.{reading-told, span-whole, span-marked}
-use Rattle.recording.specs.declared.seek.Spanned.{Spanned}
+use Rattle.recording.specs.declared.answer.Spanned.{Spanned}
 use Rattle.window.specs.declared.delivery.Delivery.{Delivery}
 use Rattle.window.specs.Read.{pictureOf, readOf, rowsLeft, rowsRead}
 use Rattle.window.proofs.Accepting.{row-passed}
 use borrow.Author.Tests.{leb-true, eqb-true}
 use Rattle.ground.proofs.Answers.{given-is}
-use Rattle.read.specs.Inside.Window.{IsWindow}
+use Rattle.window.specs.Inside.Window.{IsWindow}
 use Rattle.recording.specs.Inside.Look.{isComma}
 use Rattle.demands.specs.Form.{Sending, WasSent, sentSymbols, readingOf, spansOf, stepsFrom}
-use Rattle.stepping.specs.Steps.{spanStep, endStep, lastRows}
-use Rattle.stepping.proofs.Delivering.{steps-deliver}
+use Rattle.recording.specs.Steps.{spanStep, endStep, lastRows}
+use Rattle.recording.proofs.Steps.{steps-deliver}
 use Rattle.recording.proofs.Nexts.{next-is}
 use Rattle.demands.proofs.Sendings.{sent-read, harmed-long, harmed-not-read, row-holds}
 

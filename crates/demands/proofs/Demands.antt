@@ -47,7 +47,7 @@ use Rattle.demands.specs.Form.{Sending, WasSent, readingOf, Delivered}
 use Rattle.demands.specs.Demands.{Demand1, Delivers, Demand2, Demand3, Beyond}
 use Rattle.demands.proofs.Delivering.{steps-are, delivered, anywhere, alone, damaged, nothing, fewer, one-inverted, beginning, found-none, found-and-read}
 use Rattle.demands.proofs.PictureBack.{images-two, images-four, two-good, two-back, four-good, four-back}
-use Rattle.stepping.proofs.Delivering.{refused-stays, end-stays, steps-deliver}
+use Rattle.recording.proofs.Steps.{refused-stays, end-stays, steps-deliver}
 use Rattle.demands.proofs.Refusing.{known-says, symbols-say, samples-say, meaning-tried, decode-tried, repair-tried, line-words-tried, read-line-words-tried, crcc-tried, pack-tried, place-tried, lent, split-tried, join-tried, lengths-tried, fill-tried, send-tried, judge-tried, read-tried, rows-left, find-tried, next-tried, next-some}
 use Rattle.demands.proofs.Sendings.{row-holds, sendable}
 

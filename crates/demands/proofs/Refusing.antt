@@ -47,7 +47,7 @@ use Rattle.window.specs.Words.{wordAt}
 use Rattle.window.proofs.Accepting.{all-hold, none-fails}
 use Rattle.window.proofs.Calls.{is-of, of-is}
 use Rattle.delivery.specs.Delivery.{nextBy as nextBy, findBy as findBy, readFrom, foundAt}
-use Rattle.recording.specs.declared.seek.Spanned.{Spanned}
+use Rattle.recording.specs.declared.answer.Spanned.{Spanned}
 use Rattle.recording.specs.Call.{spanned, wordsOr, endOr, findOf, nextOf, afterNext, nextRows, rowsNext}
 use Rattle.recording.specs.Recording.{limit, Reading, reading, nextFrom}
 use Rattle.recording.proofs.Readings.{reading-told}

@@ -42,10 +42,10 @@ use Rattle.window.specs.Tests.{holds21, holds22, holds23, holds24, holds25, hol
 use Rattle.window.specs.Words.{wordAt}
 use Rattle.delivery.specs.Delivery.{Found, foundFrom, movedBy, concatenated, placedFrom, Each}
 use Rattle.delivery.specs.Marked.{AllAfter}
-use Rattle.recording.specs.declared.seek.Spanned.{Spanned}
+use Rattle.recording.specs.declared.answer.Spanned.{Spanned}
 use Rattle.recording.specs.Call.{findOf, nextOf, afterNext, rowsNext}
 use Rattle.recording.specs.Recording.{limit, Reading, reading, accepts, deliveryFrom}
-use Rattle.stepping.specs.Steps.{runFrom, spanStep, endStep, lastRows}
+use Rattle.recording.specs.Steps.{runFrom, spanStep, endStep, lastRows}
 use Rattle.span.specs.Blanking.{fillOf, blankRow, filledRow}
 use Rattle.request.specs.Send.{request, sendOf, sentBuffer}
 use Rattle.demands.specs.Form.{MaySend, Refusal, rule, ruleAt, Tried, Lent, Rows, Sending, WasSent, sentSymbols, readingOf, stepsFrom, Delivered, wordsFor}

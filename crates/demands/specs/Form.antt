@@ -18,9 +18,9 @@ use Rattle.span.specs.Span.{spanSymbols, spanAfter}
 use Rattle.span.specs.Stream.{Request, picture}
 use Rattle.window.specs.Encoded.{AreContent}
 use Rattle.delivery.specs.Delivery.{Found}
-use Rattle.recording.specs.declared.seek.Spanned.{Spanned}
+use Rattle.recording.specs.declared.answer.Spanned.{Spanned}
 use Rattle.recording.specs.Recording.{Reading}
-use Rattle.stepping.specs.Steps.{Step, runFrom}
+use Rattle.recording.specs.Steps.{Step, runFrom}
 use Rattle.request.specs.Send.{sendOf}
 use Rattle.window.specs.Read.{repairsOf}
 

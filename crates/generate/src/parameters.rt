@@ -38,7 +38,7 @@ fn counted(format: Format, first: StreamLine, input: &[u8]) -> Wanted
     }
     let count = text::words::word_of(input[4], input[5]) as usize;
     let symbols = span::length::span_lengths(format).symbols;
-    if recording::find::limit() < count * symbols {
+    if recording::limit::limit() < count * symbols {
         return Wanted::WrongInput;
     }
     Wanted::Recording(Parameters {

@@ -8,7 +8,7 @@ use native.Mathlib.Omega.{arith}
 use Rattle.span.specs.declared.format.Format.{Format}
 use Rattle.span.specs.Format.{isKnown, shapeOf, symbolsIn}
 use Rattle.span.proofs.Lengths.{known-has-streams}
-use Rattle.recording.specs.declared.seek.Spanned.{Spanned}
+use Rattle.recording.specs.declared.answer.Spanned.{Spanned}
 use Rattle.recording.specs.Recording.{limit, deliveryFrom}
 use Rattle.recording.proofs.OneStep.{Stepped}
 use Rattle.list_spans.specs.Listing.{lineOfSpan, linesOf}

@@ -8,7 +8,7 @@ use lib.ListN.{length, getD, drop}
 use Rattle.span.specs.declared.format.Format.{Format}
 use Rattle.span.specs.Format.{formatFrom, isKnown}
 use Rattle.delivery.specs.Delivery.{Found}
-use Rattle.recording.specs.declared.seek.Spanned.{Spanned}
+use Rattle.recording.specs.declared.answer.Spanned.{Spanned}
 use Rattle.recording.specs.Recording.{Reading, deliveryFrom}
 use Rattle.text.specs.Number.{decimal}
 use Rattle.text.specs.Put.{space, newline}

@@ -1,5 +1,5 @@
 // The text printed for an input, put into a lent buffer.
-use recording::next::NextSpan;
+use recording::answer::NextSpan;
 use span::format::Format;
 ghost use mathlib.Core.Path.{_≡_};
 ghost use mathlib.Core.Bool.{true};
@@ -37,7 +37,7 @@ fn put_spans(f: Format, symbols: &[u16], rows: &mut [u16], out: &mut [u8]) -> us
     let mut place = 0;
     let mut at = 0;
     while place < symbols.len() {
-        let next = recording::next::next_span(f, symbols, place, rows);
+        let next = finding::next::next_span(f, symbols, place, rows);
         let answer = next.answer;
         match answer {
             NextSpan::Delivered(s) => {

@@ -15,7 +15,7 @@ use Rattle.ground.specs.Search.{firstFrom, firstBelow, isSome}
 use Rattle.ground.proofs.Cases.{on-test}
 use Rattle.ground.proofs.Ranges.{is-within, not-within}
 use Rattle.ground.proofs.Tests.{both-left, both-right}
-use Rattle.ground.proofs.Writing.{length-upto, getD-upto, length-table, getD-table}
+use Rattle.ground.proofs.Writing.{getD-upto, length-table, getD-table}
 use Rattle.line.specs.Stream.{isActive}
 use Rattle.span.specs.declared.format.Format.{Format}
 use Rattle.span.specs.Format.{shapeOf, streams, pairsIn}
@@ -35,7 +35,9 @@ use Rattle.read_test21_26.specs.Inside.Call.{place25, place26}
 use Rattle.read_test21_26.specs.Inside.Holds.{picture25, fill26, wrongIn}
 use Rattle.read_test21_26.specs.Inside.Picture.{allAllowed}
 use Rattle.read_test21_26.specs.Inside.Verdict.{firstRow}
-use Rattle.read.specs.Inside.Window.{IsWindow, pictureTests, rightPicture}
+use Rattle.window.specs.Inside.Window.{IsWindow}
+use Rattle.window.proofs.Windows.{length-rows}
+use Rattle.read.specs.Inside.Picture.{pictureTests, rightPicture}
 
 -- ---- a test of all places that asks something in one run alone is another test of that run
 module _ (n from to : ℕ) (holds asked : ℕ → Bool) (up : from ≤ to) (most : to ≤ n)
@@ -80,17 +82,10 @@ all-allowed depth [] f = refl
 all-allowed depth (x ∷ xs) f = rw (f 0 (omega arith)) (all-allowed depth xs (λ i h. f (suc i) (omega arith)))
 
 module _ (s : ℕ) (word : ℕ → ℕ) where
-  sized : (t : ℕ) → length (column s word pictureStart 1920 t) ≡ 1920
-  sized t = length-table 1920 _
-
-  pub length-rows : length (rows s word) ≡ 1920 * s
-  unfolding rows
-  length-rows = length-upto 1920 (column s word pictureStart 1920) sized s
-
   -- word 4 + i of stream t stands at i of its row
   row-word : (t i : ℕ) → t < s → i < 1920 → getD (rows s word) (1920 * t + i) 0 ≡ wordOf s word (pictureStart + i) t
   unfolding rows
-  row-word t i h l = getD-upto 1920 (column s word pictureStart 1920) sized s t i 0 h l ∙ getD-table 1920 _ i 0 l
+  row-word t i h l = getD-upto 1920 (column s word pictureStart 1920) (λ t. length-table 1920 _) s t i 0 h l ∙ getD-table 1920 _ i 0 l
 
 -- ---- a window
 module _ (f : Format) (w : List ℕ) (is : IsWindow f w) where

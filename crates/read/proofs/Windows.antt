@@ -8,15 +8,14 @@ use mathlib.Core.Option.{Option, none, some, Option·getD}
 use Prim.Native.Nat.{ℕ, _≤_, _<_}
 use native.Mathlib.Nat.{eq-or-lt-of-le}
 use native.Mathlib.Omega.{arith}
-use lib.Dec.{eqb}
 use lib.ListN.{length, take, replicate}
-use borrow.Author.Tests.{eq-eqb, ne-eqb, lt-ltb, le-ltb}
+use borrow.Author.Tests.{eq-eqb, lt-ltb, le-ltb}
 use Rattle.ground.specs.Answer.{Answer, refused, given}
 use Rattle.ground.specs.Search.{firstBelow}
 use Rattle.ground.proofs.Searches.{hit}
 use Rattle.span.specs.declared.format.Format.{Format}
 use Rattle.span.specs.declared.format.Shape.{Shape}
-use Rattle.span.specs.Format.{isKnown, shapeOf, streams, samplesIn, symbolsIn}
+use Rattle.span.specs.Format.{shapeOf, streams, samplesIn, symbolsIn}
 use Rattle.span.proofs.Formats.{small}
 use Rattle.span.proofs.Lengths.{known-has-streams}
 use Rattle.read_test21_26.specs.declared.call.Service.{Service}
@@ -24,7 +23,7 @@ use Rattle.read_test21_26.specs.declared.service.Verdict.{Verdict}
 use Rattle.read_test20.specs.declared.place.Scanned.{Scanned}
 use Rattle.window.specs.declared.delivery.Delivery.{Delivery}
 use Rattle.crcc.specs.declared.sums.Sums.{Sums}
-use Rattle.window.specs.Read.{wordTests, deliveryOf, pictureOf, readSpan, judgeOf, readOf, rowsLeft, rowsRead}
+use Rattle.window.specs.Read.{wordTests, deliveryOf, pictureOf, readSpan, readOf, rowsLeft, rowsRead}
 use Rattle.window.specs.Scan.{startOf, runningAt, holds20}
 use Rattle.window.specs.Tests.{rows as rowsOf}
 use Rattle.window.specs.Words.{wordAt}
@@ -35,8 +34,8 @@ use Rattle.read_test20.specs.Inside.Whole.{wholeIf, placeIf20}
 use Rattle.read_test21_26.specs.Inside.Call.{place25, place26, serviceOf, serviceIf, placeIf}
 use Rattle.read_test21_26.specs.Inside.Fill.{fillIf}
 use Rattle.read_test21_26.specs.Inside.Verdict.{firstRow, serviceTests}
-use Rattle.read.specs.Inside.Window.{IsWindow}
-use Rattle.read.proofs.Picturing.{length-rows}
+use Rattle.window.specs.Inside.Window.{IsWindow}
+use Rattle.window.proofs.Windows.{long, read-is}
 use Rattle.read.proofs.Summing.{sums-right}
 use Rattle.read.proofs.Verdicts.{given-by, refused-by}
 
@@ -53,9 +52,6 @@ place-most p w = go (firstBelow (length w) (λ i. not (holds20 p w i))) refl
 module _ (f : Format) (w : List ℕ) (is : IsWindow f w) where
   abbrev word : ℕ → ℕ
   word = wordAt (shapeOf f) w
-
-  long : eqb (length w) (symbolsIn (shapeOf f)) ≡ true
-  long = eq-eqb (length w) (symbolsIn (shapeOf f)) (is .long)
 
   -- ---- the parts
   pub is-picture : {l : List ℕ} → l ≡ rowsOf (streams (shapeOf f)) word → l ≡ pictureOf f w
@@ -79,10 +75,6 @@ module _ (f : Format) (w : List ℕ) (is : IsWindow f w) where
 
   pub fill-is : fillIf f w ≡ fillRight (shapeOf f) w
   fill-is = rw (is .known, long)
-
-  pub length-picture : length (pictureOf f w) ≡ samplesIn (shapeOf f)
-  unfolding pictureOf
-  length-picture = length-rows (streams (shapeOf f)) word
 
   -- ---- test 20
   abbrev wrong20 : ℕ → Bool
@@ -131,26 +123,6 @@ module _ (f : Format) (w : List ℕ) (is : IsWindow f w) where
     pub read-given : v .number ≡ 0 → readSpan f w ≡ given (deliveryOf f w)
     unfolding readSpan
     read-given q = rw (none-20 all) (given-by 21 26 (deliveryOf f w) (wordTests f word) (omega arith) refl (rw e at q))
-
-  -- ---- the calls
-  pub judge-is : judgeOf f w ≡ readSpan f w
-  unfolding readSpan
-  judge-is = rw (is .known, long)
-
-  pub read-is : (room : ℕ) → room ≡ samplesIn (shapeOf f) → readOf f w room ≡ readSpan f w
-  unfolding readSpan
-  read-is room e = rw (is .known, long, eq-eqb room (samplesIn (shapeOf f)) e)
-
-  pub no-room : (room : ℕ) → (room ≡ samplesIn (shapeOf f) → ⊥) → readOf f w room ≡ refused 4 0
-  no-room room x = rw (is .known, long, ne-eqb room (samplesIn (shapeOf f)) x)
-
-module _ (f : Format) (w : List ℕ) (room : ℕ) where
-  pub unknown : isKnown f ≡ false → (readOf f w room ≡ refused 1 0) × (judgeOf f w ≡ refused 1 0)
-  unknown k = (rw k, rw k)
-
-  pub no-window : isKnown f ≡ true → (length w ≡ symbolsIn (shapeOf f) → ⊥) → (readOf f w room ≡ refused 3 0) × (judgeOf f w ≡ refused 3 0)
-  no-window k x =
-      let n = ne-eqb (length w) (symbolsIn (shapeOf f)) x in (rw (k, n), rw (k, n))
 
 -- ---- the rows afterwards
 module _ {number place : ℕ} (f : Format) (w entry made : List ℕ) (e : readSpan f w ≡ refused number place) where

@@ -1,1 +1,1 @@
-pub mod Window
+pub mod Picture

@@ -10,7 +10,8 @@ ghost use Rattle.window.specs.Tests.{lineRead};
 ghost use Rattle.window.specs.Words.{wordAt};
 ghost use Rattle.window.specs.Inside.Fill.{fillRight};
 ghost use Rattle.read_test21_26.specs.Inside.Verdict.{firstRow};
-ghost use Rattle.read.specs.Inside.Window.{IsWindow, pictureTests, rightPicture};
+ghost use Rattle.window.specs.Inside.Window.{IsWindow};
+ghost use Rattle.read.specs.Inside.Picture.{pictureTests, rightPicture};
 
 // Whether every word of the picture may be a sample's; on a blanking line any word may.
 fn picture_is_right(f: Format, line: StreamLine, rows: &[u16]) -> bool

@@ -20,7 +20,7 @@ ghost use Rattle.read_test20.specs.Inside.Run.{scannedOf};
 ghost use Rattle.read_test21_26.specs.Inside.Call.{serviceOf};
 ghost use Rattle.read_test21_26.specs.Inside.Verdict.{firstRow};
 ghost use Rattle.read.specs.Call.{paperRead};
-ghost use Rattle.read.specs.Inside.Window.{IsWindow};
+ghost use Rattle.window.specs.Inside.Window.{IsWindow};
 
 // A refused span: its rows are all zero.
 fn refuse(number: u8, place: usize, rows: &mut [u16]) -> Read

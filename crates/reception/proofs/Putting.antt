@@ -6,7 +6,7 @@ use Prim.Native.Nat.{ℕ}
 use Rattle.span.specs.declared.format.Format.{Format}
 use Rattle.window.specs.declared.delivery.Delivery.{Delivery}
 use Rattle.delivery.specs.Delivery.{Found}
-use Rattle.recording.specs.declared.seek.Spanned.{Spanned}
+use Rattle.recording.specs.declared.answer.Spanned.{Spanned}
 use Rattle.recording.specs.Call.{rowsNext}
 use Rattle.recording.specs.Recording.{Reading, deliveryFrom}
 use Rattle.recording.proofs.OneStep.{Stepped}

@@ -1,6 +1,6 @@
 // Delivering a piece: find, read, find again, and put what each span brings at its line's place.
 use line::stream::StreamLine;
-use recording::next::NextSpan;
+use recording::answer::NextSpan;
 use window::delivery::Delivery;
 ghost use mathlib.Core.Path.{_≡_};
 ghost use Prim.Native.Nat.{_+_, _≤_};
@@ -75,7 +75,7 @@ fn receive_all(
     let f = crate::link::link();
     let mut place = 0;
     while place < symbols.len() {
-        let next = recording::next::next_span(f, symbols, place, rows);
+        let next = finding::next::next_span(f, symbols, place, rows);
         let answer = next.answer;
         match answer {
             NextSpan::Delivered(s) => {

@@ -13,7 +13,7 @@ use Rattle.span.specs.declared.format.Format.{Format}
 use Rattle.span.specs.Format.{isKnown, shapeOf, samplesIn, symbolsIn}
 use Rattle.delivery.specs.Delivery.{Found, windowAt, readFrom, nextBy as nextBy}
 use Rattle.delivery.proofs.Finding.{told, stands-whole, found-told}
-use Rattle.recording.specs.declared.seek.Spanned.{Spanned}
+use Rattle.recording.specs.declared.answer.Spanned.{Spanned}
 use Rattle.recording.specs.Call.{findOf, spanned, nextOf, endOr, afterNext, wordsOr, rowsNext}
 use Rattle.recording.specs.Recording.{limit, Reading, reading, findFrom, nextFrom}
 use Rattle.recording.proofs.Readings.{span-whole}

@@ -1,9 +1,8 @@
 pub mod Calling
-pub mod Copying
 pub mod Laws
 pub mod Looking
 pub mod Nexts
 pub mod OneStep
 pub mod OneToOne
+pub mod Steps
 pub mod Readings
-pub mod Seeking

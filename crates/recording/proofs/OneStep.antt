@@ -15,9 +15,9 @@ use Rattle.span.specs.declared.format.Format.{Format}
 use Rattle.span.specs.Format.{isKnown, shapeOf, samplesIn, symbolsIn}
 use Rattle.delivery.specs.Delivery.{Found, followed}
 use Rattle.delivery.proofs.Finding.{at-the-end, next-then}
-use Rattle.recording.specs.declared.next.NextSpan.{NextSpan}
-use Rattle.recording.specs.declared.next.NextSpan.the-variants.{Delivered, Nowhere, UnknownFormat, WrongInput, WrongOutput, WrongStart}
-use Rattle.recording.specs.declared.seek.Spanned.{Spanned}
+use Rattle.recording.specs.declared.answer.NextSpan.{NextSpan}
+use Rattle.recording.specs.declared.answer.NextSpan.the-variants.{Delivered, Nowhere, UnknownFormat, WrongInput, WrongOutput, WrongStart}
+use Rattle.recording.specs.declared.answer.Spanned.{Spanned}
 use Rattle.recording.specs.Call.{paperNext, spanned, nextOf, endOr, afterNext, wordsOr, rowsNext}
 use Rattle.recording.specs.Recording.{limit, Reading, reading, nextFrom, deliveryFrom}
 use Rattle.recording.proofs.Calling.{next-given}

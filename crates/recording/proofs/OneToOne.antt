@@ -8,11 +8,11 @@ use lib.Dec.{eqb}
 use Rattle.ground.specs.Answer.{Answer, refused, given}
 use Rattle.ground.specs.Inside.Answer.{Injective}
 use Rattle.ground.proofs.Answers.{told-again}
-use Rattle.recording.specs.declared.find.Found.{Found}
-use Rattle.recording.specs.declared.find.Found.the-variants.{At, Nowhere, UnknownFormat, WrongInput, WrongStart}
-use Rattle.recording.specs.declared.next.NextSpan.{NextSpan}
-use Rattle.recording.specs.declared.next.NextSpan.the-variants.{Delivered, Nowhere as NoSpan, UnknownFormat as NoFormat, WrongInput as NoInput, WrongOutput, WrongStart as NoStart}
-use Rattle.recording.specs.declared.seek.Spanned.{Spanned}
+use Rattle.recording.specs.declared.answer.Found.{Found}
+use Rattle.recording.specs.declared.answer.Found.the-variants.{At, Nowhere, UnknownFormat, WrongInput, WrongStart}
+use Rattle.recording.specs.declared.answer.NextSpan.{NextSpan}
+use Rattle.recording.specs.declared.answer.NextSpan.the-variants.{Delivered, Nowhere as NoSpan, UnknownFormat as NoFormat, WrongInput as NoInput, WrongOutput, WrongStart as NoStart}
+use Rattle.recording.specs.declared.answer.Spanned.{Spanned}
 use Rattle.recording.specs.Call.{paperFound, paperNext}
 
 -- the answers out of the paper's values

@@ -9,11 +9,11 @@ use Rattle.ground.specs.Answer.{Answer, refused, given, Row, unless, checked, u
 use Rattle.span.specs.declared.format.Format.{Format}
 use Rattle.span.specs.Format.{isKnown, shapeOf, samplesIn, symbolsIn}
 use Rattle.delivery.specs.Delivery.{Found as FoundAt}
-use Rattle.recording.specs.declared.find.Found.{Found}
-use Rattle.recording.specs.declared.find.Found.the-variants.{At, Nowhere, UnknownFormat, WrongInput, WrongStart}
-use Rattle.recording.specs.declared.next.NextSpan.{NextSpan}
-use Rattle.recording.specs.declared.next.NextSpan.the-variants.{Delivered, Nowhere as NoSpan, UnknownFormat as NoFormat, WrongInput as NoInput, WrongOutput, WrongStart as NoStart}
-use Rattle.recording.specs.declared.seek.Spanned.{Spanned}
+use Rattle.recording.specs.declared.answer.Found.{Found}
+use Rattle.recording.specs.declared.answer.Found.the-variants.{At, Nowhere, UnknownFormat, WrongInput, WrongStart}
+use Rattle.recording.specs.declared.answer.NextSpan.{NextSpan}
+use Rattle.recording.specs.declared.answer.NextSpan.the-variants.{Delivered, Nowhere as NoSpan, UnknownFormat as NoFormat, WrongInput as NoInput, WrongOutput, WrongStart as NoStart}
+use Rattle.recording.specs.declared.answer.Spanned.{Spanned}
 use Rattle.recording.specs.Recording.{limit, Reading, findFrom, nextFrom}
 
 -- ---- finding

@@ -1,2 +1,1 @@
 pub mod Look
-pub mod Seek

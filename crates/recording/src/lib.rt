@@ -1,5 +1,3 @@
-// Finding spans in a recording, and delivering them one by one.
-pub mod find;
-mod look;
-pub mod next;
-pub mod seek;
+// Spans in a recording: what is read where, and what is answered. Most of this crate is definitions (specs/) and laws (proofs/).
+pub mod answer;
+pub mod limit;

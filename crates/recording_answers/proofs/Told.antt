@@ -7,12 +7,12 @@ use Prim.Native.Nat.{ℕ}
 use Rattle.ground.specs.Answer.{Answer, given}
 use Rattle.ground.specs.Inside.Answer.{Injective}
 use Rattle.window.specs.declared.delivery.Delivery.{Delivery}
-use Rattle.recording.specs.declared.find.Found.{Found}
-use Rattle.recording.specs.declared.find.Found.the-variants as Found
-use Rattle.recording.specs.declared.next.Next.{Next}
-use Rattle.recording.specs.declared.next.NextSpan.{NextSpan}
-use Rattle.recording.specs.declared.next.NextSpan.the-variants as NextSpan
-use Rattle.recording.specs.declared.seek.Spanned.{Spanned}
+use Rattle.recording.specs.declared.answer.Found.{Found}
+use Rattle.recording.specs.declared.answer.Found.the-variants as Found
+use Rattle.recording.specs.declared.answer.Next.{Next}
+use Rattle.recording.specs.declared.answer.NextSpan.{NextSpan}
+use Rattle.recording.specs.declared.answer.NextSpan.the-variants as NextSpan
+use Rattle.recording.specs.declared.answer.Spanned.{Spanned}
 use Rattle.recording.specs.Call.{paperFound, paperNext}
 use Rattle.recording.proofs.OneToOne.{found-one-to-one, next-one-to-one}
 use Rattle.recording_answers.specs.declared.recordings.FindAnswer.{FindAnswer}

@@ -2,8 +2,8 @@
 -- determine what was answered. `proofs/Laws` proves each.
 -- Assumes nothing.
 use Rattle.ground.specs.Inside.Answer.{Injective}
-use Rattle.recording.specs.declared.find.Found.{Found}
-use Rattle.recording.specs.declared.next.Next.{Next}
+use Rattle.recording.specs.declared.answer.Found.{Found}
+use Rattle.recording.specs.declared.answer.Next.{Next}
 use Rattle.recording.specs.Call.{paperFound, paperNext}
 use Rattle.recording_answers.specs.Recordings.{findAnswerOf, nextAnswerOf}
 

@@ -5,7 +5,7 @@ use Prim.Native.Nat.{ℕ}
 use mathlib.Core.Bool.{true, false}
 use mathlib.Core.Option.{Option, none, some}
 use Rattle.ground.specs.Answer.{Answer, refused, given}
-use Rattle.recording.specs.declared.seek.Spanned.{Spanned}
+use Rattle.recording.specs.declared.answer.Spanned.{Spanned}
 use Rattle.recording_answers.specs.declared.recordings.FindAnswer.{FindAnswer}
 use Rattle.recording_answers.specs.declared.recordings.NextAnswer.{NextAnswer}
 use Rattle.span_answers.specs.Spans.{valuesOf, noValues}

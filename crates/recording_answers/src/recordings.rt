@@ -1,8 +1,8 @@
 // What the calls on a recording answer. `found` says whether there is a span, and place 0 is a place like any other.
-use recording::find::Found;
-use recording::next::Next;
-use recording::next::NextSpan;
-use recording::seek::Spanned;
+use recording::answer::Found;
+use recording::answer::Next;
+use recording::answer::NextSpan;
+use recording::answer::Spanned;
 use span_answers::spans::Values;
 ghost use mathlib.Core.Path.{_≡_};
 ghost use mathlib.Core.Option.{some};

@@ -1,3 +1,2 @@
-pub mod Delivering
 pub mod Laws
 pub mod Saying

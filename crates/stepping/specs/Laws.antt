@@ -5,7 +5,7 @@ use mathlib.Core.Path.{_≡_}
 use mathlib.Core.List.{List, _∷_}
 use Rattle.span.specs.declared.format.Format.{Format}
 use Rattle.stepping.specs.declared.reader.Reader.{Reader}
-use Rattle.stepping.specs.Steps.{answerOf, movedOf, rowsAfterStep}
+use Rattle.stepping.specs.Reader.{answerOf, movedOf, rowsAfterStep}
 use Rattle.stepping.specs.Inside.Steps.{runOf}
 
 pub record SteppingLaws : Type 0 where

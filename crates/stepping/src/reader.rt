@@ -1,10 +1,10 @@
 // A reader that holds the recording and its place, and gives one span at a time. `next_span` does the work; each function here is thin,
 // since its proof walks through what it compiles to.
-use recording::next::NextSpan;
+use recording::answer::NextSpan;
 use span::format::Format;
 ghost use mathlib.Core.Path.{_≡_};
 ghost use Rattle.recording.specs.Call.{paperNext};
-ghost use Rattle.stepping.specs.Steps.{answerOf, movedOf, rowsAfterStep};
+ghost use Rattle.stepping.specs.Reader.{answerOf, movedOf, rowsAfterStep};
 
 // The recording, and the place from which the next step searches.
 pub struct Reader<'a> {
@@ -33,7 +33,7 @@ pub fn step<'s, 'a, 'r>(r: &'s mut Reader<'a>, f: Format, rows: &'r mut [u16]) -
     ensures moved { λ _. ⌜ now (r .exit) ≡ movedOf f (now (r .entry)) (now (rows .entry)) ⌝ }
     ensures rows { λ _. ⌜ now (rows .exit) ≡ rowsAfterStep f (now (r .entry)) (now (rows .entry)) ⌝ }
 {
-    let next = recording::next::next_span(f, r.symbols, r.place, rows);
+    let next = finding::next::next_span(f, r.symbols, r.place, rows);
     r.place = next.after;
     next.answer
 }

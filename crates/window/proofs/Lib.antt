@@ -22,3 +22,4 @@ pub mod SentAgain
 pub mod Specials
 pub mod Symbols
 pub mod TimingWords
+pub mod Windows

@@ -56,7 +56,7 @@ pub const ROOTS: &[Root] = &[
     root("span", Start::Functions(&["lengths_of", "fill_blanking"]), Part::Calls, "the lengths of a format, and a row of blanking"),
     root("send", Start::Functions(&["send"]), Part::Calls, "a span sent"),
     root("read", Start::Functions(&["read", "judge"]), Part::Calls, "a span read, and judged without rows"),
-    root("recording", Start::Functions(&["find", "next_span"]), Part::Calls, "a span found, and the next one read"),
+    root("finding", Start::Functions(&["find", "next_span"]), Part::Calls, "a span found, and the next one read"),
     root("decoder", Start::Functions(&["decode", "meaning_of"]), Part::Calls, "one symbol; C gets no meaning"),
     root("encoder", Start::Functions(&["encode_byte", "encode_special"]), Part::Calls, "one character; C gives it by its number"),
     root("packing", Start::Functions(&["pack", "unpack"]), Part::Calls, "two words as three bytes and back, which C does not get"),

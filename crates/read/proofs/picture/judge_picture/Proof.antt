@@ -4,7 +4,7 @@ use mathlib.Core.Path.{sym, ap₂, _∙_}
 use mathlib.Core.List.{List}
 use Prim.Native.Nat.{ℕ}
 use borrow.Author.Needs.{needs}
-use Rattle.read.specs.Inside.Window.{rightPicture}
+use Rattle.read.specs.Inside.Picture.{rightPicture}
 use Rattle.read.proofs.Picturing.{both-hold, fill-fails, picture-fails}
 use Rattle.read.proofs.Windows.{place-25, place-26}
 use Rattle.read.proofs.picture.judge_picture.Statement.{statement}

@@ -9,7 +9,7 @@ use borrow.Author.Needs.{needs}
 use Rattle.span.specs.declared.length.SpanLengths.{SpanLengths}
 use Rattle.span.specs.Format.{shapeOf, symbolsIn}
 use Rattle.span.proofs.Formats.{small}
-use Rattle.read.proofs.Windows.{unknown, no-window, judge-is}
+use Rattle.window.proofs.Windows.{unknown, no-window, judge-is}
 use Rattle.read.proofs.read.judge.Statement.{statement}
 use Rattle.read.proofs.read.judge.Tie as tie
 use Rattle.read.proofs.read.judge.Reads as reads
@@ -17,7 +17,7 @@ use Rattle.read.proofs.read.judge.Lts as lts
 use Rattle.read.proofs.read.read_window.Reads as read-window-reads
 use Rattle.span.proofs.format.is_known.Reads as is-known-reads
 use Rattle.span.proofs.length.span_lengths.Reads as span-lengths-reads
-use Rattle.read.specs.Inside.Window.{IsWindow}
+use Rattle.window.specs.Inside.Window.{IsWindow}
 
 is-known-requires : tie.Need-is-known-requires
 is-known-requires c κs = search needs

@@ -6,7 +6,8 @@ use lib.ListN.{length}
 use borrow.Author.Needs.{needs}
 use Rattle.span.specs.declared.length.SpanLengths.{SpanLengths}
 use Rattle.span.specs.Format.{shapeOf, samplesIn, symbolsIn}
-use Rattle.read.proofs.Windows.{unknown, no-window, no-room, read-is, rows-kept, rows-read}
+use Rattle.window.proofs.Windows.{unknown, no-window, no-room, read-is}
+use Rattle.read.proofs.Windows.{rows-kept, rows-read}
 use Rattle.read.proofs.read.read.Statement.{statement}
 use Rattle.read.proofs.read.read.Tie as tie
 use Rattle.read.proofs.read.read.Reads as reads
@@ -14,7 +15,7 @@ use Rattle.read.proofs.read.read.Lts as lts
 use Rattle.read.proofs.read.read_window.Reads as read-window-reads
 use Rattle.span.proofs.format.is_known.Reads as is-known-reads
 use Rattle.span.proofs.length.span_lengths.Reads as span-lengths-reads
-use Rattle.read.specs.Inside.Window.{IsWindow}
+use Rattle.window.specs.Inside.Window.{IsWindow}
 
 is-known-requires : tie.Need-is-known-requires
 is-known-requires c κs = search needs

@@ -1,6 +1,6 @@
 -- `recording_answers::recordings::find_answer` meets its contract: case by case.
 -- Assumes nothing.
-use Rattle.recording.specs.declared.find.Found.{Found}
+use Rattle.recording.specs.declared.answer.Found.{Found}
 use Rattle.recording.specs.Call.{paperFound}
 use Rattle.recording_answers.specs.declared.recordings.FindAnswer.{FindAnswer}
 use Rattle.recording_answers.specs.Recordings.{findAnswerOf}

@@ -1,7 +1,7 @@
 -- `recording_answers::recordings::next_answer` meets its contract: case by case.
 -- Assumes nothing.
 use Prim.Native.Nat.{ℕ}
-use Rattle.recording.specs.declared.next.NextSpan.{NextSpan}
+use Rattle.recording.specs.declared.answer.NextSpan.{NextSpan}
 use Rattle.recording.specs.Call.{paperNext}
 use Rattle.recording_answers.specs.declared.recordings.NextAnswer.{NextAnswer}
 use Rattle.recording_answers.specs.Recordings.{nextAnswerOf}

@@ -51,16 +51,16 @@ use denote.Exit.{yes}
 use Rattle.span.specs.declared.format.Format.{Format}
 use Rattle.span.proofs.format.Format as F
 use Rattle.span.proofs.format.Format.Laws as F′
-use Rattle.recording.specs.declared.next.Next.{Next}
+use Rattle.recording.specs.declared.answer.Next.{Next}
 use Rattle.recording.specs.Call.{paperNext, nextOf, afterNext, rowsNext}
-use Rattle.recording.proofs.next.Next as N
-use Rattle.recording.proofs.next.Next.Laws as N′
-use Rattle.recording.proofs.next.NextSpan as S
-use Rattle.recording.proofs.next.NextSpan.Laws as S′
-use Rattle.recording.proofs.next.next_span as next
-use Rattle.recording.proofs.next.next_span.Symbol as next-def
-use Rattle.recording.proofs.next.next_span.Symbol.{name as #next-span}
-use Rattle.recording.proofs.next.next_span.Met as next-thm
+use Rattle.recording.proofs.answer.Next as N
+use Rattle.recording.proofs.answer.Next.Laws as N′
+use Rattle.recording.proofs.answer.NextSpan as S
+use Rattle.recording.proofs.answer.NextSpan.Laws as S′
+use Rattle.finding.proofs.next.next_span as next
+use Rattle.finding.proofs.next.next_span.Symbol as next-def
+use Rattle.finding.proofs.next.next_span.Symbol.{name as #next-span}
+use Rattle.finding.proofs.next.next_span.Met as next-thm
 use Rattle.stepping.specs.declared.reader.Reader.{Reader}
 use Rattle.stepping.proofs.Saying.{says-three}
 use Rattle.stepping.proofs.reader.Reader as T
@@ -252,4 +252,4 @@ step-spec 𝓤 H 𝓜 𝓖 𝓡 =
     entered 𝓤 H (tripleOf 𝓤 H (𝓖 .A) step.signature (step.spec 𝓤 H (𝓖 .A) (𝓜 .mem) (𝓡 .run)))
     (tables 𝓤 H 𝓜 𝓡 code.env .C) (tables 𝓤 H 𝓜 𝓡 code.env .Λ) #step code.function (code.unfolded 𝓤 H 𝓜 𝓡)
     (step-meets 𝓤 H (𝓖 .A) (givenOf 𝓤 H 𝓜 𝓖) (𝓜 .mem) (𝓡 .run) (tablesOf 𝓤 H 𝓜 (tables 𝓤 H 𝓜 𝓡 code.env))
-    (cited 𝓤 H (NextSpan 𝓤 H (𝓖 .A) (𝓜 .mem) (𝓡 .run)) 𝓜 𝓡 code.env #next-span next-def.routine code.calls-recording·next·next-span (next-thm.met 𝓤 H 𝓜 𝓖 𝓡)))
+    (cited 𝓤 H (NextSpan 𝓤 H (𝓖 .A) (𝓜 .mem) (𝓡 .run)) 𝓜 𝓡 code.env #next-span next-def.routine code.calls-finding·next·next-span (next-thm.met 𝓤 H 𝓜 𝓖 𝓡)))

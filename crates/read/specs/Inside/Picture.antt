@@ -1,0 +1,21 @@
+-- The tests of a window's picture that the reader's private functions make.
+-- Assumes nothing.
+use Prim.Native.Nat.{ℕ}
+use mathlib.Core.Bool.{Bool, true, cond}
+use mathlib.Core.List.{List}
+use lib.ListN.{drop}
+use Rattle.ground.specs.Answer.{Row}
+use Rattle.line.specs.Stream.{isActive}
+use Rattle.span.specs.declared.format.Format.{Format}
+use Rattle.span.specs.Format.{shapeOf}
+use Rattle.window.specs.Read.{wordTests}
+use Rattle.window.specs.Words.{wordAt}
+use Rattle.read_test21_26.specs.Inside.Picture.{allAllowed}
+
+-- tests 25 and 26
+abbrev pub pictureTests : Format → List ℕ → List Row
+pictureTests f w = drop 4 (wordTests f (wordAt (shapeOf f) w))
+
+-- line n may carry this picture
+abbrev pub rightPicture : Format → ℕ → List ℕ → Bool
+rightPicture f n rows = cond (isActive n) (allAllowed (f .depth) rows) true
