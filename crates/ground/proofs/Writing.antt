@@ -7,8 +7,8 @@ use native.Mathlib.Nat.{add-zero, add-suc, mul-zero, mul-suc, mul-le-mul-left, e
 use native.Mathlib.Numerals.{add-one}
 use native.Mathlib.Omega.{arith}
 use mathlib.Core.Logic.{⊎-elim}
-use lib.ListN.{length, getD, set, replicate, length-append, length-replicate, getD-replicate, List·getD-append}
-use lib.Seq.{sets, sets-eq, drop-length, getD-append-add, ext-getD}
+use lib.ListN.{length, getD, set, take, drop, replicate, length-append, length-replicate, getD-replicate, List·getD-append}
+use lib.Seq.{sets, sets-eq, length-take-le, drop-length, getD-append-add, ext-getD}
 use lib.Dec.{eqb}
 use borrow.Author.Tests.{eqb-true}
 use mathlib.Core.Bool.{true}
@@ -27,6 +27,16 @@ module _ {A : Type 0} where
   sets-whole l xs e =
       let end : 0 + length xs ≡ length l = omega arith in
       sets-eq xs l 0 (omega arith) ∙ rw (end, drop-length) (append-nil xs)
+
+  -- what a run of stores has written is there
+  pub getD-sets : (l xs : List A) (i j : ℕ) (d : A) → i + length xs ≤ length l → j < length xs → getD (sets l i xs) (i + j) d ≡ getD xs j d
+  getD-sets l xs i j d fits h =
+      let front : length (take i l) ≡ i = length-take-le i l (omega arith) in
+      let written : length (take i l ++ xs) ≡ i + length xs = length-append (take i l) xs ∙ ap (λ (n : ℕ). n + length xs) front in
+      ap (λ (r : List A). getD r (i + j) d) (sets-eq xs l i fits)
+      ∙ List·getD-append (take i l ++ xs) (drop (i + length xs) l) d (i + j) (rw written (omega arith))
+      ∙ ap (λ (n : ℕ). getD (take i l ++ xs) (n + j) d) (sym front)
+      ∙ getD-append-add (take i l) xs j d
 
   pub upto-more : (n : ℕ) (f : ℕ → List A) → upto (n + 1) f ≡ upto n f ++ f n
   unfolding upto

@@ -1,4 +1,4 @@
--- One step with `step_at`: it gives the first span that is left, or says that none is left.
+-- One call of `next_span`: it gives the first span that is left, or says that none is left.
 -- Assumes nothing.
 use mathlib.Core.Path.{_≡_, refl, sym, ap, _∙_}
 use mathlib.Core.Bool.{true}

@@ -12,7 +12,7 @@ ghost use Rattle.row_crc.specs.Inside.Sums.{wordsIn};
 
 // A moved word j is put at 139 + j. So what word i gets is at i, which is the word 139 before it, at i + 53, the word 86 before, and at
 // i + 46, the word 93 before.
-const BEHIND: usize = 139;
+const FURTHEST: usize = 139;
 
 // How many words are folded: all but the last 139.
 const FOLDED: usize = 1781;
@@ -42,7 +42,7 @@ fn fold(row: &[u16], moved: &mut [u16])
 {
     let mut j = 0;
     while j < FOLDED {
-        moved[BEHIND + j] = with_moved(row, moved, j);
+        moved[FURTHEST + j] = with_moved(row, moved, j);
         j += 1;
     }
 }

@@ -1,12 +1,14 @@
 -- Pairs of one word again and again, where they leave the disparity as it was.
 -- Assumes nothing.
 use mathlib.Core.Path.{_≡_, refl, sym, ap, _∙_}
-use mathlib.Core.List.{List}
-use Prim.Native.Nat.{ℕ, _+_, _*_}
-use lib.ListN.{set}
-use lib.Seq.{sets}
+use mathlib.Core.List.{List, [], _∷_}
+use Prim.Native.Nat.{ℕ, zero, suc, _+_, _-_, _*_, _/_, _%_, _≤_, _<_}
+use native.Mathlib.Nat.{add-suc}
+use native.Mathlib.Omega.{arith}
+use lib.ListN.{length, getD, set, take}
+use lib.Seq.{sets, length-take-le, take-all, take-at, take-suc, getD-take}
 use Rattle.ground.specs.Written.{upto}
-use Rattle.ground.proofs.Writing.{sets-upto}
+use Rattle.ground.proofs.Writing.{sets-append, getD-sets, length-upto, sets-upto, getD-upto, upto-split}
 use Rattle.symbol.specs.declared.disparity.Disparity.{Disparity}
 use Rattle.symbol.specs.declared.disparity.Disparity.the-variants.{Negative, Positive}
 use Rattle.symbol.specs.Code.{afterOf}
@@ -20,7 +22,7 @@ use Rattle.span.proofs.Encoding.{same-again, stays, length-symbols}
 use Rattle.packing.specs.declared.bytes.ThreeBytes.{ThreeBytes}
 use Rattle.packing.specs.Bytes.{bytesOf}
 use Rattle.send.specs.declared.coder.Three.{Three}
-use Rattle.send.specs.Inside.Put.{offsetAfter, put, pairChars, runChars, threeOf, KeepsDisparity, blankingChars}
+use Rattle.send.specs.Inside.Put.{offsetAfter, put, pairChars, runChars, repeated, threeOf, KeepsDisparity, blankingChars}
 use Rattle.send.proofs.Putting.{PutChars, one-offset, three-put}
 
 -- the symbols of a pair of the word
@@ -53,6 +55,81 @@ module _ (d w : ℕ) (before : List ℕ) (at : ℕ) where
   pub all-again : KeepsDisparity w → (n : ℕ) → again n ≡ put d (runChars n w) at before
   unfolding again put runChars
   all-again s n = ap (sets before at) (sym (same-again (ofOffset d) (pairChars w w) (s .keeps (ofOffset d)) n))
+
+  -- the first 32 of them, and each symbol after those the one 96 before it
+  module _ (s : KeepsDisparity w) (n : ℕ) (many : 32 ≤ n) (room : at + 3 * n ≤ length before) where
+    abbrev pair : List ℕ
+    pair = symbolsFrom (ofOffset d) (pairChars w w)
+
+    sized : (m : ℕ) → length pair ≡ 3
+    sized m = length-symbols (ofOffset d) (pairChars w w)
+
+    abbrev run : List ℕ
+    run = upto n (λ _. pair)
+
+    long : length run ≡ 3 * n
+    long = length-upto 3 (λ _. pair) sized n
+
+    -- symbol k of the run is that of a pair
+    symbol-of : (k : ℕ) → k < 3 * n → getD run k 0 ≡ getD pair (k % 3) 0
+    symbol-of k h =
+        let whole : 3 * (k / 3) + k % 3 ≡ k = omega arith in
+        ap (λ (i : ℕ). getD run i 0) (sym whole) ∙ getD-upto 3 (λ _. pair) sized n (k / 3) (k % 3) 0 (omega arith) (omega arith)
+
+    same-symbol : (m : ℕ) → 96 + m < 3 * n → getD run m 0 ≡ getD run (96 + m) 0
+    same-symbol m h =
+        let rest : (96 + m) % 3 ≡ m % 3 = omega arith in
+        symbol-of m (omega arith) ∙ ap (λ (i : ℕ). getD pair i 0) (sym rest) ∙ sym (symbol-of (96 + m) h)
+
+    first-32 : take 96 run ≡ upto 32 (λ _. pair)
+    first-32 =
+        let rest : ℕ = n - 32 in
+        let all : 32 + rest ≡ n = omega arith in
+        ap (λ (i : ℕ). take 96 (upto i (λ _. pair))) (sym all)
+        ∙ ap (take 96) (sym (upto-split 32 rest (λ _. pair)))
+        ∙ take-at (upto 32 (λ _. pair)) (upto rest (λ _. pair)) 96 (length-upto 3 (λ _. pair) sized 32)
+
+    repeats : (m : ℕ) → 96 + m ≤ 3 * n → repeated m (at + 96) (sets before at (take 96 run)) ≡ sets before at (take (96 + m) run)
+    unfolding repeated
+    repeats zero h = refl
+    repeats (suc m) h =
+        let done : List ℕ = take (96 + m) run in
+        let size : length done ≡ 96 + m = length-take-le (96 + m) run (omega (arith, long)) in
+        let here : at + 96 + m ≡ at + length done = omega arith in
+        let back : at + 96 + m - 96 ≡ at + m = omega arith in
+        let read : getD (sets before at done) (at + 96 + m - 96) 0 ≡ getD run (96 + m) 0 =
+        ap (λ (i : ℕ). getD (sets before at done) i 0) back
+        ∙ getD-sets before done at m 0 (omega arith) (omega arith)
+        ∙ getD-take (96 + m) run m 0 (omega arith)
+        ∙ same-symbol m (omega arith) in
+        ap (λ (l : List ℕ). set l (at + 96 + m) (getD l (at + 96 + m - 96) 0)) (repeats m (omega arith))
+        ∙ ap (set (sets before at done) (at + 96 + m)) read
+        ∙ sets-append before done (getD run (96 + m) 0 ∷ []) at (at + 96 + m) here
+        ∙ ap (sets before at) (sym (take-suc run (96 + m) 0 (omega (arith, long))) ∙ ap (λ (k : ℕ). take k run) (sym (add-suc 96 m)))
+
+    pub repeated-run : {first : List ℕ} → first ≡ put d (runChars 32 w) at before
+        → repeated (at + 3 * n - (at + 96)) (at + 96) first ≡ put d (runChars n w) at before
+    unfolding again
+    repeated-run {first} is =
+        let count : at + 3 * n - (at + 96) ≡ 3 * n - 96 = omega arith in
+        let end : 96 + (3 * n - 96) ≡ 3 * n = omega arith in
+        ap (λ (k : ℕ). repeated k (at + 96) first) count
+        ∙ ap (repeated (3 * n - 96) (at + 96)) (is ∙ sym (all-again s 32) ∙ ap (sets before at) (sym first-32))
+        ∙ repeats (3 * n - 96) (omega arith)
+        ∙ ap (λ (k : ℕ). sets before at (take k run)) end
+        ∙ ap (sets before at) (take-all (3 * n) run (omega (arith, long)))
+        ∙ all-again s n
+
+-- one symbol more is repeated
+pub one-repeated : (from i : ℕ) (before : List ℕ) {out : List ℕ} → from ≤ i → out ≡ repeated (i - from) from before
+    → set out i (getD out (i - 96) 0) ≡ repeated (i + 1 - from) from before
+unfolding repeated
+one-repeated from i before h is =
+    let here : from + (i - from) ≡ i = omega arith in
+    let more : suc (i - from) ≡ i + 1 - from = omega arith in
+    let stepped : set (repeated (i - from) from before) i (getD (repeated (i - from) from before) (i - 96) 0) ≡ repeated (suc (i - from)) from before =
+    rw here refl in
+    rw is stepped ∙ ap (λ (n : ℕ). repeated n from before) more
 
 -- told at each disparity
 kept : {w : ℕ} → afterRun Negative (pairChars w w) ≡ Negative → afterRun Positive (pairChars w w) ≡ Positive → KeepsDisparity w

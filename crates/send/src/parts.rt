@@ -135,6 +135,7 @@ fn put_blanking(
 )
     requires { ⌜ now symbols ≡ symbolTable ⌝ }
     requires { ⌜ now flips ≡ flipTable ⌝ }
+    requires { ⌜ 1 ≤ p .«stream_pairs» ⌝ }
     requires { ⌜ Small p ⌝ }
     requires { ⌜ KeepsDisparity blank ⌝ }
     requires { ⌜ d ≡ offsetOf (ofOffset d) ⌝ }
@@ -144,8 +145,8 @@ fn put_blanking(
     let area = p.stream_pairs * p.ancillary;
     let start = ANCILLARY_SYMBOL * p.stream_pairs;
     let fill = span::blanking::fill_word();
-    crate::put::put_run(symbols, flips, area, d, blank, out, start);
-    crate::put::put_run(symbols, flips, p.fill_pairs, d, fill, out, start + 3 * area);
+    crate::put::put_long_run(symbols, flips, area, d, blank, out, start);
+    crate::put::put_long_run(symbols, flips, p.fill_pairs, d, fill, out, start + 3 * area);
 }
 
 // The whole span, of at most two pairs of streams: SAV and picture, what comes after it, and blanking.

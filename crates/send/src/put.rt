@@ -1,11 +1,11 @@
 // Pieces of a span, put into the symbol buffer at a place.
 ghost use mathlib.Core.Path.{_≡_};
-ghost use Prim.Native.Nat.{_+_, _*_, _/_, _%_, _≤_, _<_};
+ghost use Prim.Native.Nat.{_+_, _-_, _*_, _/_, _%_, _≤_, _<_};
 ghost use mathlib.Core.List.{[], _∷_};
 ghost use lib.ListN.{length};
 ghost use Rattle.encoder.specs.Inside.Tables.{offsetOf, ofOffset, symbolTable};
 ghost use Rattle.encoder.specs.Inside.Tables.{flipTable};
-ghost use Rattle.send.specs.Inside.Put.{offsetAfter, put, pairChars, groupChars, wordOfFour, runChars, KeepsDisparity};
+ghost use Rattle.send.specs.Inside.Put.{offsetAfter, put, pairChars, groupChars, wordOfFour, runChars, repeated, KeepsDisparity};
 
 // One word of each stream; with two streams the last two are not used.
 pub(crate) struct Four {
@@ -196,4 +196,39 @@ pub(crate) fn put_run(
         out[at + 3 * i + 2] = t.third;
         i += 1;
     }
+}
+
+// Each symbol from one place up to another becomes the one 96 before it. That is far enough for the compiler to copy many at a time.
+fn repeat(out: &mut [u16], from: usize, to: usize)
+    requires { ⌜ 96 ≤ from ⌝ }
+    requires { ⌜ to ≤ length (now out) ⌝ }
+    ensures { λ _. ⌜ now (out .exit) ≡ repeated (to - from) from (now (out .entry)) ⌝ }
+{
+    let mut i = from;
+    while i < to {
+        out[i] = out[i - 96];
+        i += 1;
+    }
+}
+
+// A run of 32 pairs or more: the first 32, and then those again. As one loop over pairs it is fast or slow by what is compiled around it.
+pub(crate) fn put_long_run(
+    symbols: &[u16; 536],
+    flips: &[u16; 268],
+    pairs: usize,
+    d: usize,
+    w: u16,
+    out: &mut [u16],
+    at: usize,
+)
+    requires { ⌜ now symbols ≡ symbolTable ⌝ }
+    requires { ⌜ now flips ≡ flipTable ⌝ }
+    requires { ⌜ d ≡ offsetOf (ofOffset d) ⌝ }
+    requires { ⌜ KeepsDisparity w ⌝ }
+    requires { ⌜ 32 ≤ pairs ⌝ }
+    requires { ⌜ at + 3 * pairs ≤ length (now out) ⌝ }
+    ensures { λ _. ⌜ now (out .exit) ≡ put d (runChars pairs w) at (now (out .entry)) ⌝ }
+{
+    put_run(symbols, flips, 32, d, w, out, at);
+    repeat(out, at + 96, at + 3 * pairs);
 }

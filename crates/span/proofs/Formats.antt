@@ -59,11 +59,11 @@ module _ (f : Format) where
   unknown x = on-test (isKnown f) (λ t. absurd (x (known-told t))) (λ t. t)
 
 small-row : (n : ℕ) → Small (numbered n)
-small-row zero = record { half = omega arith; ancillary = omega arith; fill = omega arith }
-small-row (suc zero) = record { half = omega arith; ancillary = omega arith; fill = omega arith }
-small-row (suc (suc zero)) = record { half = omega arith; ancillary = omega arith; fill = omega arith }
-small-row (suc (suc (suc zero))) = record { half = omega arith; ancillary = omega arith; fill = omega arith }
-small-row (suc (suc (suc (suc n)))) = record { half = omega arith; ancillary = omega arith; fill = omega arith }
+small-row zero = record { half = omega arith; ancillary = omega arith; fill = omega arith; longArea = λ h. omega arith; longFill = λ h. omega arith }
+small-row (suc zero) = record { half = omega arith; ancillary = omega arith; fill = omega arith; longArea = λ h. omega arith; longFill = λ h. omega arith }
+small-row (suc (suc zero)) = record { half = omega arith; ancillary = omega arith; fill = omega arith; longArea = λ h. omega arith; longFill = λ h. omega arith }
+small-row (suc (suc (suc zero))) = record { half = omega arith; ancillary = omega arith; fill = omega arith; longArea = λ h. omega arith; longFill = λ h. omega arith }
+small-row (suc (suc (suc (suc n)))) = record { half = omega arith; ancillary = omega arith; fill = omega arith; longArea = λ h. omega arith; longFill = λ h. omega arith }
 
 pub small : {p : Shape} (f : Format) → p ≡ shapeOf f → Small p
 unfolding shapeOf
@@ -82,3 +82,8 @@ pub few-pairs : {p : Shape} → Small p → p .«stream_pairs» * (ancillaryStar
 few-pairs {p} s =
     let m : (ancillaryStart + p .ancillary) * p .«stream_pairs» ≤ (ancillaryStart + p .ancillary) * 2 = mul-le-mul-left (ancillaryStart + p .ancillary) (s .half) in
     omega (arith, m, s .ancillary)
+
+-- and the pairs of its ancillary area, if it has streams
+pub long-area : {p : Shape} → Small p → 1 ≤ p .«stream_pairs» → 268 ≤ p .«stream_pairs» * p .ancillary
+long-area {p} s h =
+    let m : p .ancillary * 1 ≤ p .ancillary * p .«stream_pairs» = mul-le-mul-left (p .ancillary) h in omega (arith, m, s .longArea h)

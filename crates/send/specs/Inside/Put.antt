@@ -1,12 +1,12 @@
 -- What the sender's loops put into the symbol buffer, with the running disparity kept as its offset in the encoder's tables. Only private
 -- functions use this. Law `whole-is`: all of it together is the characters of the span.
 -- Assumes nothing.
-use Prim.Native.Nat.{ℕ, _+_, _*_, _<_}
+use Prim.Native.Nat.{ℕ, zero, suc, _+_, _-_, _*_, _<_}
 use mathlib.Core.Path.{_≡_}
 use mathlib.Core.Bool.{true, false, cond}
 use mathlib.Core.List.{List, [], _∷_, _++_}
 use lib.Dec.{eqb}
-use lib.ListN.{length, getD, drop}
+use lib.ListN.{length, getD, set, drop}
 use lib.Seq.{sets}
 use Rattle.ground.specs.Written.{upto, table}
 use Rattle.symbol.specs.declared.disparity.Disparity.{Disparity}
@@ -128,6 +128,11 @@ afterPictureChars pairs s next content =
 -- a run of pairs of one word
 unfoldable pub runChars : ℕ → ℕ → List ℕ
 runChars n w = upto n (λ _. pairChars w w)
+
+-- n symbols from a place on, each of them the one 96 before it
+unfoldable pub repeated : ℕ → ℕ → List ℕ → List ℕ
+repeated zero from out = out
+repeated (suc n) from out = set (repeated n from out) (from + n) (getD (repeated n from out) (from + n - 96) 0)
 
 -- the ancillary area, of the blanking word blank, and the fill
 abbrev pub blankingChars : Shape → ℕ → List ℕ

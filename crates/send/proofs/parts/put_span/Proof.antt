@@ -62,7 +62,7 @@ put-blanking-requires c κs =
     let p1 = made (c .before .before .before .before .before .before .before .before .before .before .before .before .put-timing .ensures) in
     let p2 = passed-put (s .args .p .«stream_pairs») (s .args .words .now) (c .before .before .before .before .before .before .before .before .put-picture .ensures) in
     let p3 = made (c .before .before .before .put-after-picture .ensures) in
-    (s .pre .0, (s .pre .1 .0, (s .pre .1 .1 .1 .0, (s .pre .1 .1 .1 .1 .0, (is-offset p3, same-size p3 ∙ same-size p2 ∙ same-size p1 ∙ s .pre .1 .1 .1 .1 .1 .1 .1 .1)))))
+    (s .pre .0, (s .pre .1 .0, (s .pre .1 .1 .0, (s .pre .1 .1 .1 .0, (s .pre .1 .1 .1 .1 .0, (is-offset p3, same-size p3 ∙ same-size p2 ∙ same-size p1 ∙ s .pre .1 .1 .1 .1 .1 .1 .1 .1))))))
 
 same-length : tie.Need-same-length
 same-length c = search needs
