@@ -1,7 +1,7 @@
 -- The CRC of a run: a word at a time, run after run, and what the register is below.
 -- Assumes nothing.
 use mathlib.Core.Path.{_≡_, refl, sym, ap, ap₂, _∙_}
-use mathlib.Core.List.{List, [], _∷_, _++_, map}
+use mathlib.Core.List.{List, [], _∷_, _++_}
 use Prim.Native.Nat.{ℕ, zero, suc, _+_, _*_, _/_, _%_, _^_, _≤_, _<_}
 use native.Mathlib.Nat.{add-zero, zero-mul, mul-assoc, pow-suc}
 use native.Mathlib.Numerals.{add-one, one-add}
@@ -17,16 +17,6 @@ use Rattle.ground.proofs.Xors.{⊕-zero, ⊕-assoc, ⊕-comm, ⊕-middle, ⊕-b
 use Rattle.crcc.specs.Crcc.{taps, bitStep, bitSteps, crcWord, crc, crccFrom, crccWords}
 use Rattle.word.specs.Word.{guarded}
 use Rattle.word.proofs.Guards.{guard-kept}
-
--- The CRCC words of the words 001, 100, 800 and FFF alone, as polynomial long division gives them (rust/plain).
-pub long-division : map (λ (w : ℕ). crccWords (crc 0 (w ∷ []))) (0x001 ∷ 0x100 ∷ 0x800 ∷ 0xFFF ∷ [])
-    ≡ record { crcc0 = 0x918; crcc1 = 0x800 }
-    ∷ record { crcc0 = 0x800; crcc1 = 0x88C }
-    ∷ record { crcc0 = 0x800; crcc1 = 0x460 }
-    ∷ record { crcc0 = 0x708; crcc1 = 0x7BC }
-    ∷ []
-unfolding crc _⊕_ guarded
-long-division = refl
 
 -- what X^5 + X^4 + 1 makes of a number of bits: each comes back at its own place, one higher and five higher
 spread : ℕ → ℕ

@@ -2,21 +2,13 @@
 -- Assumes nothing.
 use Prim.Native.Nat.{ℕ, _+_, _*_, _/_, _%_, _^_, _≤_, _<_}
 use mathlib.Core.Path.{_≡_}
-use mathlib.Core.List.{List, [], _∷_, _++_, map}
+use mathlib.Core.List.{List, [], _++_}
 use lib.ListN.{length, getD}
 use Rattle.ground.specs.Answer.{refused, given}
 use Rattle.ground.specs.Inside.Answer.{Injective}
 use Rattle.crcc.specs.Crcc.{crc, crccWords, paperCrcc, crccOf}
 
 pub record CrccLaws : Type 0 where
-  -- the CRCC words of the words 001, 100, 800 and FFF alone are what polynomial long division gives (004, 6.4; rust/plain)
-  pub longDivision :
-      map (λ (w : ℕ). crccWords (crc 0 (w ∷ []))) (0x001 ∷ 0x100 ∷ 0x800 ∷ 0xFFF ∷ [])
-      ≡ record { crcc0 = 0x918; crcc1 = 0x800 }
-      ∷ record { crcc0 = 0x800; crcc1 = 0x88C }
-      ∷ record { crcc0 = 0x800; crcc1 = 0x460 }
-      ∷ record { crcc0 = 0x708; crcc1 = 0x7BC }
-      ∷ []
   -- the register after a run, continued over a second one, is the register after both as one run
   pub continues : (c : ℕ) (xs ys : List ℕ) → crc (crc c xs) ys ≡ crc c (xs ++ ys)
   -- the register stays within its eighteen bits (6.4 b)

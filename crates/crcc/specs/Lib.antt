@@ -1,3 +1,4 @@
 pub mod Crcc
 pub mod Inside
 pub mod Laws
+pub mod Paper

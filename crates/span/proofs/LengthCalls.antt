@@ -9,7 +9,7 @@ use Rattle.ground.specs.Answer.{refused, given}
 use Rattle.span.specs.declared.format.Format.{Format}
 use Rattle.span.specs.Format.{isKnown, shapeOf, samplesIn, symbolsIn, formatFrom}
 use Rattle.span.specs.Length.{lengthsOf}
-use Rattle.span.proofs.Formats.{Known, is-known, unknown}
+use Rattle.span.proofs.Formats.{is-known}
 
 module _ (f : Format) where
   pub lengths-given :
@@ -18,10 +18,6 @@ module _ (f : Format) where
 
   pub lengths-refused : isKnown f ≡ false → lengthsOf f ≡ refused 1 0
   lengths-refused t = simp t
-
-  -- whatever is not format 1 to 3 at 10 or 12 bits
-  pub lengths-meets-1 : (Known f → ⊥) → lengthsOf f ≡ refused 1 0
-  lengths-meets-1 x = lengths-refused (unknown f x)
 
 module _ (depth : ℕ) (bits : (depth ≡ 10) ⊎ (depth ≡ 12)) where
   pub lengths-of-120 : lengthsOf (formatFrom 1 depth) ≡ given (record { samples = 3840; symbols = 7920 })

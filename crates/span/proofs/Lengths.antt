@@ -15,7 +15,7 @@ use Rattle.span.specs.declared.format.Format.{Format}
 use Rattle.span.specs.declared.format.Shape.{Shape}
 use Rattle.span.specs.Content.{contentOf}
 use Rattle.span.specs.Format.{formatFrom, isKnown, shapeOf, streams, pairsIn, symbolsIn, eavAt}
-use Rattle.span.specs.Laws.{columns}
+use Rattle.span.specs.Paper.{columns}
 use Rattle.span.specs.Span.{interleaved, bytes, wordsFromSav, wordsFromEav, spanWords, charsFromSav, charsFromEav, spanChars, spanSymbols, fillWord}
 use Rattle.span.specs.Stream.{Request, fromSav, fromEav}
 use Rattle.span.specs.Layout.{eavStart}

@@ -10,6 +10,7 @@ pub mod LengthCalls
 pub mod Lengths
 pub mod OneToOne
 pub mod Packing
+pub mod Paper
 pub mod Parts
 pub mod Places
 pub mod Readiness

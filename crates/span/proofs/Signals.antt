@@ -1,17 +1,15 @@
--- Spans one after the other are one run of characters; the CRC runs on from the picture words of the line before the number.
+-- Spans one after the other are one run of characters.
 -- Assumes nothing.
 use mathlib.Core.Path.{_≡_, refl, sym, ap, _∙_}
 use mathlib.Core.List.{List, [], _∷_, _++_}
 use Prim.Native.Nat.{ℕ}
 use Rattle.symbol.specs.declared.disparity.Disparity.{Disparity}
 use Rattle.symbol.specs.declared.disparity.Disparity.the-variants.{Negative}
-use Rattle.crcc.specs.Crcc.{crc}
-use Rattle.crcc.proofs.Crc.{crc-append}
 use Rattle.span.specs.declared.format.Format.{Format}
 use Rattle.span.specs.Encoding.{symbolsFrom}
-use Rattle.span.specs.Laws.{allChars}
+use Rattle.span.specs.Paper.{allChars}
 use Rattle.span.specs.Span.{spanChars, spanSymbols, spanAfter, signalFrom, signal}
-use Rattle.span.specs.Stream.{Request, picture, eav, lineNumber, register}
+use Rattle.span.specs.Stream.{Request}
 use Rattle.span.proofs.Encoding.{symbols-append}
 
 -- the disparity that a span leaves is handed on
@@ -26,8 +24,3 @@ handed-on d f (a ∷ more) =
 pub signal-is : (f : Format) (spans : List Request) → signal f spans ≡ symbolsFrom Negative (allChars f spans)
 unfolding signal
 signal-is f spans = handed-on Negative f spans
-
--- 004, 6.4: from the first word after a SAV, through the picture, to the last line-number word
-pub register-runs-on : (f : Format) (a : Request) (t : ℕ) → register f a t ≡ crc (crc 0 (picture f a t)) (eav a ++ lineNumber a)
-unfolding register
-register-runs-on f a t = sym (crc-append 0 (picture f a t) (eav a ++ lineNumber a))

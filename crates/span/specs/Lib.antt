@@ -8,6 +8,7 @@ pub mod Laws
 pub mod Layout
 pub mod Length
 pub mod Numbers
+pub mod Paper
 pub mod Sample
 pub mod Span
 pub mod Stream

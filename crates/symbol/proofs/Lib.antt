@@ -4,5 +4,6 @@ pub mod Flip
 pub mod Forms
 pub mod Inverse
 pub mod Laws
+pub mod Paper
 pub mod Ones
 pub mod Specials

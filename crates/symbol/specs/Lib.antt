@@ -4,3 +4,4 @@ pub mod Code
 pub mod Disparity
 pub mod Inside
 pub mod Laws
+pub mod Paper

@@ -1,16 +1,14 @@
 -- What holds of the words of a stream, proved: each field cites the law that says it.
 -- Assumes nothing.
 use Rattle.word.specs.Laws.{WordLaws}
-use Rattle.word.proofs.Agree.{agree}
 use Rattle.word.proofs.Guards.{guard-opposite, guard-kept}
-use Rattle.word.proofs.LineNumbers.{line-good, no-line-0, no-line, different, read-sent, meets-7, meets-22, recital}
+use Rattle.word.proofs.LineNumbers.{line-good, no-line-0, no-line, different, read-sent, meets-7, meets-22}
 use Rattle.word.proofs.OneToOne.{repair-one-to-one, numbered-one-to-one, named-one-to-one}
 use Rattle.word.proofs.Repairs.{apart, sent-whole, repair-meets-7, repair-meets-8}
 use Rattle.word.proofs.Timings.{v-told, h-told}
 
 pub word-laws : WordLaws
 word-laws = record {
-  paperValues = agree;
   guardOpposite = guard-opposite;
   guardKept = guard-kept;
   vTold = v-told;
@@ -26,7 +24,6 @@ word-laws = record {
   readSent = read-sent;
   readMeets7 = meets-7;
   readMeets22 = meets-22;
-  recital = recital;
   repairTold = repair-one-to-one;
   numberedTold = numbered-one-to-one;
   namedTold = named-one-to-one;

@@ -4,6 +4,7 @@ pub mod Laws
 pub mod LineNumbers
 pub mod Near
 pub mod OneToOne
+pub mod Paper
 pub mod Repairs
 pub mod Timings
 pub mod Words

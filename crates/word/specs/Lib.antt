@@ -1,5 +1,6 @@
 pub mod Laws
 pub mod LineNumber
+pub mod Paper
 pub mod Received
 pub mod Repair
 pub mod Timing

@@ -1,0 +1,17 @@
+-- The words of a stream in the papers' own numerals; `proofs/Paper` proves each.
+-- Assumes nothing.
+use Prim.Native.Nat.{ℕ, _-_, _*_, _/_, _%_, _≤_}
+use mathlib.Core.Path.{_≡_}
+use mathlib.Core.List.{map}
+use Rattle.ground.specs.Answer.{refused}
+use Rattle.word.specs.LineNumber.{ln0, ln1, namedOf}
+use Rattle.word.specs.Values.{Value, values}
+
+pub record WordPaper : Type 0 where
+  -- what the definitions give is what the paper says (document 01, "Values to hold against it")
+  pub agree : map (λ (v : Value). v .gives) values ≡ map (λ (v : Value). v .says) values
+  -- 004, table 8: L6 to L0 at b10 to b4 of LN0, L10 to L7 at b7 to b4 of LN1, the other low bits 0, b11 the opposite of b10
+  pub ln0Bits : (n : ℕ) → n ≤ 1125 → (ln0 n % 2048 ≡ n % 128 * 16) × (ln0 n / 2048 ≡ 1 - ln0 n / 1024 % 2)
+  pub ln1Bits : (n : ℕ) → n ≤ 1125 → (ln1 n % 2048 ≡ n / 128 * 16) × (ln1 n / 2048 ≡ 1 - ln1 n / 1024 % 2)
+  -- the lost recital: LN0 of line 128 is 800, LN1 of line 127 is 800, and 800 800 names no line
+  pub recital : (ln0 128 ≡ 0x800) × (ln1 127 ≡ 0x800) × (namedOf 0x800 0x800 ≡ refused 22 0)
