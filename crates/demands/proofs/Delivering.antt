@@ -8,7 +8,8 @@ use mathlib.Core.Option.{Option, none, some}
 use Prim.Native.Nat.{ℕ, zero, suc, _+_, _-_, _*_, _≤_, _<_}
 use native.Mathlib.Nat.{add-zero, zero-add}
 use native.Mathlib.Omega.{arith}
-use lib.ListN.{length, getD, set, take, drop, replicate}
+use lib.ListN.{length, getD, set, take, drop, replicate, length-drop}
+use lib.Seq.{drop-append-le}
 use Rattle.ground.specs.Answer.{given, Answer}
 use Rattle.ground.specs.Bit.{inverted}
 use Rattle.span.specs.declared.format.Format.{Format}
@@ -60,9 +61,24 @@ module _ (f : Format) (known : isKnown f ≡ true) where
         ∙ ap spansOf (steps-deliver f known r short p rows room inside j)
         ∙ spans-given ds j (lastRows rows ds)
 
-    pub delivered : (list : List (Found Reading)) → deliveryFrom f r 0 ≡ list → (rows : List ℕ) → length rows ≡ samplesIn (shapeOf f)
-        → (k : ℕ) → length r ≤ k → stepsFrom k f r 0 rows ≡ list
-    delivered list e rows room k h = steps-are k 0 rows room (omega arith) (omega arith) ∙ e
+    pub delivered : (p : ℕ) → p ≤ length r → (list : List (Found Reading)) → deliveryFrom f r p ≡ list → (rows : List ℕ)
+        → length rows ≡ samplesIn (shapeOf f) → (k : ℕ) → length r ≤ p + k → stepsFrom k f r p rows ≡ list
+    delivered p inside list e rows room k h = steps-are k p rows room inside h ∙ e
+
+  -- ---- what the reader accepts, anywhere, from a start before it
+  pub accepted : (w : List ℕ) (x : Reading) → reading f w ≡ some x → (before behind : List ℕ) (p : ℕ) → p ≤ length before
+      → deliveryFrom f (before ++ (w ++ behind)) p
+      ≡ deliveryFrom f before p
+      ++ (record { place = length before; reading = x } ∷ movedBy (length before + n) (deliveryFrom f behind 0))
+  unfolding deliverBy
+  accepted w x is before behind p inside =
+      let there : p + length (drop p before) ≡ length before = omega (arith, length-drop p before) in
+      ap (λ (l : List ℕ). deliver n (reading f) p 0 l) (drop-append-le p before (w ++ behind) inside)
+      ∙ split n (reading f) isComma (span-marked f known) w behind x is (drop p before) p
+      ∙ rw there
+      (ap (λ (l : List (Found Reading)). deliver n (reading f) p 0 (drop p before) ++ (record { place = length before; reading = x } ∷ l))
+      (ap (λ (k : ℕ). deliver n (reading f) k 0 behind) (sym (add-zero (length before + n)))
+      ∙ moved n (reading f) (length before + n) 0 0 behind))
 
   -- ---- sent spans
   module _ (x : Sending) (sent : WasSent f x) where
@@ -71,13 +87,7 @@ module _ (f : Format) (known : isKnown f ≡ true) where
         → deliveryFrom f (before ++ (sentSymbols f x ++ behind)) 0
         ≡ deliveryFrom f before 0
         ++ (record { place = length before; reading = readingOf f x } ∷ movedBy (length before + n) (deliveryFrom f behind 0))
-    unfolding deliverBy
-    anywhere before behind =
-        split n (reading f) isComma (span-marked f known) (sentSymbols f x) behind (readingOf f x) (sent-read f x sent) before 0
-        ∙ rw (zero-add (length before))
-        (ap (λ (l : List (Found Reading)). deliver n (reading f) 0 0 before ++ (record { place = length before; reading = readingOf f x } ∷ l))
-        (ap (λ (k : ℕ). deliver n (reading f) k 0 behind) (sym (add-zero (length before + n)))
-        ∙ moved n (reading f) (length before + n) 0 0 behind))
+    anywhere before behind = accepted (sentSymbols f x) (readingOf f x) (sent-read f x sent) before behind 0 (omega arith)
 
   -- each of a list is read as it was sent
   each-read : (xs : List Sending) → Each (WasSent f) xs → Each (ReadAs n (reading f) (sentSymbols f) (readingOf f)) xs

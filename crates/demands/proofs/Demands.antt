@@ -6,7 +6,7 @@ use mathlib.Core.List.{List, _++_}
 use mathlib.Core.Option.{Option, none, some}
 use Prim.Native.Nat.{ℕ, _+_, _%_, _≤_, _<_}
 use native.Mathlib.Omega.{arith}
-use lib.ListN.{length, take, drop}
+use lib.ListN.{length, take, drop, length-append}
 use borrow.Author.Tests.{eqb-true}
 use Rattle.ground.specs.Answer.{refused, given}
 use Rattle.ground.specs.Bit.{inverted}
@@ -38,14 +38,15 @@ use Rattle.delivery.proofs.Finding.{untold, not-at-the-end, found-at, found-tol
 use Rattle.recording.specs.Call.{findRows, findOf}
 use Rattle.recording.specs.Recording.{accepts, limit, Reading, reading, findFrom, deliveryFrom}
 use Rattle.recording.proofs.Calling.{finds}
+use Rattle.recording.proofs.Paper.{recording-paper}
 use Rattle.recording.proofs.Readings.{span-whole}
 use Rattle.span.specs.Blanking.{fillOf, blankRow}
 use Rattle.request.specs.Send.{request, refusals, sendOf, sentBuffer}
 use Rattle.request.specs.Laws.{GoodCall}
 use Rattle.request.proofs.GoodCalls.{good-is-sent}
-use Rattle.demands.specs.Form.{Sending, WasSent, readingOf, Delivered}
+use Rattle.demands.specs.Form.{Sending, WasSent, readingOf, DeliveredFrom, Delivered}
 use Rattle.demands.specs.Demands.{Demand1, Delivers, Demand2, Demand3, Beyond}
-use Rattle.demands.proofs.Delivering.{steps-are, delivered, anywhere, alone, damaged, nothing, fewer, one-inverted, beginning, found-none, found-and-read}
+use Rattle.demands.proofs.Delivering.{steps-are, delivered, accepted, anywhere, alone, damaged, nothing, fewer, one-inverted, beginning, found-none, found-and-read}
 use Rattle.demands.proofs.PictureBack.{images-two, images-four, two-good, two-back, four-good, four-back}
 use Rattle.recording.proofs.Steps.{refused-stays, end-stays, steps-deliver}
 use Rattle.demands.proofs.Refusing.{known-says, symbols-say, samples-say, meaning-tried, decode-tried, repair-tried, line-words-tried, read-line-words-tried, crcc-tried, pack-tried, place-tried, lent, split-tried, join-tried, lengths-tried, fill-tried, send-tried, judge-tried, read-tried, rows-left, find-tried, next-tried, next-some}
@@ -103,11 +104,16 @@ as-asked : (d e : Disparity) (f : Format) (a : Request) (entry : List ℕ) → s
     → (sentBuffer d f a entry ≡ spanSymbols d f a) × (e ≡ spanAfter d f a)
 as-asked d e f a entry sent = (sym (when-given entry (spanSymbols d f a) sent), sym (given-is (refusals f a (length entry)) (spanAfter d f a) e sent))
 
--- a recording is delivered as its delivery says
+-- a recording is delivered as its delivery says, from any place on
+from-place : (f : Format) → IsFormat f → (r : List ℕ) → length r ≤ limit → (p : ℕ) → p ≤ length r → (list : List (Found Reading))
+    → deliveryFrom f r p ≡ list → DeliveredFrom f r p list
+from-place f known r short p inside list e rows room k h =
+    delivered f (known-says f .holds known) r short p inside list e rows
+    (eqb-true _ _ (samples-say f known (length rows) .holds room)) k h
+
 by-calls : (f : Format) → IsFormat f → (r : List ℕ) → length r ≤ limit → (list : List (Found Reading)) → deliveryFrom f r 0 ≡ list
     → Delivered f r list
-by-calls f known r short list e rows room k h =
-    delivered f (known-says f .holds known) r short list e rows (eqb-true _ _ (samples-say f known (length rows) .holds room)) k h
+by-calls f known r short list e = from-place f known r short 0 (omega arith) list e
 
 -- a good call of a line of the picture: it is sent, and delivered wherever it stands
 module _ (f : Format) (known : IsFormat f) (l : ℕ) (content : Content) (samples : List ℕ) (bytes : AreContent (contentOf f content))
@@ -211,6 +217,7 @@ demand-3 = record {
   literally = λ f r k p known h. literally (symbolsIn (shapeOf f)) (reading f) (span-whole f (known-says f .holds known)) r k p h;
   stepping = λ f r rows k p known short room inside enough.
       steps-are f (known-says f .holds known) r short k p rows (eqb-true _ _ (samples-say f known (length rows) .holds room)) inside enough;
+  recordings = recording-paper;
   anywhere = λ f x before behind sent short.
       let known = sendable f x sent .known in
       by-calls f (known-says f .told known) _ short _ (anywhere f known x sent before behind);
@@ -224,6 +231,10 @@ demand-3 = record {
 
 pub beyond : Beyond
 beyond = record {
+  accepted = λ f w before behind x p known is inside short.
+      let r = before ++ (w ++ behind) in
+      from-place f known r short p (omega (arith, length-append before (w ++ behind))) _
+      (accepted f (known-says f .holds known) w x is before behind p inside);
   damaged = λ f xs ys d known before behind short.
       by-calls f known _ short _ (damaged f (known-says f .holds known) xs ys d before behind);
   nothing = λ f d known h e. nothing f (known-says f .holds known) d h (untold (reading f d) e);

@@ -1,5 +1,6 @@
 pub mod Delivering
 pub mod Demands
+pub mod Examples
 pub mod PictureBack
 pub mod Refusing
 pub mod Sendings

@@ -37,7 +37,7 @@ use Rattle.demands.specs.Demands.{IsRow}
 
 -- ---- one stream of all
 
-length-picture : (f : Format) (a : Request) (t : ℕ) → length (picture f a t) ≡ 1920
+pub length-picture : (f : Format) (a : Request) (t : ℕ) → length (picture f a t) ≡ 1920
 unfolding picture
 length-picture f a t = length-table 1920 (λ j. sampleWord f (a .line) t (getD (a .samples) (1920 * t + j) 0))
 

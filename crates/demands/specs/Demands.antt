@@ -44,11 +44,12 @@ use Rattle.delivery.specs.Delivery.{Found, foundFrom, movedBy, concatenated, pl
 use Rattle.delivery.specs.Marked.{AllAfter}
 use Rattle.recording.specs.declared.answer.Spanned.{Spanned}
 use Rattle.recording.specs.Call.{findOf, nextOf, afterNext, rowsNext}
+use Rattle.recording.specs.Paper.{RecordingPaper}
 use Rattle.recording.specs.Recording.{limit, Reading, reading, accepts, deliveryFrom}
 use Rattle.recording.specs.Steps.{runFrom, spanStep, endStep, lastRows}
 use Rattle.span.specs.Blanking.{fillOf, blankRow, filledRow}
 use Rattle.request.specs.Send.{request, sendOf, sentBuffer}
-use Rattle.demands.specs.Form.{MaySend, Refusal, rule, ruleAt, Tried, Lent, Rows, Sending, WasSent, sentSymbols, readingOf, stepsFrom, Delivered, wordsFor}
+use Rattle.demands.specs.Form.{MaySend, Refusal, rule, ruleAt, Tried, Lent, Rows, Sending, WasSent, sentSymbols, readingOf, stepsFrom, DeliveredFrom, Delivered, wordsFor}
 
 -- ==== 1 ====
 
@@ -384,6 +385,8 @@ pub record Demand3 : Type 0 where
       → p ≤ length r
       → length r ≤ p + k
       → stepsFrom k f r p rows ≡ deliveryFrom f r p
+  -- a recording is as long as document 01 says, and what is read of a window is what the reader answers
+  pub recordings : RecordingPaper
   -- a sent span anywhere
   pub anywhere :
       (f : Format) (x : Sending) (before after : List ℕ)
@@ -417,10 +420,21 @@ pub record Demand3 : Type 0 where
 
 -- ==== beyond ====
 
--- Any symbols in place of one span: delivered are every span before, what these symbols deliver by themselves, and every span after. So
--- nothing after the damage is lost, and at most a span's length of symbols, if not accepted, delivers nothing. Lost and inserted symbols
--- are cases of this.
+-- Demand 3 beyond its letter. Any symbols in place of one span: delivered are every span before, what these symbols deliver by themselves,
+-- and every span after. So nothing after the damage is lost, and at most a span's length of symbols, if not accepted, delivers nothing.
+-- Lost and inserted symbols are cases of this.
 pub record Beyond : Type 0 where
+  -- a window that the reader accepts, repaired or another maker's, anywhere, and from any start before it
+  pub accepted :
+      (f : Format) (w before after : List ℕ) (x : Reading) (p : ℕ)
+      → IsFormat f
+      → reading f w ≡ some x
+      → p ≤ length before
+      → let r = before ++ (w ++ after) in
+      length r ≤ limit
+      → DeliveredFrom f r p
+      (deliveryFrom f before p
+      ++ (record { place = length before; reading = x } ∷ movedBy (length before + symbolsIn (shapeOf f)) (deliveryFrom f after 0)))
   pub damaged :
       (f : Format) (xs ys : List Sending) (d : List ℕ)
       → IsFormat f

@@ -1,6 +1,6 @@
 -- The forms in which the demands are stated: the rows of the table of refusals for a call, the lent memory, a span that was sent.
 -- Assumes nothing.
-use Prim.Native.Nat.{ℕ, _*_, _≤_, _<_}
+use Prim.Native.Nat.{ℕ, _+_, _*_, _≤_, _<_}
 use mathlib.Core.Path.{_≡_}
 use mathlib.Core.Bool.{cond}
 use mathlib.Core.List.{List, [], _∷_}
@@ -123,9 +123,15 @@ spansOf (s ∷ more) = onward (s .answer) (s .rows) (spansOf more)
 abbrev pub stepsFrom : ℕ → Format → List ℕ → ℕ → List ℕ → List (Found Reading)
 stepsFrom k f r p rows = spansOf (runFrom k f r p rows)
 
--- a recording is delivered as a list: with rows of the right length and at least as many steps as it has symbols, the calls give that list
+-- a recording is delivered from place p on as a list: with rows of the right length and as many steps as it has symbols from there on, or
+-- more, the calls give that list
+abbrev pub DeliveredFrom : Format → List ℕ → ℕ → List (Found Reading) → Type 0
+DeliveredFrom f r p list =
+    (rows : List ℕ) → Samples f (length rows) → (k : ℕ) → length r ≤ p + k → stepsFrom k f r p rows ≡ list
+
+-- the whole of it
 abbrev pub Delivered : Format → List ℕ → List (Found Reading) → Type 0
-Delivered f r list = (rows : List ℕ) → Samples f (length rows) → (k : ℕ) → length r ≤ k → stepsFrom k f r 0 rows ≡ list
+Delivered f r list = DeliveredFrom f r 0 list
 
 -- ---- the picture
 

@@ -4,5 +4,6 @@ pub mod Looking
 pub mod Nexts
 pub mod OneStep
 pub mod OneToOne
-pub mod Steps
+pub mod Paper
 pub mod Readings
+pub mod Steps

@@ -1,5 +1,6 @@
 pub mod Call
 pub mod Inside
 pub mod Laws
+pub mod Paper
 pub mod Recording
 pub mod Steps

@@ -1,0 +1,87 @@
+-- Examples that meet what the demands ask for, at each format and depth, with their numbers. Each is derived from the demands alone
+-- (`proofs/Examples`), so none of them is empty: not a demand whose good call may be refused, nor one that delivers nothing, nor one
+-- with a condition that nothing meets.
+-- Assumes nothing.
+use Prim.Native.Nat.{ℕ, _+_, _*_, _≤_, _<_}
+use mathlib.Core.Path.{_≡_}
+use mathlib.Core.Bool.{cond}
+use mathlib.Core.List.{List, [], _++_}
+use mathlib.Core.Option.{none, some}
+use lib.Dec.{eqb}
+use lib.ListN.{length, getD, set, replicate}
+use Rattle.ground.specs.Answer.{refused, given}
+use Rattle.ground.specs.Bit.{inverted}
+use Rattle.symbol.specs.declared.disparity.Disparity.{Disparity}
+use Rattle.symbol.specs.declared.disparity.Disparity.the-variants.{Negative}
+use Rattle.span.specs.declared.content.Content.the-variants.{NoneNamed}
+use Rattle.span.specs.declared.format.Format.{Format}
+use Rattle.span.specs.Format.{formatFrom}
+use Rattle.span.specs.Length.{lengthsOf}
+use Rattle.span.specs.Numbers.{IsFormat, Symbols, Samples}
+use Rattle.window.specs.declared.delivery.Delivery.{Delivery}
+use Rattle.recording.specs.Call.{nextOf, rowsNext}
+use Rattle.request.specs.Send.{request, sendOf, sentBuffer}
+use Rattle.demands.specs.Demands.{IsRow}
+use Rattle.demands.specs.Form.{Sending, WasSent, sentSymbols}
+
+-- the lowest sample that may be sent: 4 at ten bits, 16 at twelve. Its word is 16 either way.
+abbrev pub lowest : Format → ℕ
+lowest f = cond (eqb (f .depth) 10) 4 16
+
+-- a span of n symbols and m samples on line 42, the first of the picture, every sample the lowest; and one on a blanking line
+abbrev pub onLine42 : Format → ℕ → Disparity → Sending
+onLine42 f m d = record { before = d; asked = request 42 NoneNamed (replicate m (lowest f)) }
+
+abbrev pub blankLine : ℕ → ℕ → Sending
+blankLine m line = record { before = Negative; asked = request line NoneNamed (replicate m 0x100) }
+
+-- three spans, of lines 1, 2 and 3, with bit k of symbol i of the second inverted
+abbrev pub threeLines : Format → ℕ → ℕ → ℕ → List ℕ
+threeLines f m i k =
+    let second = sentSymbols f (blankLine m 2) in
+    sentSymbols f (blankLine m 1) ++ (set second i (inverted k (getD second i 0)) ++ sentSymbols f (blankLine m 3))
+
+-- the answer of next span: a span at this place, of this line
+pub record IsNext (f : Format) (r : List ℕ) (start room place line : ℕ) : Type 0 where
+  pub delivery : Delivery
+  pub answer : nextOf f r start room ≡ given (some (record { place = place; delivery = delivery }))
+  pub names : delivery .line .0 ≡ line
+
+-- at format f, where a span has n symbols and m samples
+pub record At (f : Format) (n m : ℕ) : Type 0 where
+  -- a row of the picture, and calls that were sent
+  pub row : IsRow f (replicate 3840 (lowest f))
+  pub sent42 : (d : Disparity) → WasSent f (onLine42 f m d)
+  pub sentBlank : (line : ℕ) → 1 ≤ line → line ≤ 41 → WasSent f (blankLine m line)
+  -- a sent span among noise, less than a span of it before and after: the calls answer it at its place, with its line and words, and then
+  -- that there is none
+  pub amongNoise :
+      (d : Disparity) (before after rows : List ℕ)
+      → length before < n
+      → length after < n
+      → length rows ≡ m
+      → let r = before ++ (sentSymbols f (onLine42 f m d) ++ after) in
+      IsNext f r 0 m (length before) 42
+      × (rowsNext f r 0 rows ≡ replicate m 16)
+      × (nextOf f r (length before + n) m ≡ given none)
+  -- with one bit of the second of three inverted, line 1 is answered at 0 and line 3 at 2n, and then that there is none
+  pub oneOfThree :
+      (i k : ℕ)
+      → i < n
+      → k < 10
+      → IsNext f (threeLines f m i k) 0 m 0 1
+      × IsNext f (threeLines f m i k) n m (2 * n) 3
+      × (nextOf f (threeLines f m i k) (3 * n) m ≡ given none)
+  -- sample 3, which may be sent at neither depth, is refused with 6 at its index, and the buffer stays as it was
+  pub refused6 :
+      (d : Disparity) (i : ℕ) (entry : List ℕ)
+      → i < m
+      → length entry ≡ n
+      → let a = request 42 NoneNamed (set (replicate m (lowest f)) i 3) in
+      (sendOf d f a n ≡ refused 6 i) × (sentBuffer d f a entry ≡ entry)
+
+pub record Examples : Type 0 where
+  pub everyFormat : (f : Format) (n m : ℕ) → IsFormat f → Symbols f n → Samples f m → At f n m
+  -- format 4 is unknown, and so is a depth of 11
+  pub noFormat4 : lengthsOf (formatFrom 4 12) ≡ refused 1 0
+  pub noDepth11 : lengthsOf (formatFrom 1 11) ≡ refused 1 0
