@@ -130,7 +130,7 @@ module _ (f : Format) (n m : ℕ) (known : IsFormat f) (symbols : Symbols f n) (
     -- a call with rows of the right length, that starts within the recording, is answered (demand 1)
     not-refused : (p : ℕ) (rows : List ℕ) → length rows ≡ m → p ≤ length r → (o : Option Spanned) × (nextOf f r p (length rows) ≡ given o)
     not-refused p rows size inside =
-        demand-1 .next f r p rows .1 known .1 (within-limit r short) .1 (rw size samples) .1 inside
+        demand-1 .next f r p rows .1 known .1 (omega (arith, of-a-span .1)) .1 (rw size samples) .1 inside
 
     -- where the steps give a span first, the call answers it, the rows are its words, and the other steps go on behind it
     record First (p : ℕ) (rows : List ℕ) (k : ℕ) (e : Found Reading) (list : List (Found Reading)) : Type 0 where

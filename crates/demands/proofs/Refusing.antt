@@ -52,7 +52,7 @@ use Rattle.recording.specs.Call.{spanned, wordsOr, endOr, findOf, nextOf, after
 use Rattle.recording.specs.Recording.{limit, Reading, reading, nextFrom}
 use Rattle.recording.proofs.Readings.{reading-told}
 use Rattle.demands.specs.Form.{MaySend, Refusal, rule, ruleAt, Tried, Lent, Rows}
-use Rattle.demands.specs.Demands.{Legal, spanRules}
+use Rattle.demands.specs.Rules.{Legal, meaningRules, decodeRules, repairRules, lineWordsRules, readLineWordsRules, crccRules, packRules, placeRules, splitRules, joinRules, lengthsRules, fillRules, sendRules, spanRules, judgeRules, readRules, findRules, nextRules}
 
 -- ---- the rows of a call against the rows of the table
 
@@ -157,13 +157,11 @@ at-places number n holds {Good} says = record {
 -- ---- single calls
 
 -- the meaning of a symbol
-pub meaning-tried : (s : ℕ) → Tried (meaningOf s) (rule 7 (s ≤ 1023) ∷ [])
+pub meaning-tried : (s : ℕ) → Tried (meaningOf s) (meaningRules s)
 meaning-tried s = tried _ (then (plain 7 (up-to s 1023)) (λ _. end))
 
 -- one symbol decoded
-pub decode-tried :
-    (d : Disparity) (s : ℕ)
-    → Tried (decodeOf d s) (rule 7 (s ≤ 1023) ∷ rule 20 ((c : ℕ) × (c < 268) × (symbolOf d c ≡ s)) ∷ [])
+pub decode-tried : (d : Disparity) (s : ℕ) → Tried (decodeOf d s) (decodeRules d s)
 unfolding charOf
 decode-tried d s =
     tried _
@@ -194,12 +192,11 @@ near-says w =
     (λ g. let (vh, h, e) = is-legal (g .0) (g .1) in (vh, h, rw e at (g .2)))
 
 -- repair of a timing word
-pub repair-tried :
-    (w : ℕ) → Tried (repairOf w) (rule 7 (w ≤ 4095) ∷ rule 8 ((x : ℕ) × Legal x × (distance w x ≤ 1)) ∷ [])
+pub repair-tried : (w : ℕ) → Tried (repairOf w) (repairRules w)
 repair-tried w = tried _ (then (plain 7 (up-to w 4095)) (λ _. then (plain 8 (near-says w)) (λ _. end)))
 
 -- the words of a line
-pub line-words-tried : (n : ℕ) → Tried (numberedOf n) (rule 2 ((1 ≤ n) × (n ≤ 1125)) ∷ [])
+pub line-words-tried : (n : ℕ) → Tried (numberedOf n) (lineWordsRules n)
 line-words-tried n = tried _ (then (plain 2 (in-range 1 1125 n)) (λ _. end))
 
 -- the two words are those of a line where the search finds one
@@ -211,10 +208,7 @@ named-says a b =
     (λ g. let (n, p, q, s, t) = g in (n, omega arith, ((p, q), (s, t))))
 
 -- the line of two words
-pub read-line-words-tried :
-    (a b : ℕ)
-    → Tried (namedOf a b)
-    (rule 7 ((a ≤ 4095) × (b ≤ 4095)) ∷ rule 22 ((n : ℕ) × (1 ≤ n) × (n ≤ 1125) × (ln0 n ≡ a) × (ln1 n ≡ b)) ∷ [])
+pub read-line-words-tried : (a b : ℕ) → Tried (namedOf a b) (readLineWordsRules a b)
 read-line-words-tried a b =
     tried _ (then (plain 7 (both (up-to a 4095) (up-to b 4095))) (λ _. then (plain 22 (named-says a b)) (λ _. end)))
 
@@ -228,15 +222,15 @@ all-words-say (w ∷ ws) = or-so (both (up-to w 4095) (all-words-say ws)) each (
     each g (suc i) h = g .1 i (omega arith)
 
 -- the CRCC of a run of words
-pub crcc-tried : (ws : List ℕ) → Tried (crccOf ws) (rule 7 ((i : ℕ) → i < length ws → getD ws i 0 ≤ 4095) ∷ [])
+pub crcc-tried : (ws : List ℕ) → Tried (crccOf ws) (crccRules ws)
 crcc-tried ws = tried _ (then (plain 7 (all-words-say ws)) (λ _. end))
 
 -- two words as three bytes
-pub pack-tried : (a b : ℕ) → Tried (packedOf a b) (rule 7 ((a ≤ 4095) × (b ≤ 4095)) ∷ [])
+pub pack-tried : (a b : ℕ) → Tried (packedOf a b) (packRules a b)
 pack-tried a b = tried _ (then (plain 7 (both (up-to a 4095) (up-to b 4095))) (λ _. end))
 
 -- the place of a sample
-pub place-tried : (line sample : ℕ) → Tried (placedOf line sample) (rule 2 ((1 ≤ line) × (line ≤ 2160) × (sample ≤ 3839)) ∷ [])
+pub place-tried : (line sample : ℕ) → Tried (placedOf line sample) (placeRules line sample)
 place-tried line sample =
     tried _
     (then
@@ -262,18 +256,12 @@ rows-say : (first second : List ℕ) → Reflects (areRows first second) ((lengt
 rows-say first second = both (equal (length first) 1920) (equal (length second) 1920)
 
 -- dividing a row
-pub split-tried :
-    (whole first second : List ℕ)
-    → Tried (splitOf whole first second)
-    (rule 3 (length whole ≡ 3840) ∷ rule 4 ((length first ≡ 1920) × (length second ≡ 1920)) ∷ [])
+pub split-tried : (whole first second : List ℕ) → Tried (splitOf whole first second) (splitRules whole first second)
 split-tried whole first second =
     tried _ (then (plain 3 (equal (length whole) 3840)) (λ _. then (plain 4 (rows-say first second)) (λ _. end)))
 
 -- joining two
-pub join-tried :
-    (first second whole : List ℕ)
-    → Tried (joinOf first second whole)
-    (rule 3 ((length first ≡ 1920) × (length second ≡ 1920)) ∷ rule 4 (length whole ≡ 3840) ∷ [])
+pub join-tried : (first second whole : List ℕ) → Tried (joinOf first second whole) (joinRules first second whole)
 join-tried first second whole =
     tried _ (then (plain 3 (rows-say first second)) (λ _. then (plain 4 (equal (length whole) 3840)) (λ _. end)))
 
@@ -331,24 +319,16 @@ module _ (f : Format) (known : IsFormat f) (x : ℕ) where
 -- ---- calls with a format
 
 -- the lengths of a format
-pub lengths-tried : (f : Format) → Tried (lengthsOf f) (rule 1 (IsFormat f) ∷ [])
+pub lengths-tried : (f : Format) → Tried (lengthsOf f) (lengthsRules f)
 lengths-tried f = tried _ (then (plain 1 (known-says f)) (λ _. end))
 
 -- a row filled with blanking
-pub fill-tried : (f : Format) (entry : List ℕ) → Tried (fillOf f entry) (rule 1 (IsFormat f) ∷ rule 4 (Samples f (length entry)) ∷ [])
+pub fill-tried : (f : Format) (entry : List ℕ) → Tried (fillOf f entry) (fillRules f (length entry))
 fill-tried f entry =
     tried _ (then (plain 1 (known-says f)) (λ known. then (plain 4 (samples-say f known (length entry))) (λ _. end)))
 
 -- sending a span
-pub send-tried :
-    (d : Disparity) (f : Format) (a : Request) (room : ℕ)
-    → Tried (sendOf d f a room)
-    (rule 1 (IsFormat f)
-    ∷ rule 2 ((1 ≤ a .line) × (a .line ≤ 1125))
-    ∷ rule 3 (Samples f (length (a .samples)))
-    ∷ rule 4 (Symbols f room)
-    ∷ ruleAt 6 (length (a .samples)) (λ i. MaySend f (a .line) (getD (a .samples) i 0))
-    ∷ [])
+pub send-tried : (d : Disparity) (f : Format) (a : Request) (room : ℕ) → Tried (sendOf d f a room) (sendRules f a room)
 unfolding firstForbidden
 send-tried d f a room =
     let xs = a .samples in
@@ -377,17 +357,13 @@ tests-agree f w =
     then (at-places 26 n (placed s (holds26 s word f)) (λ k. as-is _)) (λ _. end)))))))
 
 -- judging a span
-pub judge-tried :
-    (f : Format) (w : List ℕ) → Tried (judgeOf f w) (rule 1 (IsFormat f) ∷ rule 3 (Symbols f (length w)) ∷ spanRules f w)
+pub judge-tried : (f : Format) (w : List ℕ) → Tried (judgeOf f w) (judgeRules f w)
 judge-tried f w =
     tried _
     (then (plain 1 (known-says f)) (λ known. then (plain 3 (symbols-say f known (length w))) (λ _. tests-agree f w)))
 
 -- reading it
-pub read-tried :
-    (f : Format) (w : List ℕ) (room : ℕ)
-    → Tried (readOf f w room)
-    (rule 1 (IsFormat f) ∷ rule 3 (Symbols f (length w)) ∷ rule 4 (Samples f room) ∷ spanRules f w)
+pub read-tried : (f : Format) (w : List ℕ) (room : ℕ) → Tried (readOf f w room) (readRules f w room)
 read-tried f w room =
     tried _
     (then (plain 1 (known-says f)) (λ known.
@@ -406,13 +382,12 @@ rows-left {A} r entry makes = record {
     left e = ap (λ (y : Answer A). rowsLeft y entry makes) e
 
 -- finding a span
-pub find-tried :
-    (f : Format) (r : List ℕ) (start : ℕ)
-    → Tried (findOf f r start) (rule 1 (IsFormat f) ∷ rule 3 (length r ≤ limit) ∷ rule 5 (start ≤ length r) ∷ [])
+pub find-tried : (f : Format) (r : List ℕ) (start : ℕ) → Tried (findOf f r start) (findRules f r start)
+unfolding limit
 find-tried f r start =
     tried _
     (then (plain 1 (known-says f)) (λ _.
-    then (plain 3 (at-most (length r) limit)) (λ _.
+    then (plain 3 (at-most (length r) 2097152)) (λ _.
     then (plain 5 (at-most start (length r))) (λ _. end))))
 
 -- ---- the next span
@@ -422,14 +397,12 @@ module _ (f : Format) (r : List ℕ) (start : ℕ) where
   n = symbolsIn (shapeOf f)
 
   -- the refusals of the next span
-  pub next-tried :
-      (room : ℕ)
-      → Tried (nextOf f r start room)
-      (rule 1 (IsFormat f) ∷ rule 3 (length r ≤ limit) ∷ rule 4 (Samples f room) ∷ rule 5 (start ≤ length r) ∷ [])
+  pub next-tried : (room : ℕ) → Tried (nextOf f r start room) (nextRules f r start room)
+  unfolding limit
   next-tried room =
       tried _
       (then (plain 1 (known-says f)) (λ known.
-      then (plain 3 (at-most (length r) limit)) (λ _.
+      then (plain 3 (at-most (length r) 2097152)) (λ _.
       then (plain 4 (samples-say f known room)) (λ _.
       then (plain 5 (at-most start (length r))) (λ _. end)))))
 

@@ -5,7 +5,6 @@ use Prim.Native.Nat.{ℕ, _+_, _-_, _*_, _/_, _%_, _≤_, _<_}
 use mathlib.Core.Path.{_≡_}
 use mathlib.Core.Bool.{Bool, true, false}
 use mathlib.Core.List.{List, [], _∷_, _++_, map}
-use mathlib.Core.Logic.{_⊎_}
 use mathlib.Core.Option.{none, some}
 use lib.ListN.{length, getD, set, take, drop, replicate}
 use Rattle.ground.specs.Answer.{refused, given}
@@ -17,7 +16,7 @@ use Rattle.decoder.specs.Decode.{decodeOf}
 use Rattle.decoder.specs.Meaning.{meaningOf}
 use Rattle.packing.specs.Bytes.{packedOf}
 use Rattle.crcc.specs.Crcc.{crccOf}
-use Rattle.word.specs.LineNumber.{ln0, ln1, numberedOf, namedOf}
+use Rattle.word.specs.LineNumber.{numberedOf, namedOf}
 use Rattle.word.specs.Repair.{distance, repairOf}
 use Rattle.word.specs.Timing.{timing}
 use Rattle.picture.specs.Division.{lineFrom, sampleFrom}
@@ -36,10 +35,8 @@ use Rattle.span.specs.Stream.{Request}
 use Rattle.span.specs.Numbers.{IsFormat, Symbols, Samples}
 use Rattle.window.specs.declared.delivery.Delivery.{Delivery}
 use Rattle.window.specs.Encoded.{charsOf, AreContent, Encodes, wordIn, Meets, IsXyz, Disturbed, wrongAt}
-use Rattle.window.specs.Read.{placed, repairsOf, pictureOf, readSpan, judgeOf, readOf, rowsRead}
-use Rattle.window.specs.Scan.{holds20}
-use Rattle.window.specs.Tests.{holds21, holds22, holds23, holds24, holds25, holds26, sumOf}
-use Rattle.window.specs.Words.{wordAt}
+use Rattle.window.specs.Read.{repairsOf, pictureOf, readSpan, judgeOf, readOf, rowsRead}
+use Rattle.window.specs.Tests.{sumOf}
 use Rattle.delivery.specs.Delivery.{Found, foundFrom, movedBy, concatenated, placedFrom, Each}
 use Rattle.delivery.specs.Marked.{AllAfter}
 use Rattle.recording.specs.declared.answer.Spanned.{Spanned}
@@ -49,109 +46,69 @@ use Rattle.recording.specs.Recording.{limit, Reading, reading, accepts, deliver
 use Rattle.recording.specs.Steps.{runFrom, spanStep, endStep, lastRows}
 use Rattle.span.specs.Blanking.{fillOf, blankRow, filledRow}
 use Rattle.request.specs.Send.{request, sendOf, sentBuffer}
-use Rattle.demands.specs.Form.{MaySend, Refusal, rule, ruleAt, Tried, Lent, Rows, Sending, WasSent, sentSymbols, readingOf, stepsFrom, DeliveredFrom, Delivered, wordsFor}
+use Rattle.demands.specs.Rules.{meaningRules, decodeRules, repairRules, lineWordsRules, readLineWordsRules, crccRules, packRules, placeRules, splitRules, joinRules, lengthsRules, fillRules, sendRules, judgeRules, readRules, findRules, nextRules}
+use Rattle.demands.specs.Form.{rule, Tried, Lent, Rows, Sending, WasSent, sentSymbols, readingOf, stepsFrom, DeliveredFrom, Delivered, wordsFor}
 
 -- ==== 1 ====
 
--- the four legal timing words
-abbrev pub Legal : ℕ → Type 0
-Legal x = (x ≡ 0x800) ⊎ ((x ≡ 0x9D0) ⊎ ((x ≡ 0xAB0) ⊎ (x ≡ 0xB60)))
-
--- tests 20 to 26 of the reader, each over the whole span
-abbrev pub spanRules : Format → List ℕ → List Refusal
-spanRules f w =
-    let s = streams (shapeOf f) in
-    let n = 2 * pairsIn (shapeOf f) in
-    let word = wordAt (shapeOf f) w in
-    ruleAt 20 (symbolsIn (shapeOf f)) (λ i. holds20 (shapeOf f) w i ≡ true)
-    ∷ ruleAt 21 n (λ k. placed s (holds21 s word) k ≡ true)
-    ∷ ruleAt 22 n (λ k. placed s (holds22 s word) k ≡ true)
-    ∷ ruleAt 23 n (λ k. placed s (holds23 s word) k ≡ true)
-    ∷ ruleAt 24 n (λ k. placed s (holds24 s word) k ≡ true)
-    ∷ ruleAt 25 n (λ k. placed s (holds25 s word f) k ≡ true)
-    ∷ ruleAt 26 n (λ k. placed s (holds26 s word f) k ≡ true)
-    ∷ []
-
 -- Every public call ends with a defined answer for all input. A bad call, and no good one, returns its refusal number, that of the first
 -- rule of the table that applies, and touches no lent buffer; a refused span returns its number and place and leaves its rows all zero.
--- What is good is stated in document 01's own numbers; the finder's limit, 2,097,152 there, by its name. A call that is not named here
--- refuses nothing: the disparity before a fresh signal, encoding a character, the tables, a timing word, the CRCC words of a register,
+-- What is good is stated in document 01's own numbers (`Rules`). A call that is not named here refuses nothing: the disparity before a fresh signal, encoding a character, the tables, a timing word, the CRCC words of a register,
 -- three bytes as words, the choice between two rows, and making a reader of a recording and asking its place.
 pub record Demand1 : Type 0 where
   -- the meaning of a symbol: 7
-  pub meaning : (s : ℕ) → Tried (meaningOf s) (rule 7 (s ≤ 1023) ∷ [])
+  pub meaning : (s : ℕ) → Tried (meaningOf s) (meaningRules s)
   -- one symbol decoded at a disparity: 7, 20
-  pub decode :
-      (d : Disparity) (s : ℕ)
-      → Tried (decodeOf d s) (rule 7 (s ≤ 1023) ∷ rule 20 ((c : ℕ) × (c < 268) × (symbolOf d c ≡ s)) ∷ [])
+  pub decode : (d : Disparity) (s : ℕ) → Tried (decodeOf d s) (decodeRules d s)
   -- repair of a timing word: 7, 8
-  pub repair :
-      (w : ℕ) → Tried (repairOf w) (rule 7 (w ≤ 4095) ∷ rule 8 ((x : ℕ) × Legal x × (distance w x ≤ 1)) ∷ [])
+  pub repair : (w : ℕ) → Tried (repairOf w) (repairRules w)
   -- the words of a line: 2
-  pub lineWords : (n : ℕ) → Tried (numberedOf n) (rule 2 ((1 ≤ n) × (n ≤ 1125)) ∷ [])
+  pub lineWords : (n : ℕ) → Tried (numberedOf n) (lineWordsRules n)
   -- the line of two words: 7, 22
-  pub readLineWords :
-      (a b : ℕ)
-      → Tried (namedOf a b)
-      (rule 7 ((a ≤ 4095) × (b ≤ 4095)) ∷ rule 22 ((n : ℕ) × (1 ≤ n) × (n ≤ 1125) × (ln0 n ≡ a) × (ln1 n ≡ b)) ∷ [])
+  pub readLineWords : (a b : ℕ) → Tried (namedOf a b) (readLineWordsRules a b)
   -- the CRCC of a run of words: 7
-  pub crcc : (ws : List ℕ) → Tried (crccOf ws) (rule 7 ((i : ℕ) → i < length ws → getD ws i 0 ≤ 4095) ∷ [])
+  pub crcc : (ws : List ℕ) → Tried (crccOf ws) (crccRules ws)
   -- two words as three bytes: 7
-  pub pack : (a b : ℕ) → Tried (packedOf a b) (rule 7 ((a ≤ 4095) × (b ≤ 4095)) ∷ [])
+  pub pack : (a b : ℕ) → Tried (packedOf a b) (packRules a b)
   -- the place of a sample: 2
-  pub place :
-      (line sample : ℕ) → Tried (placedOf line sample) (rule 2 ((1 ≤ line) × (line ≤ 2160) × (sample ≤ 3839)) ∷ [])
+  pub place : (line sample : ℕ) → Tried (placedOf line sample) (placeRules line sample)
   -- dividing a row: 3, 4
   pub split :
       (whole first second : List ℕ)
-      → Tried (splitOf whole first second)
-      (rule 3 (length whole ≡ 3840) ∷ rule 4 ((length first ≡ 1920) × (length second ≡ 1920)) ∷ [])
+      → Tried (splitOf whole first second) (splitRules whole first second)
       × Lent (splitOf whole first second) first (divided 0 1920 whole) (splitFirst whole first second)
       × Lent (splitOf whole first second) second (divided 1 1920 whole) (splitSecond whole first second)
   -- joining two: 3, 4
   pub join :
       (first second whole : List ℕ)
-      → Tried (joinOf first second whole)
-      (rule 3 ((length first ≡ 1920) × (length second ≡ 1920)) ∷ rule 4 (length whole ≡ 3840) ∷ [])
+      → Tried (joinOf first second whole) (joinRules first second whole)
       × Lent (joinOf first second whole) whole (joined 1920 first second) (joinRow first second whole)
   -- the lengths of a format: 1
-  pub lengths : (f : Format) → Tried (lengthsOf f) (rule 1 (IsFormat f) ∷ [])
+  pub lengths : (f : Format) → Tried (lengthsOf f) (lengthsRules f)
   -- a row filled with blanking: 1, 4
   pub fill :
       (f : Format) (entry : List ℕ)
-      → Tried (fillOf f entry) (rule 1 (IsFormat f) ∷ rule 4 (Samples f (length entry)) ∷ [])
+      → Tried (fillOf f entry) (fillRules f (length entry))
       × Lent (fillOf f entry) entry (blankRow f) (filledRow f entry)
   -- sending a span: 1, 2, 3, 4, 6 with the first index
   pub send :
       (d : Disparity) (f : Format) (a : Request) (entry : List ℕ)
-      → Tried (sendOf d f a (length entry))
-      (rule 1 (IsFormat f)
-      ∷ rule 2 ((1 ≤ a .line) × (a .line ≤ 1125))
-      ∷ rule 3 (Samples f (length (a .samples)))
-      ∷ rule 4 (Symbols f (length entry))
-      ∷ ruleAt 6 (length (a .samples)) (λ i. MaySend f (a .line) (getD (a .samples) i 0))
-      ∷ [])
+      → Tried (sendOf d f a (length entry)) (sendRules f a (length entry))
       × Lent (sendOf d f a (length entry)) entry (spanSymbols d f a) (sentBuffer d f a entry)
   -- judging a span: 1, 3, 20 to 26
-  pub judge :
-      (f : Format) (w : List ℕ)
-      → Tried (judgeOf f w) (rule 1 (IsFormat f) ∷ rule 3 (Symbols f (length w)) ∷ spanRules f w)
+  pub judge : (f : Format) (w : List ℕ) → Tried (judgeOf f w) (judgeRules f w)
   -- reading it: 1, 3, 4, 20 to 26
   pub read :
       (f : Format) (w entry : List ℕ)
-      → Tried (readOf f w (length entry))
-      (rule 1 (IsFormat f) ∷ rule 3 (Symbols f (length w)) ∷ rule 4 (Samples f (length entry)) ∷ spanRules f w)
+      → Tried (readOf f w (length entry)) (readRules f w (length entry))
       × Rows (readOf f w (length entry)) entry (pictureOf f w) (rowsRead f w entry)
   -- finding a span: 1, 3, 5
-  pub find :
-      (f : Format) (r : List ℕ) (start : ℕ)
-      → Tried (findOf f r start) (rule 1 (IsFormat f) ∷ rule 3 (length r ≤ limit) ∷ rule 5 (start ≤ length r) ∷ [])
+  pub find : (f : Format) (r : List ℕ) (start : ℕ) → Tried (findOf f r start) (findRules f r start)
   -- the next span, and a step of the stepping reader, which answers it from the reader's place: 1, 3, 4, 5; the rows are touched, and the
   -- place moves on, only if a span is delivered
   pub next :
       (f : Format) (r : List ℕ) (start : ℕ) (entry : List ℕ)
-      → Tried (nextOf f r start (length entry))
-      (rule 1 (IsFormat f) ∷ rule 3 (length r ≤ limit) ∷ rule 4 (Samples f (length entry)) ∷ rule 5 (start ≤ length r) ∷ [])
+      → Tried (nextOf f r start (length entry)) (nextRules f r start (length entry))
   pub nextRefused :
       (f : Format) (r : List ℕ) (start : ℕ) (entry : List ℕ) (number place : ℕ)
       → nextOf f r start (length entry) ≡ refused number place

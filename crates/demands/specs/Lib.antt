@@ -1,3 +1,4 @@
 pub mod Demands
 pub mod Examples
 pub mod Form
+pub mod Rules
