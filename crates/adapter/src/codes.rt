@@ -2,14 +2,12 @@
 use character_answers::characters::DecodeAnswer;
 use character_answers::characters::EncodeAnswer;
 ghost use mathlib.Core.Path.{_≡_};
-ghost use Rattle.decoder.specs.Decode.{decodeOf};
-ghost use Rattle.boundary.specs.Numbers.{disparityFrom};
-ghost use Rattle.character_answers.specs.Characters.{decodeAnswerOf, encodeAnswerOf};
+ghost use Rattle.face.specs.Calls.{decode·answer, encode·answer};
 
 // A symbol at the running disparity before it: 7, 20.
 #[no_mangle]
 pub extern "C" fn brazulint_decode(positive: bool, symbol: u32) -> DecodeAnswer
-    ensures { λ r. ⌜ r ≡ decodeAnswerOf (decodeOf (disparityFrom positive) symbol) ⌝ }
+    ensures { λ r. ⌜ r ≡ decode·answer positive symbol ⌝ }
 {
     let d = boundary::numbers::disparity_from(positive);
     let s = boundary::numbers::at_most_65535(symbol);
@@ -19,7 +17,7 @@ pub extern "C" fn brazulint_decode(positive: bool, symbol: u32) -> DecodeAnswer
 // A character by its number at the running disparity before it. It refuses nothing.
 #[no_mangle]
 pub extern "C" fn brazulint_encode(positive: bool, character: u32) -> EncodeAnswer
-    ensures { λ r. ⌜ r ≡ encodeAnswerOf (disparityFrom positive) character ⌝ }
+    ensures { λ r. ⌜ r ≡ encode·answer positive character ⌝ }
 {
     character_answers::characters::encode_answer(
         boundary::numbers::disparity_from(positive),

@@ -1,17 +1,12 @@
 // Pictures: the place of a sample, rows divided and joined, and the row that a line carries.
 use picture_answers::pictures::PlaceAnswer;
 ghost use mathlib.Core.Path.{_≡_};
-ghost use mathlib.Core.Bool.{true, false};
-ghost use Rattle.picture.specs.Choice.{rowOn};
-ghost use Rattle.picture.specs.Place.{placedOf};
-ghost use Rattle.dividing.specs.Row.{splitOf, splitFirst, splitSecond, joinOf, joinRow};
-ghost use Rattle.boundary.specs.Numbers.{numberIn};
-ghost use Rattle.picture_answers.specs.Pictures.{placeAnswerOf};
+ghost use Rattle.face.specs.Calls.{carriesPicture·answer, join·answer, join·row, place·answer, split·answer, split·first, split·second};
 
 // The place of a sample of a picture line: 2.
 #[no_mangle]
 pub extern "C" fn brazulint_place(line: u32, sample: u32) -> PlaceAnswer
-    ensures { λ r. ⌜ r ≡ placeAnswerOf (placedOf line sample) ⌝ }
+    ensures { λ r. ⌜ r ≡ place·answer line sample ⌝ }
 {
     let l = boundary::numbers::picture_line_from(line);
     let j = boundary::numbers::at_most_65535(sample);
@@ -21,9 +16,9 @@ pub extern "C" fn brazulint_place(line: u32, sample: u32) -> PlaceAnswer
 // The row of a picture into those of two images: 3, 4.
 #[no_mangle]
 pub extern "C" fn brazulint_split(row: &[u16], first: &mut [u16], second: &mut [u16]) -> u32
-    ensures answer { λ n. ⌜ n ≡ numberIn (splitOf (now (row .entry)) (now (first .entry)) (now (second .entry))) ⌝ }
-    ensures first { λ _. ⌜ now (first .exit) ≡ splitFirst (now (row .entry)) (now (first .entry)) (now (second .entry)) ⌝ }
-    ensures second { λ _. ⌜ now (second .exit) ≡ splitSecond (now (row .entry)) (now (first .entry)) (now (second .entry)) ⌝ }
+    ensures answer { λ r. ⌜ r ≡ split·answer (now (row .entry)) (now (first .entry)) (now (second .entry)) ⌝ }
+    ensures first { λ _. ⌜ now (first .exit) ≡ split·first (now (row .entry)) (now (first .entry)) (now (second .entry)) ⌝ }
+    ensures second { λ _. ⌜ now (second .exit) ≡ split·second (now (row .entry)) (now (first .entry)) (now (second .entry)) ⌝ }
 {
     picture_answers::pictures::copied_number(dividing::split::split(row, first, second))
 }
@@ -31,8 +26,8 @@ pub extern "C" fn brazulint_split(row: &[u16], first: &mut [u16], second: &mut [
 // The rows of two images into that of their picture: 3, 4.
 #[no_mangle]
 pub extern "C" fn brazulint_join(first: &[u16], second: &[u16], row: &mut [u16]) -> u32
-    ensures answer { λ n. ⌜ n ≡ numberIn (joinOf (now (first .entry)) (now (second .entry)) (now (row .entry))) ⌝ }
-    ensures row { λ _. ⌜ now (row .exit) ≡ joinRow (now (first .entry)) (now (second .entry)) (now (row .entry)) ⌝ }
+    ensures answer { λ r. ⌜ r ≡ join·answer (now (first .entry)) (now (second .entry)) (now (row .entry)) ⌝ }
+    ensures row { λ _. ⌜ now (row .exit) ≡ join·row (now (first .entry)) (now (second .entry)) (now (row .entry)) ⌝ }
 {
     picture_answers::pictures::copied_number(dividing::join::join(first, second, row))
 }
@@ -40,7 +35,7 @@ pub extern "C" fn brazulint_join(first: &[u16], second: &[u16], row: &mut [u16])
 // The choice of row: whether it is the picture.
 #[no_mangle]
 pub extern "C" fn brazulint_carries_picture(line: u32) -> bool
-    ensures { λ r. ⌜ r ≡ rowOn line true false ⌝ }
+    ensures { λ r. ⌜ r ≡ carriesPicture·answer line ⌝ }
 {
     line::stream::is_active(boundary::numbers::stream_line_from(line))
 }

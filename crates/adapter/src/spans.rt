@@ -5,20 +5,18 @@ use span_answers::spans::LengthsAnswer;
 use span_answers::spans::ReadAnswer;
 use span_answers::spans::SendAnswer;
 ghost use mathlib.Core.Path.{_≡_};
+ghost use Rattle.face.specs.Calls.{fillBlanking·answer, fillBlanking·row, judge·answer, lengths·answer, read·answer, read·rows, sendNamed·answer, sendNamed·symbols, send·answer, send·symbols};
 ghost use lib.ListN.{length};
-ghost use Rattle.span.specs.Length.{lengthsOf};
 ghost use Rattle.span.specs.declared.content.Content.the-variants.{NoneNamed, Named};
-ghost use Rattle.span.specs.Blanking.{fillOf, filledRow};
 ghost use Rattle.request.specs.Send.{request, sendOf, sentBuffer};
-ghost use Rattle.window.specs.Read.{judgeOf, readOf, rowsRead};
-ghost use Rattle.boundary.specs.Numbers.{disparityFrom, numberIn};
+ghost use Rattle.boundary.specs.Numbers.{disparityFrom};
 ghost use Rattle.span.specs.Format.{formatFrom};
-ghost use Rattle.span_answers.specs.Spans.{lengthsAnswerOf, sendAnswerOf, readAnswerOf};
+ghost use Rattle.span_answers.specs.Spans.{sendAnswerOf};
 
 // The lengths of a format: 1.
 #[no_mangle]
 pub extern "C" fn brazulint_lengths(format: u32, depth: u32) -> LengthsAnswer
-    ensures { λ r. ⌜ r ≡ lengthsAnswerOf (lengthsOf (formatFrom format depth)) ⌝ }
+    ensures { λ r. ⌜ r ≡ lengths·answer format depth ⌝ }
 {
     let f = boundary::numbers::format_from(format, depth);
     span_answers::spans::lengths_answer(span::length::lengths_of(f))
@@ -53,8 +51,8 @@ pub extern "C" fn brazulint_send(
     samples: &[u16],
     symbols: &mut [u16],
 ) -> SendAnswer
-    ensures answer { λ r. ⌜ r ≡ sendAnswerOf (sendOf (disparityFrom positive) (formatFrom format depth) (request line NoneNamed (now (samples .entry))) (length (now (symbols .entry)))) ⌝ }
-    ensures symbols { λ _. ⌜ now (symbols .exit) ≡ sentBuffer (disparityFrom positive) (formatFrom format depth) (request line NoneNamed (now (samples .entry))) (now (symbols .entry)) ⌝ }
+    ensures answer { λ r. ⌜ r ≡ send·answer format depth line positive (now (samples .entry)) (now (symbols .entry)) ⌝ }
+    ensures symbols { λ _. ⌜ now (symbols .exit) ≡ send·symbols format depth line positive (now (samples .entry)) (now (symbols .entry)) ⌝ }
 {
     send_content(
         format,
@@ -78,8 +76,8 @@ pub extern "C" fn brazulint_send_named(
     samples: &[u16],
     symbols: &mut [u16],
 ) -> SendAnswer
-    ensures answer { λ r. ⌜ r ≡ sendAnswerOf (sendOf (disparityFrom positive) (formatFrom format depth) (request line (Named content) (now (samples .entry))) (length (now (symbols .entry)))) ⌝ }
-    ensures symbols { λ _. ⌜ now (symbols .exit) ≡ sentBuffer (disparityFrom positive) (formatFrom format depth) (request line (Named content) (now (samples .entry))) (now (symbols .entry)) ⌝ }
+    ensures answer { λ r. ⌜ r ≡ sendNamed·answer format depth line positive content (now (samples .entry)) (now (symbols .entry)) ⌝ }
+    ensures symbols { λ _. ⌜ now (symbols .exit) ≡ sendNamed·symbols format depth line positive content (now (samples .entry)) (now (symbols .entry)) ⌝ }
 {
     send_content(
         format,
@@ -95,8 +93,8 @@ pub extern "C" fn brazulint_send_named(
 // A blanking row of all streams: 1, 4.
 #[no_mangle]
 pub extern "C" fn brazulint_fill_blanking(format: u32, depth: u32, row: &mut [u16]) -> u32
-    ensures answer { λ n. ⌜ n ≡ numberIn (fillOf (formatFrom format depth) (now (row .entry))) ⌝ }
-    ensures row { λ _. ⌜ now (row .exit) ≡ filledRow (formatFrom format depth) (now (row .entry)) ⌝ }
+    ensures answer { λ r. ⌜ r ≡ fillBlanking·answer format depth (now (row .entry)) ⌝ }
+    ensures row { λ _. ⌜ now (row .exit) ≡ fillBlanking·row format depth (now (row .entry)) ⌝ }
 {
     let f = boundary::numbers::format_from(format, depth);
     picture_answers::pictures::filled_number(span::blanking::fill_blanking(f, row))
@@ -110,8 +108,8 @@ pub extern "C" fn brazulint_read(
     symbols: &[u16],
     rows: &mut [u16],
 ) -> ReadAnswer
-    ensures answer { λ r. ⌜ r ≡ readAnswerOf (readOf (formatFrom format depth) (now (symbols .entry)) (length (now (rows .entry)))) ⌝ }
-    ensures rows { λ _. ⌜ now (rows .exit) ≡ rowsRead (formatFrom format depth) (now (symbols .entry)) (now (rows .entry)) ⌝ }
+    ensures answer { λ r. ⌜ r ≡ read·answer format depth (now (symbols .entry)) (now (rows .entry)) ⌝ }
+    ensures rows { λ _. ⌜ now (rows .exit) ≡ read·rows format depth (now (symbols .entry)) (now (rows .entry)) ⌝ }
 {
     let f = boundary::numbers::format_from(format, depth);
     span_answers::spans::read_answer(read::read::read(f, symbols, rows))
@@ -120,7 +118,7 @@ pub extern "C" fn brazulint_read(
 // A span without rows: 1, 3, 20 to 26.
 #[no_mangle]
 pub extern "C" fn brazulint_judge(format: u32, depth: u32, symbols: &[u16]) -> ReadAnswer
-    ensures { λ r. ⌜ r ≡ readAnswerOf (judgeOf (formatFrom format depth) (now (symbols .entry))) ⌝ }
+    ensures { λ r. ⌜ r ≡ judge·answer format depth (now (symbols .entry)) ⌝ }
 {
     let f = boundary::numbers::format_from(format, depth);
     span_answers::spans::read_answer(read::read::judge(f, symbols))

@@ -4,15 +4,12 @@ use word_answers::words::LineWordsAnswer;
 use word_answers::words::ReadLineWordsAnswer;
 use word_answers::words::RepairAnswer;
 ghost use mathlib.Core.Path.{_≡_};
-ghost use Rattle.word.specs.LineNumber.{numberedOf, namedOf};
-ghost use Rattle.word.specs.Repair.{repairOf};
-ghost use Rattle.crcc.specs.Crcc.{crccOf};
-ghost use Rattle.word_answers.specs.Words.{lineWordsAnswerOf, readLineWordsAnswerOf, repairAnswerOf, crccAnswerOf};
+ghost use Rattle.face.specs.Calls.{crcc·answer, lineWords·answer, readLineWords·answer, repair·answer};
 
 // The words of a stream line: 2.
 #[no_mangle]
 pub extern "C" fn brazulint_line_words(line: u32) -> LineWordsAnswer
-    ensures { λ r. ⌜ r ≡ lineWordsAnswerOf (numberedOf line) ⌝ }
+    ensures { λ r. ⌜ r ≡ lineWords·answer line ⌝ }
 {
     let l = boundary::numbers::stream_line_from(line);
     word_answers::words::line_words_answer(word::line_number::line_words(l))
@@ -21,7 +18,7 @@ pub extern "C" fn brazulint_line_words(line: u32) -> LineWordsAnswer
 // The line that two words name: 7, 22.
 #[no_mangle]
 pub extern "C" fn brazulint_read_line_words(ln0: u32, ln1: u32) -> ReadLineWordsAnswer
-    ensures { λ r. ⌜ r ≡ readLineWordsAnswerOf (namedOf ln0 ln1) ⌝ }
+    ensures { λ r. ⌜ r ≡ readLineWords·answer ln0 ln1 ⌝ }
 {
     let a = boundary::numbers::at_most_65535(ln0);
     let b = boundary::numbers::at_most_65535(ln1);
@@ -31,7 +28,7 @@ pub extern "C" fn brazulint_read_line_words(ln0: u32, ln1: u32) -> ReadLineWords
 // The repair of a timing word: 7, 8.
 #[no_mangle]
 pub extern "C" fn brazulint_repair(word: u32) -> RepairAnswer
-    ensures { λ r. ⌜ r ≡ repairAnswerOf (repairOf word) ⌝ }
+    ensures { λ r. ⌜ r ≡ repair·answer word ⌝ }
 {
     let w = boundary::numbers::at_most_65535(word);
     word_answers::words::repair_answer(word::repair::repair_timing_word(w))
@@ -40,7 +37,7 @@ pub extern "C" fn brazulint_repair(word: u32) -> RepairAnswer
 // The CRCC of a run of words: 7.
 #[no_mangle]
 pub extern "C" fn brazulint_crcc(words: &[u16]) -> CrccAnswer
-    ensures { λ r. ⌜ r ≡ crccAnswerOf (crccOf (now (words .entry))) ⌝ }
+    ensures { λ r. ⌜ r ≡ crcc·answer (now (words .entry)) ⌝ }
 {
     word_answers::words::crcc_answer(crcc::crcc::crcc_of(words))
 }

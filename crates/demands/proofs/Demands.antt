@@ -13,6 +13,11 @@ use Rattle.ground.specs.Bit.{inverted}
 use Rattle.ground.specs.Written.{upto}
 use Rattle.ground.proofs.Answers.{given-is, when-given}
 use Rattle.symbol.specs.declared.disparity.Disparity.{Disparity}
+use Rattle.symbol.proofs.Paper.{symbol-paper}
+use Rattle.word.proofs.Paper.{word-paper}
+use Rattle.crcc.proofs.Paper.{crcc-paper}
+use Rattle.packing.proofs.Paper.{packing-paper}
+use Rattle.span.proofs.Paper.{span-paper}
 use Rattle.decoder.proofs.Paper.{decodes}
 use Rattle.word.specs.Repair.{legalWord, repairOf}
 use Rattle.word.specs.Timing.{timing}
@@ -143,6 +148,11 @@ module _ (f : Format) (known : IsFormat f) (l : ℕ) (content : Content) (sample
 
 pub demand-2 : Demand2
 demand-2 = record {
+  published = symbol-paper;
+  words = word-paper;
+  crcc = crcc-paper;
+  packing = packing-paper;
+  spans = span-paper;
   code = decodes;
   sent = as-asked;
   back = λ f x sent.

@@ -11,6 +11,11 @@ use Rattle.ground.specs.Answer.{refused, given}
 use Rattle.ground.specs.Bit.{inverted}
 use Rattle.symbol.specs.declared.disparity.Disparity.{Disparity}
 use Rattle.symbol.specs.Character.{characterOf}
+use Rattle.symbol.specs.Paper.{SymbolPaper}
+use Rattle.word.specs.Paper.{WordPaper}
+use Rattle.crcc.specs.Paper.{CrccPaper}
+use Rattle.packing.specs.Paper.{PackingPaper}
+use Rattle.span.specs.Paper.{SpanPaper}
 use Rattle.symbol.specs.Code.{symbolOf, afterOf}
 use Rattle.decoder.specs.Decode.{decodeOf}
 use Rattle.decoder.specs.Meaning.{meaningOf}
@@ -152,6 +157,13 @@ pub record Delivers (f : Format) (l : ℕ) (content : Content) (samples words : 
 -- What is sent is, symbol for symbol, the standard; what is received is read by the same rules, down to the repair of one wrong bit in a
 -- timing word and the refusal of two. Dividing and joining a picture puts each sample back.
 pub record Demand2 : Type 0 where
+  -- the definitions have the papers' own numerals: the published symbols, document 01's values of words, the CRCC by long division, ABC and
+  -- DEF as BC FA DE, and which word, character and symbol stands at each place of a span
+  pub published : SymbolPaper
+  pub words : WordPaper
+  pub crcc : CrccPaper
+  pub packing : PackingPaper
+  pub spans : SpanPaper
   -- a character's symbol is decoded to that character
   pub code :
       (d : Disparity) (c : ℕ)

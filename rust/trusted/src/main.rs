@@ -1,6 +1,6 @@
 //! What a reviewer must believe: follows the definitions of specs/ from the contracts and demands that somebody outside asks for (`roots`),
 //! and holds the project to it. `trusted ROOT` fails if a root reaches a definition in specs/Inside/, if a definition outside of it is
-//! reached from no root, and if docs/TRUSTED.md is not the resulting list.
+//! reached from no root, if docs/TRUSTED.md is not the resulting list, and if a contract is not as it has to be (`contracts`).
 //!
 //! With `--write` it writes that list. With `--statistics` it prints only its numbers, and with `--unreached` the definitions that belong
 //! in Inside/: path, first line of the comment, first line, last line and name of each.
@@ -9,6 +9,7 @@
 //! and `list` writes.
 
 mod citations;
+mod contracts;
 mod list;
 mod names;
 mod project;
@@ -44,6 +45,7 @@ fn unreached(list: &List) {
 /// Faults are one line each.
 fn judged(list: &List, root: &Path, write: bool) -> Result<Vec<String>, String> {
     let mut faults = list.reached.all_faults(list.project);
+    faults.extend(contracts::faults(list.project));
     let (text, path) = (list.markdown(), root.join(list::PATH));
     if write {
         std::fs::write(&path, text).map_err(|e| format!("{}: {e}", list::PATH))?;

@@ -11,6 +11,8 @@ pub struct Function {
     pub signature: String,
     /// Each `requires` and `ensures`, without its label.
     pub clauses: Vec<String>,
+    /// How many of them are `requires`.
+    pub requires: usize,
     /// The lines of the contract.
     pub size: usize,
 }
@@ -88,7 +90,7 @@ fn read_function(lines: &[&str], start: usize, name: String) -> Function {
     let first = lines[start].trim_start();
     let (public, marked) = (strip(first, &["pub extern \"C\" "]).len() < first.len() || first.starts_with("pub fn"), start > 0);
     let exported = first.starts_with("pub extern \"C\" ") && marked && lines[start - 1].trim() == "#[no_mangle]";
-    let mut function = Function { name, public, exported, signature: String::new(), clauses: Vec::new(), size: 0 };
+    let mut function = Function { name, public, exported, signature: String::new(), clauses: Vec::new(), requires: 0, size: 0 };
     for line in &lines[start..] {
         let text = line.trim();
         let says = text.starts_with("requires") || text.starts_with("ensures");
@@ -98,6 +100,7 @@ fn read_function(lines: &[&str], start: usize, name: String) -> Function {
             Some(last) => *last = format!("{last} {text}"),
             None => function.signature = format!("{} {text}", function.signature),
         }
+        function.requires += usize::from(text.starts_with("requires"));
         function.size += usize::from(!function.clauses.is_empty());
         if function.clauses.is_empty() && text.ends_with('{') {
             break;

@@ -1,0 +1,243 @@
+-- What a caller from C has, proved: out of the demands, and out of how each answer crosses.
+-- Assumes nothing.
+use mathlib.Core.Path.{_≡_, refl, sym, ap, _∙_}
+use mathlib.Core.Bool.{true, false, true≢false}
+use mathlib.Core.List.{List, []}
+use mathlib.Core.Option.{Option, none, some}
+use Prim.Native.Nat.{ℕ, _+_, _*_, _<_}
+use native.Mathlib.Omega.{arith}
+use lib.ListN.{length, getD, take, drop}
+use borrow.Author.Tests.{lt-ltb, le-ltb, eq-eqb}
+use Rattle.ground.specs.Answer.{Answer, refused, given}
+use Rattle.ground.proofs.Ranges.{is-within, not-within}
+use Rattle.symbol.specs.declared.disparity.Disparity.{Disparity}
+use Rattle.symbol.specs.declared.disparity.Disparity.the-variants.{Negative, Positive}
+use Rattle.symbol.specs.Disparity.{isPositive}
+use Rattle.symbol.specs.Code.{symbolOf}
+use Rattle.decoder.specs.Decode.{After, decodeOf}
+use Rattle.word.specs.LineNumber.{numberedOf, namedOf}
+use Rattle.word.specs.Repair.{repairOf}
+use Rattle.crcc.specs.Crcc.{crccOf}
+use Rattle.picture.specs.Place.{placedOf}
+use Rattle.dividing.specs.Row.{splitOf, joinOf}
+use Rattle.span.specs.Blanking.{fillOf}
+use Rattle.span.specs.Length.{lengthsOf}
+use Rattle.window.specs.Read.{readOf, judgeOf, pictureOf}
+use Rattle.recording.specs.Call.{findOf, nextOf, afterNext, rowsNext}
+use Rattle.line.specs.declared.stream.StreamLine.{StreamLine}
+use Rattle.word.proofs.LineNumbers.{line-good, read-sent}
+use Rattle.span.specs.declared.content.Content.the-variants.{NoneNamed, Named}
+use Rattle.span.specs.declared.format.Format.{Format}
+use Rattle.span.specs.Stream.{Request}
+use Rattle.span.specs.Format.{formatFrom, shapeOf, streams, samplesIn, symbolsIn}
+use Rattle.span.specs.Encoding.{afterRun}
+use Rattle.span.specs.Numbers.{IsFormat}
+use Rattle.span.specs.declared.content.ContentBytes.{ContentBytes}
+use Rattle.span.proofs.Lengths.{known-has-streams}
+use Rattle.span.proofs.Paper.{span-paper}
+use Rattle.span.specs.Span.{spanChars, spanAfter}
+use Rattle.span.proofs.LengthCalls.{lengths-given}
+use Rattle.request.specs.Send.{request, refusals, sendOf, sentBuffer}
+use Rattle.window.specs.declared.delivery.Delivery.{Delivery}
+use Rattle.recording.specs.declared.answer.Spanned.{Spanned}
+use Rattle.boundary.specs.Numbers.{disparityFrom, numberIn}
+use Rattle.character_answers.specs.Characters.{decodeAnswerOf}
+use Rattle.character_answers.proofs.Laws.{character-answers-laws}
+use Rattle.word_answers.specs.Words.{lineWordsAnswerOf, readLineWordsAnswerOf, repairAnswerOf, crccAnswerOf}
+use Rattle.picture_answers.specs.Pictures.{placeAnswerOf}
+use Rattle.span_answers.specs.Spans.{valuesOf, lengthsAnswerOf, sendAnswerOf, readAnswerOf}
+use Rattle.recording_answers.specs.Recordings.{findAnswerOf, nextAnswerOf}
+use Rattle.demands.specs.Rules.{decodeRules, lineWordsRules, readLineWordsRules, repairRules, crccRules, placeRules, splitRules, joinRules, lengthsRules, sendRules, fillRules, readRules, judgeRules, findRules, nextRules}
+use Rattle.demands.proofs.Demands.{demand-1, demand-2}
+use Rattle.demands.proofs.Sendings.{row-holds}
+use Rattle.window.proofs.Accepting.{row-passed}
+use Rattle.demands.proofs.Refusing.{known-says, symbols-say, samples-say}
+use Rattle.face.specs.Face.{AreValues, Says, SentFrom, Stands, Face}
+use Rattle.face.proofs.Telling.{Numbered, crosses, crosses-placed, good-by-number}
+
+-- a disparity as a bool
+says : (d : Disparity) → Says (isPositive d) d
+says d = record { ifNegative = λ e. ap isPositive e; ifPositive = λ e. ap isPositive e }
+
+-- the values of a span
+values : (d : Delivery) → AreValues (valuesOf d) d
+values d = record {
+  line = refl;
+  sav1 = refl;
+  sav2 = refl;
+  eav1 = refl;
+  eav2 = refl;
+  negativeBefore = λ e. ap isPositive e;
+  positiveBefore = λ e. ap isPositive e;
+  negativeAfter = λ e. ap isPositive e;
+  positiveAfter = λ e. ap isPositive e;
+  repairs = refl;
+}
+
+-- a span that is found, or none, is no refusal
+found-good : (o : Option ℕ) → findAnswerOf (given o) .number ≡ 0
+found-good none = refl
+found-good (some place) = refl
+
+next-good : (resume : ℕ) (o : Option Spanned) → nextAnswerOf (given o) resume .number ≡ 0
+next-good resume none = refl
+next-good resume (some s) = refl
+
+-- where to go on crosses as it is
+resume-is : (r : Answer (Option Spanned)) (resume : ℕ) → nextAnswerOf r resume .resume ≡ resume
+resume-is (refused number place) resume = refl
+resume-is (given none) resume = refl
+resume-is (given (some s)) resume = refl
+
+-- ---- a call of the sender
+module _ (d : Disparity) (f : Format) (a : Request) (entry : List ℕ) where
+  abbrev room : ℕ
+  room = length entry
+
+  -- it is not refused where 0 is answered,
+  is-given : sendAnswerOf (sendOf d f a room) .number ≡ 0 → sendOf d f a room ≡ given (spanAfter d f a)
+  is-given zero =
+      let above : Numbered (refusals f a room) = (omega arith, (omega arith, (omega arith, (omega arith, (omega arith, tt))))) in
+      good-by-number sendAnswerOf (λ x. x .number) (λ n p. refl) (λ e. refl) (refusals f a room) (spanAfter d f a) above zero
+
+  -- and refused where not
+  not-given : (r : Answer Disparity) → (sendAnswerOf r .number ≡ 0 → ⊥) → (number : ℕ) × (place : ℕ) × (r ≡ refused number place)
+  not-given (refused number place) other = (number, place, refl)
+  not-given (given e) other = absurd (other refl)
+
+  sent-from : SentFrom d f a (sendAnswerOf (sendOf d f a room)) entry (sentBuffer d f a entry)
+  sent-from = record {
+    put = λ zero. demand-2 .sent d (spanAfter d f a) f a entry (is-given zero) .0;
+    after = λ zero. rw (is-given zero) (says _);
+    untouched = λ other.
+        let (number, place, e) = not-given (sendOf d f a room) other in demand-1 .send d f a entry .1 .untouched number place e;
+  }
+
+-- ---- the content bytes of a call that names them
+module _ (d : Disparity) (f : Format) (line : ℕ) (content : ContentBytes) (samples entry : List ℕ)
+    (zero : sendAnswerOf (sendOf d f (request line (Named content) samples) (length entry)) .number ≡ 0) where
+  abbrev asked : Request
+  asked = request line (Named content) samples
+
+  abbrev out : List ℕ
+  out = sentBuffer d f asked entry
+
+  known : IsFormat f
+  known =
+      known-says f .told (row-holds _ (row-passed (refusals f asked (length entry)) (spanAfter d f asked) (spanAfter d f asked) (is-given d f asked entry zero) 0))
+
+  stands : (i c : ℕ) → i < symbolsIn (shapeOf f) → getD (spanChars f asked) i 0 ≡ c → Stands out i c
+  stands i c h e = (
+    afterRun d (take i (spanChars f asked)),
+    ap (λ (l : List ℕ). getD l i 0) (sent-from d f asked entry .put zero)
+        ∙ span-paper .symbolAt f asked known d i h
+        ∙ ap (symbolOf (afterRun d (take i (spanChars f asked)))) e,
+  )
+
+  content-sent :
+      let k = 2886 * streams (shapeOf f) in
+      Stands out 2 (content .sav1) × Stands out 3 (content .sav2) × Stands out (k + 2) (content .eav1) × Stands out (k + 3) (content .eav2)
+  content-sent =
+      let some = known-has-streams f (known-says f .holds known) in
+      let sav = span-paper .savChars f asked in
+      let eav = span-paper .eavChars f asked known in
+      let k = 2886 * streams (shapeOf f) in (
+        stands 2 (content .sav1) (omega (arith, some)) (sav .2),
+        stands 3 (content .sav2) (omega (arith, some)) (sav .3),
+        stands (k + 2) (content .eav1) (omega (arith, some)) (eav .2),
+        stands (k + 3) (content .eav2) (omega (arith, some)) (eav .3),
+      )
+
+-- ---- the rows after next span
+module _ (f : Format) (symbols : List ℕ) (start : ℕ) (rows : List ℕ) where
+  abbrev answer : Answer (Option Spanned)
+  answer = nextOf f symbols start (length rows)
+
+  abbrev after : ℕ
+  after = afterNext f symbols start (length rows)
+
+  rows-after :
+      (r : Answer (Option Spanned))
+      → answer ≡ r
+      → (nextAnswerOf r after .found ≡ true
+      → rowsNext f symbols start rows ≡ pictureOf f (take (symbolsIn (shapeOf f)) (drop (nextAnswerOf r after .place) symbols)))
+      × (nextAnswerOf r after .found ≡ false → rowsNext f symbols start rows ≡ rows)
+  rows-after (refused number place) e = (λ t. absurd (true≢false (sym t)), λ _. demand-1 .nextRefused f symbols start rows number place e .0)
+  rows-after (given none) e = (λ t. absurd (true≢false (sym t)), λ _. demand-1 .nextNone f symbols start rows e .0)
+  rows-after (given (some s)) e = (λ _. demand-1 .nextSome f symbols start rows s e .0, λ t. absurd (true≢false t))
+
+pub face : Face
+face = record {
+  crossing = record { formatNumber = λ format depth. refl; formatDepth = λ format depth. refl };
+  decodeNegative = λ c h. ap (λ (r : Answer After). decodeAnswerOf r .character) (demand-2 .code Negative c h) ∙ character-answers-laws .characterTold c h;
+  decodePositive = λ c h. ap (λ (r : Answer After). decodeAnswerOf r .character) (demand-2 .code Positive c h) ∙ character-answers-laws .characterTold c h;
+  decodeAfter = λ c h. rw (demand-2 .code Negative c h) (says _);
+  decodeAfterPositive = λ c h. rw (demand-2 .code Positive c h) (says _);
+  decodeTold = λ symbol. crosses decodeAnswerOf (λ a. a .number) (λ n p. refl) (λ a. refl) (decodeOf Negative symbol) (decodeRules Negative symbol) (refl, (refl, tt)) (demand-1 .decode Negative symbol);
+  decodeToldPositive = λ symbol. crosses decodeAnswerOf (λ a. a .number) (λ n p. refl) (λ a. refl) (decodeOf Positive symbol) (decodeRules Positive symbol) (refl, (refl, tt)) (demand-1 .decode Positive symbol);
+  encodeNegative = λ c h. simp (lt-ltb c 268 h) (refl, refl);
+  encodePositive = λ c h. simp (lt-ltb c 268 h) (refl, refl);
+  encodeAfter = λ c h. simp (lt-ltb c 268 h) (says _, says _);
+  encodeNone = λ positive c h. simp (le-ltb c 268 h);
+  lineWordsTold = λ line. crosses lineWordsAnswerOf (λ a. a .number) (λ n p. refl) (λ a. refl) (numberedOf line) (lineWordsRules line) (refl, tt) (demand-1 .lineWords line);
+  lineWords = λ line p q. rw (line-good line p q) (refl, refl);
+  readLineWordsTold = λ a b. crosses readLineWordsAnswerOf (λ a. a .number) (λ n p. refl) (λ a. refl) (namedOf a b) (readLineWordsRules a b) (refl, (refl, tt)) (demand-1 .readLineWords a b);
+  readLineWords = λ line p q. ap (λ (r : Answer StreamLine). readLineWordsAnswerOf r .line) (read-sent line p q);
+  repairTold = λ word. crosses repairAnswerOf (λ a. a .number) (λ n p. refl) (λ a. refl) (repairOf word) (repairRules word) (refl, (refl, tt)) (demand-1 .repair word);
+  repair = λ word r e. rw e (refl, refl);
+  crccTold = λ words. crosses crccAnswerOf (λ a. a .number) (λ n p. refl) (λ a. refl) (crccOf words) (crccRules words) (refl, tt) (demand-1 .crcc words);
+  crcc = λ words c e. rw e (refl, refl, refl);
+  placeTold = λ line sample. crosses placeAnswerOf (λ a. a .number) (λ n p. refl) (λ a. refl) (placedOf line sample) (placeRules line sample) (refl, tt) (demand-1 .place line sample);
+  place = λ u l j p q r s t. rw (demand-2 .places [] u l j p q r s t .0) (refl, refl, refl, refl);
+  splitTold = λ row first second. crosses numberIn (λ n. n) (λ n p. refl) (λ a. refl) (splitOf row first second) (splitRules row first second) (refl, (refl, tt)) (demand-1 .split row first second .0);
+  splitLent = λ row first second. let split = demand-1 .split row first second in (split .1, split .2);
+  joinLent = λ first second row. demand-1 .join first second row .1;
+  joinTold = λ first second row. crosses numberIn (λ n. n) (λ n p. refl) (λ a. refl) (joinOf first second row) (joinRules first second row) (refl, (refl, tt)) (demand-1 .join first second row .0);
+  carriesPicture = λ line p q. simp (is-within 42 1121 line p q);
+  carriesBlanking = λ line out. simp (not-within 42 1121 line out);
+  lengthsTold = λ format depth. crosses lengthsAnswerOf (λ a. a .number) (λ n p. refl) (λ a. refl) (lengthsOf (formatFrom format depth)) (lengthsRules (formatFrom format depth)) (refl, tt) (demand-1 .lengths (formatFrom format depth));
+  lengths = λ format depth known.
+      let f = formatFrom format depth in
+      rw (lengths-given f (known-says f .holds known))
+      (samples-say f known (samplesIn (shapeOf f)) .told (eq-eqb (samplesIn (shapeOf f)) (samplesIn (shapeOf f)) refl), symbols-say f known (symbolsIn (shapeOf f)) .told (eq-eqb (symbolsIn (shapeOf f)) (symbolsIn (shapeOf f)) refl));
+  sendTold = λ format depth line positive samples symbols.
+      crosses-placed sendAnswerOf (λ a. a .number) (λ n p. refl) (λ a. refl) (λ a. a .place) (λ n p. refl) (λ a. refl) (sendOf (disparityFrom positive) (formatFrom format depth) (request line NoneNamed samples) (length symbols)) (sendRules (formatFrom format depth) (request line NoneNamed samples) (length symbols))
+      (demand-1 .send (disparityFrom positive) (formatFrom format depth) (request line NoneNamed samples) symbols .0);
+  sendNamedTold = λ format depth line positive content samples symbols.
+      crosses-placed sendAnswerOf (λ a. a .number) (λ n p. refl) (λ a. refl) (λ a. a .place) (λ n p. refl) (λ a. refl) (sendOf (disparityFrom positive) (formatFrom format depth) (request line (Named content) samples) (length symbols)) (sendRules (formatFrom format depth) (request line (Named content) samples) (length symbols))
+      (demand-1 .send (disparityFrom positive) (formatFrom format depth) (request line (Named content) samples) symbols .0);
+  sent = λ format depth line samples symbols.
+      let f = formatFrom format depth in
+      let a = request line NoneNamed samples in
+      (sent-from Negative f a symbols, sent-from Positive f a symbols);
+  sentNamed = λ format depth line content samples symbols.
+      let f = formatFrom format depth in
+      let a = request line (Named content) samples in
+      (sent-from Negative f a symbols, sent-from Positive f a symbols);
+  contentSent = λ format depth line positive content samples symbols.
+      content-sent (disparityFrom positive) (formatFrom format depth) line content samples symbols;
+  fillBlankingTold = λ format depth row. crosses numberIn (λ n. n) (λ n p. refl) (λ a. refl) (fillOf (formatFrom format depth) row) (fillRules (formatFrom format depth) (length row)) (refl, (refl, tt)) (demand-1 .fill (formatFrom format depth) row .0);
+  fillBlankingLent = λ format depth row. demand-1 .fill (formatFrom format depth) row .1;
+  readLent = λ format depth symbols rows. demand-1 .read (formatFrom format depth) symbols rows .1;
+  readTold = λ format depth symbols rows.
+      crosses-placed readAnswerOf (λ a. a .number) (λ n p. refl) (λ a. refl) (λ a. a .place) (λ n p. refl) (λ a. refl) (readOf (formatFrom format depth) symbols (length rows)) (readRules (formatFrom format depth) symbols (length rows))
+      (demand-1 .read (formatFrom format depth) symbols rows .0);
+  read = λ format depth symbols rows d e. rw e (values d);
+  judgeTold = λ format depth symbols.
+      crosses-placed readAnswerOf (λ a. a .number) (λ n p. refl) (λ a. refl) (λ a. a .place) (λ n p. refl) (λ a. refl) (judgeOf (formatFrom format depth) symbols) (judgeRules (formatFrom format depth) symbols)
+      (demand-1 .judge (formatFrom format depth) symbols);
+  judge = λ format depth symbols d e. rw e (values d);
+  findTold = λ format depth symbols start.
+      crosses findAnswerOf (λ a. a .number) (λ n p. refl) found-good (findOf (formatFrom format depth) symbols start) (findRules (formatFrom format depth) symbols start) (refl, (refl, (refl, tt))) (demand-1 .find (formatFrom format depth) symbols start);
+  findAt = λ format depth symbols start place e. rw e (refl, refl);
+  findNone = λ format depth symbols start e. rw e refl;
+  nextTold = λ format depth symbols start rows.
+      let f = formatFrom format depth in
+      let resume = afterNext f symbols start (length rows) in
+      crosses (λ r. nextAnswerOf r resume) (λ a. a .number) (λ n p. refl) (next-good resume) (nextOf f symbols start (length rows))
+      (nextRules f symbols start (length rows)) (refl, (refl, (refl, (refl, tt)))) (demand-1 .next f symbols start rows);
+  nextAt = λ format depth symbols start rows s e. rw e (refl, refl, values (s .delivery));
+  nextNone = λ format depth symbols start rows e. rw e refl;
+  nextRows = λ format depth symbols start rows. rows-after (formatFrom format depth) symbols start rows _ refl;
+  nextResume = λ format depth symbols start rows. resume-is (nextOf (formatFrom format depth) symbols start (length rows)) _;
+}

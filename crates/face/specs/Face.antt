@@ -1,0 +1,245 @@
+-- What a caller from C has, in numerals, for all numbers: which number is which refusal, and each field of each answer. With the demands
+-- it says what the exported calls do; `proofs/Face` proves each.
+-- Assumes nothing.
+use Prim.Native.Nat.{ℕ, _+_, _*_, _≤_, _<_}
+use mathlib.Core.Path.{_≡_}
+use mathlib.Core.Bool.{Bool, true, false}
+use mathlib.Core.List.{List, [], _∷_}
+use mathlib.Core.Logic.{_⊎_}
+use mathlib.Core.Option.{none, some}
+use lib.ListN.{length, getD, take, drop}
+use Rattle.ground.specs.Answer.{given}
+use Rattle.symbol.specs.declared.disparity.Disparity.{Disparity}
+use Rattle.symbol.specs.declared.disparity.Disparity.the-variants.{Negative, Positive}
+use Rattle.symbol.specs.Code.{symbolOf, afterOf}
+use Rattle.word.specs.LineNumber.{ln0, ln1}
+use Rattle.word.specs.Repair.{repairOf}
+use Rattle.word.specs.declared.repair.Repaired.{Repaired}
+use Rattle.crcc.specs.Crcc.{crc, crccWords, crccOf}
+use Rattle.dividing.specs.Row.{divided, joined, splitOf, joinOf}
+use Rattle.picture.specs.Division.{lineFrom, sampleFrom}
+use Rattle.span.specs.declared.content.Content.the-variants.{NoneNamed, Named}
+use Rattle.span.specs.declared.content.ContentBytes.{ContentBytes}
+use Rattle.span.specs.Blanking.{fillOf, blankRow}
+use Rattle.span.specs.Format.{formatFrom, shapeOf, streams, symbolsIn}
+use Rattle.span.specs.Stream.{Request}
+use Rattle.span.specs.declared.format.Format.{Format}
+use Rattle.span.specs.Numbers.{Symbols, Samples}
+use Rattle.span.specs.Span.{spanSymbols, spanAfter}
+use Rattle.request.specs.Send.{request}
+use Rattle.window.specs.declared.delivery.Delivery.{Delivery}
+use Rattle.window.specs.Read.{judgeOf, readOf, pictureOf}
+use Rattle.recording.specs.declared.answer.Spanned.{Spanned}
+use Rattle.recording.specs.Call.{findOf, nextOf, afterNext}
+use Rattle.span_answers.specs.declared.spans.SendAnswer.{SendAnswer}
+use Rattle.span_answers.specs.declared.spans.Values.{Values}
+use Rattle.demands.specs.Form.{Refusal, rule, Lent, Rows}
+use Rattle.demands.specs.Rules.{repairRules, readLineWordsRules, crccRules, splitRules, joinRules, fillRules, sendRules, judgeRules, readRules, findRules, nextRules}
+use Rattle.face.specs.Calls.{decode·answer, encode·answer, lineWords·answer, readLineWords·answer, repair·answer, crcc·answer, place·answer, split·answer, split·first, split·second, join·answer, join·row, carriesPicture·answer, lengths·answer, send·answer, send·symbols, sendNamed·answer, sendNamed·symbols, fillBlanking·answer, fillBlanking·row, read·answer, read·rows, judge·answer, find·answer, next·answer, next·rows}
+
+-- ---- the number and the place of an answer
+
+-- by the rows of the table of refusals, in the order tried: those of the first that the call is not good for; 0 and 0 if it is good for all
+abbrev pub Told : ℕ → ℕ → List Refusal → Type 0
+Told number place [] = (number ≡ 0) × (place ≡ 0)
+Told number place (x ∷ xs) = ((x .good → ⊥) → (number ≡ x .number) × x .place place) × (x .good → Told number place xs)
+
+-- a known format, by the two numbers that C gives
+abbrev pub KnownFormat : ℕ → ℕ → Type 0
+KnownFormat format depth = (1 ≤ format) × (format ≤ 3) × ((depth ≡ 10) ⊎ (depth ≡ 12))
+
+-- ---- what crosses by value
+
+pub record Crossing : Type 0 where
+  -- a format is its two numbers, in this order
+  pub formatNumber : (format depth : ℕ) → formatFrom format depth .number ≡ format
+  pub formatDepth : (format depth : ℕ) → formatFrom format depth .depth ≡ depth
+
+-- the values of a span field by field: the line, the content bytes in the order SAV 1, SAV 2, EAV 1, EAV 2, true for positive
+pub record AreValues (v : Values) (d : Delivery) : Type 0 where
+  pub line : v .line ≡ d .line .0
+  pub sav1 : v .content .sav1 ≡ d .content .sav1
+  pub sav2 : v .content .sav2 ≡ d .content .sav2
+  pub eav1 : v .content .eav1 ≡ d .content .eav1
+  pub eav2 : v .content .eav2 ≡ d .content .eav2
+  pub negativeBefore : d .before ≡ Negative → v .«positive_before» ≡ false
+  pub positiveBefore : d .before ≡ Positive → v .«positive_before» ≡ true
+  pub negativeAfter : d .after ≡ Negative → v .«positive_after» ≡ false
+  pub positiveAfter : d .after ≡ Positive → v .«positive_after» ≡ true
+  pub repairs : v .repairs ≡ d .repairs .count
+
+-- a disparity as a bool
+pub record Says (positive : Bool) (d : Disparity) : Type 0 where
+  pub ifNegative : d ≡ Negative → positive ≡ false
+  pub ifPositive : d ≡ Positive → positive ≡ true
+
+-- a call of the sender, its answer, the buffer that was lent, and the buffer afterwards: the span and the disparity after it if the answer is
+-- 0, else the buffer as it was
+pub record SentFrom (d : Disparity) (f : Format) (a : Request) (answer : SendAnswer) (entry exit : List ℕ) : Type 0 where
+  pub put : answer .number ≡ 0 → exit ≡ spanSymbols d f a
+  pub after : answer .number ≡ 0 → Says (answer .«positive_after») (spanAfter d f a)
+  pub untouched : (answer .number ≡ 0 → ⊥) → exit ≡ entry
+
+-- symbol i is the symbol of byte c, at one of the two disparities
+abbrev pub Stands : List ℕ → ℕ → ℕ → Type 0
+Stands r i c = (d : Disparity) × (getD r i 0 ≡ symbolOf d c)
+
+pub record Face : Type 0 where
+  pub crossing : Crossing
+  -- ---- the code: true is positive, a character is its number
+  pub decodeNegative : (c : ℕ) → c < 268 → decode·answer false (symbolOf Negative c) .character ≡ c
+  pub decodePositive : (c : ℕ) → c < 268 → decode·answer true (symbolOf Positive c) .character ≡ c
+  pub decodeAfter : (c : ℕ) → c < 268 → Says (decode·answer false (symbolOf Negative c) .«positive_after») (afterOf Negative c)
+  pub decodeAfterPositive : (c : ℕ) → c < 268 → Says (decode·answer true (symbolOf Positive c) .«positive_after») (afterOf Positive c)
+  pub decodeTold :
+      (symbol : ℕ)
+      → Told (decode·answer false symbol .number) 0 (rule 7 (symbol ≤ 1023) ∷ rule 20 ((c : ℕ) × (c < 268) × (symbolOf Negative c ≡ symbol)) ∷ [])
+  pub decodeToldPositive :
+      (symbol : ℕ)
+      → Told (decode·answer true symbol .number) 0 (rule 7 (symbol ≤ 1023) ∷ rule 20 ((c : ℕ) × (c < 268) × (symbolOf Positive c ≡ symbol)) ∷ [])
+  pub encodeNegative :
+      (c : ℕ) → c < 268 → (encode·answer false c .known ≡ true) × (encode·answer false c .symbol ≡ symbolOf Negative c)
+  pub encodePositive :
+      (c : ℕ) → c < 268 → (encode·answer true c .known ≡ true) × (encode·answer true c .symbol ≡ symbolOf Positive c)
+  pub encodeAfter :
+      (c : ℕ)
+      → c < 268
+      → Says (encode·answer false c .«positive_after») (afterOf Negative c) × Says (encode·answer true c .«positive_after») (afterOf Positive c)
+  pub encodeNone : (positive : Bool) (c : ℕ) → 268 ≤ c → encode·answer positive c .known ≡ false
+  -- ---- words
+  pub lineWordsTold : (line : ℕ) → Told (lineWords·answer line .number) 0 (rule 2 ((1 ≤ line) × (line ≤ 1125)) ∷ [])
+  pub lineWords :
+      (line : ℕ) → 1 ≤ line → line ≤ 1125 → (lineWords·answer line .ln0 ≡ ln0 line) × (lineWords·answer line .ln1 ≡ ln1 line)
+  pub readLineWordsTold : (a b : ℕ) → Told (readLineWords·answer a b .number) 0 (readLineWordsRules a b)
+  pub readLineWords : (line : ℕ) → 1 ≤ line → line ≤ 1125 → readLineWords·answer (ln0 line) (ln1 line) .line ≡ line
+  pub repairTold : (word : ℕ) → Told (repair·answer word .number) 0 (repairRules word)
+  pub repair :
+      (word : ℕ) (r : Repaired)
+      → repairOf word ≡ given r
+      → (repair·answer word .word ≡ r .word) × (repair·answer word .distance ≡ r .distance)
+  pub crccTold : (words : List ℕ) → Told (crcc·answer words .number) 0 (crccRules words)
+  pub crcc :
+      (words : List ℕ) (c : ℕ)
+      → crccOf words ≡ given c
+      → (crcc·answer words .crc ≡ c)
+      × (crcc·answer words .crcc0 ≡ crccWords c .crcc0)
+      × (crcc·answer words .crcc1 ≡ crccWords c .crcc1)
+  -- ---- pictures
+  pub placeTold :
+      (line sample : ℕ) → Told (place·answer line sample .number) 0 (rule 2 ((1 ≤ line) × (line ≤ 2160) × (sample ≤ 3839)) ∷ [])
+  pub place :
+      (u l j : ℕ)
+      → 1 ≤ u
+      → u ≤ 4
+      → 1 ≤ l
+      → l ≤ 1080
+      → j ≤ 1919
+      → let a = place·answer (lineFrom u l) (sampleFrom u j) in
+      (a .image ≡ u) × (a .line ≡ l) × (a .«stream_line» ≡ l + 41) × (a .sample ≡ j)
+  pub splitTold : (row first second : List ℕ) → Told (split·answer row first second) 0 (splitRules row first second)
+  pub splitLent :
+      (row first second : List ℕ)
+      → Lent (splitOf row first second) first (divided 0 1920 row) (split·first row first second)
+      × Lent (splitOf row first second) second (divided 1 1920 row) (split·second row first second)
+  pub joinTold : (first second row : List ℕ) → Told (join·answer first second row) 0 (joinRules first second row)
+  pub joinLent :
+      (first second row : List ℕ) → Lent (joinOf first second row) row (joined 1920 first second) (join·row first second row)
+  pub carriesPicture : (line : ℕ) → 42 ≤ line → line ≤ 1121 → carriesPicture·answer line ≡ true
+  pub carriesBlanking : (line : ℕ) → (42 ≤ line → line ≤ 1121 → ⊥) → carriesPicture·answer line ≡ false
+  -- ---- one span
+  pub lengthsTold : (format depth : ℕ) → Told (lengths·answer format depth .number) 0 (rule 1 (KnownFormat format depth) ∷ [])
+  pub lengths :
+      (format depth : ℕ)
+      → KnownFormat format depth
+      → Samples (formatFrom format depth) (lengths·answer format depth .samples)
+      × Symbols (formatFrom format depth) (lengths·answer format depth .symbols)
+  pub sendTold :
+      (format depth line : ℕ) (positive : Bool) (samples symbols : List ℕ)
+      → let a = send·answer format depth line positive samples symbols in
+      Told (a .number) (a .place) (sendRules (formatFrom format depth) (request line NoneNamed samples) (length symbols))
+  pub sendNamedTold :
+      (format depth line : ℕ) (positive : Bool) (content : ContentBytes) (samples symbols : List ℕ)
+      → let a = sendNamed·answer format depth line positive content samples symbols in
+      Told (a .number) (a .place) (sendRules (formatFrom format depth) (request line (Named content) samples) (length symbols))
+  -- what is sent, from negative disparity where false is given and from positive where true is, and the disparity after it
+  pub sent :
+      (format depth line : ℕ) (samples symbols : List ℕ)
+      → let f = formatFrom format depth in
+      let a = request line NoneNamed samples in
+      SentFrom Negative f a (send·answer format depth line false samples symbols) symbols (send·symbols format depth line false samples symbols)
+      × SentFrom Positive f a (send·answer format depth line true samples symbols) symbols (send·symbols format depth line true samples symbols)
+  pub sentNamed :
+      (format depth line : ℕ) (content : ContentBytes) (samples symbols : List ℕ)
+      → let f = formatFrom format depth in
+      let a = request line (Named content) samples in
+      SentFrom Negative f a (sendNamed·answer format depth line false content samples symbols) symbols
+      (sendNamed·symbols format depth line false content samples symbols)
+      × SentFrom Positive f a (sendNamed·answer format depth line true content samples symbols) symbols
+      (sendNamed·symbols format depth line true content samples symbols)
+  -- the content bytes: SAV 1 and 2 at symbols 2 and 3, EAV 1 and 2 at 2886s + 2 and 2886s + 3
+  pub contentSent :
+      (format depth line : ℕ) (positive : Bool) (content : ContentBytes) (samples symbols : List ℕ)
+      → sendNamed·answer format depth line positive content samples symbols .number ≡ 0
+      → let r = sendNamed·symbols format depth line positive content samples symbols in
+      let k = 2886 * streams (shapeOf (formatFrom format depth)) in
+      Stands r 2 (content .sav1) × Stands r 3 (content .sav2) × Stands r (k + 2) (content .eav1) × Stands r (k + 3) (content .eav2)
+  pub fillBlankingTold :
+      (format depth : ℕ) (row : List ℕ) → Told (fillBlanking·answer format depth row) 0 (fillRules (formatFrom format depth) (length row))
+  pub fillBlankingLent :
+      (format depth : ℕ) (row : List ℕ)
+      → Lent (fillOf (formatFrom format depth) row) row (blankRow (formatFrom format depth)) (fillBlanking·row format depth row)
+  pub readTold :
+      (format depth : ℕ) (symbols rows : List ℕ)
+      → let a = read·answer format depth symbols rows in
+      Told (a .number) (a .place) (readRules (formatFrom format depth) symbols (length rows))
+  pub readLent :
+      (format depth : ℕ) (symbols rows : List ℕ)
+      → let f = formatFrom format depth in
+      Rows (readOf f symbols (length rows)) rows (pictureOf f symbols) (read·rows format depth symbols rows)
+  pub read :
+      (format depth : ℕ) (symbols rows : List ℕ) (d : Delivery)
+      → readOf (formatFrom format depth) symbols (length rows) ≡ given d
+      → AreValues (read·answer format depth symbols rows .delivery) d
+  pub judgeTold :
+      (format depth : ℕ) (symbols : List ℕ)
+      → let a = judge·answer format depth symbols in
+      Told (a .number) (a .place) (judgeRules (formatFrom format depth) symbols)
+  pub judge :
+      (format depth : ℕ) (symbols : List ℕ) (d : Delivery)
+      → judgeOf (formatFrom format depth) symbols ≡ given d
+      → AreValues (judge·answer format depth symbols .delivery) d
+  -- ---- recordings: whether there is a span is `found`, since place 0 is a place
+  pub findTold :
+      (format depth : ℕ) (symbols : List ℕ) (start : ℕ)
+      → Told (find·answer format depth symbols start .number) 0 (findRules (formatFrom format depth) symbols start)
+  pub findAt :
+      (format depth : ℕ) (symbols : List ℕ) (start place : ℕ)
+      → findOf (formatFrom format depth) symbols start ≡ given (some place)
+      → (find·answer format depth symbols start .found ≡ true) × (find·answer format depth symbols start .place ≡ place)
+  pub findNone :
+      (format depth : ℕ) (symbols : List ℕ) (start : ℕ)
+      → findOf (formatFrom format depth) symbols start ≡ given none
+      → find·answer format depth symbols start .found ≡ false
+  pub nextTold :
+      (format depth : ℕ) (symbols : List ℕ) (start : ℕ) (rows : List ℕ)
+      → Told (next·answer format depth symbols start rows .number) 0 (nextRules (formatFrom format depth) symbols start (length rows))
+  pub nextAt :
+      (format depth : ℕ) (symbols : List ℕ) (start : ℕ) (rows : List ℕ) (s : Spanned)
+      → let f = formatFrom format depth in
+      let a = next·answer format depth symbols start rows in
+      nextOf f symbols start (length rows) ≡ given (some s)
+      → (a .found ≡ true) × (a .place ≡ s .place) × AreValues (a .delivery) (s .delivery)
+  pub nextNone :
+      (format depth : ℕ) (symbols : List ℕ) (start : ℕ) (rows : List ℕ)
+      → nextOf (formatFrom format depth) symbols start (length rows) ≡ given none
+      → next·answer format depth symbols start rows .found ≡ false
+  -- the rows: the picture of the span, else as they were
+  pub nextRows :
+      (format depth : ℕ) (symbols : List ℕ) (start : ℕ) (rows : List ℕ)
+      → let f = formatFrom format depth in
+      let a = next·answer format depth symbols start rows in
+      (a .found ≡ true → next·rows format depth symbols start rows ≡ pictureOf f (take (symbolsIn (shapeOf f)) (drop (a .place) symbols)))
+      × (a .found ≡ false → next·rows format depth symbols start rows ≡ rows)
+  pub nextResume :
+      (format depth : ℕ) (symbols : List ℕ) (start : ℕ) (rows : List ℕ)
+      → next·answer format depth symbols start rows .resume ≡ afterNext (formatFrom format depth) symbols start (length rows)
