@@ -1,2 +1,3 @@
 pub mod Cases
+pub mod Laws
 pub mod Told

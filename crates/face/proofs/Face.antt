@@ -40,6 +40,10 @@ use Rattle.span.proofs.LengthCalls.{lengths-given}
 use Rattle.request.specs.Send.{request, refusals, sendOf, sentBuffer}
 use Rattle.window.specs.declared.delivery.Delivery.{Delivery}
 use Rattle.recording.specs.declared.answer.Spanned.{Spanned}
+use Rattle.boundary.specs.Laws.{Says}
+use Rattle.boundary.proofs.Laws.{boundary-laws}
+use Rattle.span_answers.specs.Laws.{AreValues}
+use Rattle.span_answers.proofs.Laws.{span-answers-laws}
 use Rattle.boundary.specs.Numbers.{disparityFrom, numberIn}
 use Rattle.character_answers.specs.Characters.{decodeAnswerOf}
 use Rattle.character_answers.proofs.Laws.{character-answers-laws}
@@ -52,27 +56,15 @@ use Rattle.demands.proofs.Demands.{demand-1, demand-2}
 use Rattle.demands.proofs.Sendings.{row-holds}
 use Rattle.window.proofs.Accepting.{row-passed}
 use Rattle.demands.proofs.Refusing.{known-says, symbols-say, samples-say}
-use Rattle.face.specs.Face.{AreValues, Says, SentFrom, Stands, Face}
+use Rattle.face.specs.Face.{SentFrom, Stands, Face}
 use Rattle.face.proofs.Telling.{Numbered, crosses, crosses-placed, good-by-number}
 
--- a disparity as a bool
+-- a disparity as a bool, and the values of a span
 says : (d : Disparity) → Says (isPositive d) d
-says d = record { ifNegative = λ e. ap isPositive e; ifPositive = λ e. ap isPositive e }
+says = boundary-laws .back
 
--- the values of a span
 values : (d : Delivery) → AreValues (valuesOf d) d
-values d = record {
-  line = refl;
-  sav1 = refl;
-  sav2 = refl;
-  eav1 = refl;
-  eav2 = refl;
-  negativeBefore = λ e. ap isPositive e;
-  positiveBefore = λ e. ap isPositive e;
-  negativeAfter = λ e. ap isPositive e;
-  positiveAfter = λ e. ap isPositive e;
-  repairs = refl;
-}
+values = span-answers-laws .values
 
 -- a span that is found, or none, is no refusal
 found-good : (o : Option ℕ) → findAnswerOf (given o) .number ≡ 0
@@ -168,7 +160,8 @@ module _ (f : Format) (symbols : List ℕ) (start : ℕ) (rows : List ℕ) where
 
 pub face : Face
 face = record {
-  crossing = record { formatNumber = λ format depth. refl; formatDepth = λ format depth. refl };
+  crossing = boundary-laws;
+  named = (refl, refl, refl, refl);
   decodeNegative = λ c h. ap (λ (r : Answer After). decodeAnswerOf r .character) (demand-2 .code Negative c h) ∙ character-answers-laws .characterTold c h;
   decodePositive = λ c h. ap (λ (r : Answer After). decodeAnswerOf r .character) (demand-2 .code Positive c h) ∙ character-answers-laws .characterTold c h;
   decodeAfter = λ c h. rw (demand-2 .code Negative c h) (says _);

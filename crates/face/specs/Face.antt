@@ -8,7 +8,18 @@ use mathlib.Core.List.{List, [], _∷_}
 use mathlib.Core.Logic.{_⊎_}
 use mathlib.Core.Option.{none, some}
 use lib.ListN.{length, getD, take, drop}
-use Rattle.ground.specs.Answer.{given}
+use Rattle.ground.specs.Answer.{Answer, given}
+use Rattle.boundary.specs.Laws.{Says, BoundaryLaws}
+use Rattle.boundary.specs.Numbers.{numberIn}
+use Rattle.span_answers.specs.Laws.{AreValues}
+use Rattle.request.specs.declared.sent.Sent.the-variants.{UnknownFormat, NoLine, WrongInput, WrongOutput, NotAllowed}
+use Rattle.request.specs.Send.{paperSent}
+use Rattle.read.specs.Call.{paperRead}
+use Rattle.read.specs.declared.answer.Read.the-variants as Read
+use Rattle.read.specs.declared.answer.Read.the-variants.{WrongSymbol, WrongTiming, WrongLine, WrongV, WrongCrcc, WrongSample, WrongFill}
+use Rattle.recording.specs.Call.{paperFound, paperNext}
+use Rattle.recording.specs.declared.answer.Found.the-variants as Found
+use Rattle.recording.specs.declared.answer.NextSpan.the-variants as Next
 use Rattle.symbol.specs.declared.disparity.Disparity.{Disparity}
 use Rattle.symbol.specs.declared.disparity.Disparity.the-variants.{Negative, Positive}
 use Rattle.symbol.specs.Code.{symbolOf, afterOf}
@@ -32,7 +43,6 @@ use Rattle.window.specs.Read.{judgeOf, readOf, pictureOf}
 use Rattle.recording.specs.declared.answer.Spanned.{Spanned}
 use Rattle.recording.specs.Call.{findOf, nextOf, afterNext}
 use Rattle.span_answers.specs.declared.spans.SendAnswer.{SendAnswer}
-use Rattle.span_answers.specs.declared.spans.Values.{Values}
 use Rattle.demands.specs.Form.{Refusal, rule, Lent, Rows}
 use Rattle.demands.specs.Rules.{repairRules, readLineWordsRules, crccRules, splitRules, joinRules, fillRules, sendRules, judgeRules, readRules, findRules, nextRules}
 use Rattle.face.specs.Calls.{decode·answer, encode·answer, lineWords·answer, readLineWords·answer, repair·answer, crcc·answer, place·answer, split·answer, split·first, split·second, join·answer, join·row, carriesPicture·answer, lengths·answer, send·answer, send·symbols, sendNamed·answer, sendNamed·symbols, fillBlanking·answer, fillBlanking·row, read·answer, read·rows, judge·answer, find·answer, next·answer, next·rows}
@@ -44,34 +54,14 @@ abbrev pub Told : ℕ → ℕ → List Refusal → Type 0
 Told number place [] = (number ≡ 0) × (place ≡ 0)
 Told number place (x ∷ xs) = ((x .good → ⊥) → (number ≡ x .number) × x .place place) × (x .good → Told number place xs)
 
+-- the numbers of some answers
+abbrev pub numbersOf : {A : Type 0} → List (Answer A) → List ℕ
+numbersOf [] = []
+numbersOf (r ∷ more) = numberIn r ∷ numbersOf more
+
 -- a known format, by the two numbers that C gives
 abbrev pub KnownFormat : ℕ → ℕ → Type 0
 KnownFormat format depth = (1 ≤ format) × (format ≤ 3) × ((depth ≡ 10) ⊎ (depth ≡ 12))
-
--- ---- what crosses by value
-
-pub record Crossing : Type 0 where
-  -- a format is its two numbers, in this order
-  pub formatNumber : (format depth : ℕ) → formatFrom format depth .number ≡ format
-  pub formatDepth : (format depth : ℕ) → formatFrom format depth .depth ≡ depth
-
--- the values of a span field by field: the line, the content bytes in the order SAV 1, SAV 2, EAV 1, EAV 2, true for positive
-pub record AreValues (v : Values) (d : Delivery) : Type 0 where
-  pub line : v .line ≡ d .line .0
-  pub sav1 : v .content .sav1 ≡ d .content .sav1
-  pub sav2 : v .content .sav2 ≡ d .content .sav2
-  pub eav1 : v .content .eav1 ≡ d .content .eav1
-  pub eav2 : v .content .eav2 ≡ d .content .eav2
-  pub negativeBefore : d .before ≡ Negative → v .«positive_before» ≡ false
-  pub positiveBefore : d .before ≡ Positive → v .«positive_before» ≡ true
-  pub negativeAfter : d .after ≡ Negative → v .«positive_after» ≡ false
-  pub positiveAfter : d .after ≡ Positive → v .«positive_after» ≡ true
-  pub repairs : v .repairs ≡ d .repairs .count
-
--- a disparity as a bool
-pub record Says (positive : Bool) (d : Disparity) : Type 0 where
-  pub ifNegative : d ≡ Negative → positive ≡ false
-  pub ifPositive : d ≡ Positive → positive ≡ true
 
 -- a call of the sender, its answer, the buffer that was lent, and the buffer afterwards: the span and the disparity after it if the answer is
 -- 0, else the buffer as it was
@@ -84,8 +74,28 @@ pub record SentFrom (d : Disparity) (f : Format) (a : Request) (answer : SendAns
 abbrev pub Stands : List ℕ → ℕ → ℕ → Type 0
 Stands r i c = (d : Disparity) × (getD r i 0 ≡ symbolOf d c)
 
-pub record Face : Type 0 where
-  pub crossing : Crossing
+pub record Face : Type 1 where
+  pub crossing : BoundaryLaws
+  -- which number is which refusal, by the names that the library's answers have
+  pub named :
+      (numbersOf (paperSent UnknownFormat ∷ paperSent NoLine ∷ paperSent WrongInput ∷ paperSent WrongOutput ∷ paperSent (NotAllowed 0) ∷ [])
+      ≡ 1 ∷ 2 ∷ 3 ∷ 4 ∷ 6 ∷ [])
+      × (numbersOf
+      (paperRead Read.UnknownFormat
+      ∷ paperRead Read.WrongInput
+      ∷ paperRead Read.WrongOutput
+      ∷ paperRead (WrongSymbol 0)
+      ∷ paperRead (WrongTiming 0)
+      ∷ paperRead (WrongLine 0)
+      ∷ paperRead (WrongV 0)
+      ∷ paperRead (WrongCrcc 0)
+      ∷ paperRead (WrongSample 0)
+      ∷ paperRead (WrongFill 0)
+      ∷ [])
+      ≡ 1 ∷ 3 ∷ 4 ∷ 20 ∷ 21 ∷ 22 ∷ 23 ∷ 24 ∷ 25 ∷ 26 ∷ [])
+      × (numbersOf (paperFound Found.UnknownFormat ∷ paperFound Found.WrongInput ∷ paperFound Found.WrongStart ∷ []) ≡ 1 ∷ 3 ∷ 5 ∷ [])
+      × (numbersOf (paperNext Next.UnknownFormat ∷ paperNext Next.WrongInput ∷ paperNext Next.WrongOutput ∷ paperNext Next.WrongStart ∷ [])
+      ≡ 1 ∷ 3 ∷ 4 ∷ 5 ∷ [])
   -- ---- the code: true is positive, a character is its number
   pub decodeNegative : (c : ℕ) → c < 268 → decode·answer false (symbolOf Negative c) .character ≡ c
   pub decodePositive : (c : ℕ) → c < 268 → decode·answer true (symbolOf Positive c) .character ≡ c

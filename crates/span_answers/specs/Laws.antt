@@ -1,16 +1,40 @@
--- What holds of the answers to C of the calls on spans: no two answers of the library cross as the same, so the number and the fields
--- determine what was answered. `proofs/Laws` proves each.
+-- What holds of the answers to C of the calls on spans: each field crosses as it is, and no two answers of the library cross as the same,
+-- so the number and the fields determine what was answered. `proofs/Laws` proves each.
 -- Assumes nothing.
+use Prim.Native.Nat.{ℕ}
+use mathlib.Core.Path.{_≡_}
+use Rattle.ground.specs.Answer.{refused}
 use Rattle.ground.specs.Inside.Answer.{Injective}
+use Rattle.boundary.specs.Laws.{Says}
+use Rattle.window.specs.declared.delivery.Delivery.{Delivery}
+use Rattle.span_answers.specs.declared.spans.Values.{Values}
 use Rattle.span.specs.declared.length.Lengths.{Lengths}
 use Rattle.span.specs.Length.{paperLengths}
 use Rattle.request.specs.declared.sent.Sent.{Sent}
 use Rattle.request.specs.Send.{paperSent}
 use Rattle.read.specs.declared.answer.Read.{Read}
 use Rattle.read.specs.Call.{paperRead}
-use Rattle.span_answers.specs.Spans.{lengthsAnswerOf, sendAnswerOf, readAnswerOf}
+use Rattle.span_answers.specs.Spans.{valuesOf, lengthsAnswerOf, sendAnswerOf, readAnswerOf}
+
+-- the values of a span field by field: the line, the content bytes in the order SAV 1, SAV 2, EAV 1, EAV 2, true for positive
+pub record AreValues (v : Values) (d : Delivery) : Type 0 where
+  pub line : v .line ≡ d .line .0
+  pub sav1 : v .content .sav1 ≡ d .content .sav1
+  pub sav2 : v .content .sav2 ≡ d .content .sav2
+  pub eav1 : v .content .eav1 ≡ d .content .eav1
+  pub eav2 : v .content .eav2 ≡ d .content .eav2
+  pub before : Says (v .«positive_before») (d .before)
+  pub after : Says (v .«positive_after») (d .after)
+  pub repairs : v .repairs ≡ d .repairs .count
 
 pub record SpanAnswersLaws : Type 0 where
+  pub values : (d : Delivery) → AreValues (valuesOf d) d
+  pub readNumber :
+      (number place : ℕ)
+      → (readAnswerOf (refused number place) .number ≡ number) × (readAnswerOf (refused number place) .place ≡ place)
+  pub sendNumber :
+      (number place : ℕ)
+      → (sendAnswerOf (refused number place) .number ≡ number) × (sendAnswerOf (refused number place) .place ≡ place)
   -- the lengths of a format
   pub lengthsTold : Injective (λ (r : Lengths). lengthsAnswerOf (paperLengths r))
   -- sending a span

@@ -1,0 +1,16 @@
+-- What holds of numbers that cross, proved.
+-- Assumes nothing.
+use mathlib.Core.Path.{refl, ap}
+use Rattle.symbol.specs.Disparity.{isPositive}
+use Rattle.boundary.specs.Laws.{BoundaryLaws}
+
+pub boundary-laws : BoundaryLaws
+boundary-laws = record {
+  trueIsPositive = refl;
+  falseIsNegative = refl;
+  back = λ d. record { ifNegative = λ e. ap isPositive e; ifPositive = λ e. ap isPositive e };
+  formatNumber = λ format depth. refl;
+  formatDepth = λ format depth. refl;
+  refusedNumber = λ A number place. refl;
+  givenZero = λ a. refl;
+}

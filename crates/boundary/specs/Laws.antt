@@ -1,0 +1,28 @@
+-- What holds of numbers that cross, in words that a caller from C has; `proofs/Laws` proves each.
+-- Assumes nothing.
+use Prim.Native.Nat.{ℕ}
+use mathlib.Core.Path.{_≡_}
+use mathlib.Core.Bool.{Bool, true, false}
+use Rattle.ground.specs.Answer.{refused, given}
+use Rattle.symbol.specs.declared.disparity.Disparity.{Disparity}
+use Rattle.symbol.specs.declared.disparity.Disparity.the-variants.{Negative, Positive}
+use Rattle.symbol.specs.Disparity.{isPositive}
+use Rattle.span.specs.Format.{formatFrom}
+use Rattle.boundary.specs.Numbers.{disparityFrom, numberIn}
+
+-- a disparity as a bool
+pub record Says (positive : Bool) (d : Disparity) : Type 0 where
+  pub ifNegative : d ≡ Negative → positive ≡ false
+  pub ifPositive : d ≡ Positive → positive ≡ true
+
+pub record BoundaryLaws : Type 1 where
+  -- true is positive, false is negative, both ways
+  pub trueIsPositive : disparityFrom true ≡ Positive
+  pub falseIsNegative : disparityFrom false ≡ Negative
+  pub back : (d : Disparity) → Says (isPositive d) d
+  -- a format is its two numbers, in this order
+  pub formatNumber : (format depth : ℕ) → formatFrom format depth .number ≡ format
+  pub formatDepth : (format depth : ℕ) → formatFrom format depth .depth ≡ depth
+  -- a refusal crosses as its number, and 0 is none
+  pub refusedNumber : (A : Type 0) (number place : ℕ) → numberIn {A = A} (refused number place) ≡ number
+  pub givenZero : {A : Type 0} (a : A) → numberIn (given a) ≡ 0
