@@ -1,4 +1,4 @@
--- A window is read if and only if it is the encoding of words that meet the tests, and then it is the encoding of the words and content
+-- A window is read if and only if it is the encoding of words that meet the rules, and then it is the encoding of the words and content
 -- bytes read from it, and of nothing else.
 -- Assumes nothing.
 use mathlib.Core.Path.{_≡_, sym, _∙_}
@@ -25,12 +25,13 @@ use Rattle.window.specs.Encoded.{charsOf, Encodes, wordIn, Meets}
 use Rattle.window.specs.Read.{contentIn, deliveryOf, readSpan}
 use Rattle.window.specs.Scan.{meant, byteOf, symbolAt, startOf}
 use Rattle.window.specs.Words.{wordAt}
-use Rattle.window.specs.Inside.Encoded.{Restored}
+use Rattle.window.specs.Inside.Encoded.{Restored, Passes}
 use Rattle.window.proofs.Accepting.{Accepted, is-accepted, accepted-told}
 use Rattle.window.proofs.Bytes.{byte-sav, byte-eav, byte-else, word-below, byte-again}
 use Rattle.window.proofs.Characters.{replacing, length-chars, char-sav, char-eav, char-byte}
-use Rattle.window.proofs.Encoded.{encoded-word, meets-accepted}
+use Rattle.window.proofs.Encoded.{encoded-word, passes-accepted}
 use Rattle.window.proofs.Placing.{four, each-place}
+use Rattle.window.proofs.Rules.{passes-meets, meets-passes}
 use Rattle.window.proofs.Specials.{symbol-read, k28-5-read, k29-7-read, byte-read}
 use Rattle.window.proofs.Symbols.{running-chars}
 
@@ -134,16 +135,16 @@ module _ (f : Format) (w : List ℕ) (known : isKnown f ≡ true) (long : length
   pub words-again : wordIn (table (2 * pairsIn (shapeOf f)) (wordAt (shapeOf f) w)) ≡ wordAt (shapeOf f) w
   words-again = sym (encoded-word f known w (startOf w) c words accepted-encodes restored)
 
-  -- and meets the tests that they meet
-  pub accepted-meets : Meets f (wordIn (table (2 * pairsIn (shapeOf f)) (wordAt (shapeOf f) w)))
-  accepted-meets = rw words-again (acc .words)
+  -- and passes the tests that they pass
+  pub accepted-passes : Passes f (wordIn (table (2 * pairsIn (shapeOf f)) (wordAt (shapeOf f) w)))
+  accepted-passes = rw words-again (acc .words)
 
--- ---- exactly the encodings of words that meet the tests are read
+-- ---- exactly the encodings of words that meet the rules are read
 
 module _ (f : Format) (w : List ℕ) (known : isKnown f ≡ true) where
   pub exact-if : {d : Disparity} {c : ContentBytes} {words : List ℕ} → Encodes f w d c words → Meets f (wordIn words)
       → (r : Delivery) × (readSpan f w ≡ given r)
-  exact-if {d} {c} {words} e m = (deliveryOf f w, is-accepted f w (meets-accepted f known w d c words e m))
+  exact-if {d} {c} {words} e m = (deliveryOf f w, is-accepted f w (passes-accepted f known w d c words e (meets-passes f known (wordIn words) m)))
 
   pub exact-only-if : {r : Delivery} → length w ≡ symbolsIn (shapeOf f) → readSpan f w ≡ given r
       → (d : Disparity) × (c : ContentBytes) × (words : List ℕ) × Encodes f w d c words × Meets f (wordIn words)
@@ -153,5 +154,5 @@ module _ (f : Format) (w : List ℕ) (known : isKnown f ≡ true) where
         contentIn (shapeOf f) w,
         table (2 * pairsIn (shapeOf f)) (wordAt (shapeOf f) w),
         accepted-encodes f w known long acc,
-        accepted-meets f w known long acc,
+        passes-meets f known _ (accepted-passes f w known long acc),
       )

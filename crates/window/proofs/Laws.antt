@@ -9,7 +9,8 @@ use Rattle.span.specs.declared.format.Format.{Format}
 use Rattle.span.specs.Format.{isKnown, numbered, shapeOf, symbolsIn}
 use Rattle.span.specs.Numbers.{IsFormat, Symbols}
 use Rattle.span.proofs.Formats.{Known, is-known}
-use Rattle.window.specs.Laws.{WindowRefusals, WindowLaws}
+use Rattle.span.proofs.Lengths.{known-has-streams}
+use Rattle.window.specs.Laws.{WindowRefusals, WindowRules, WindowLaws}
 use Rattle.window.proofs.Accepting.{accepted-told, delivers}
 use Rattle.window.proofs.Areas.{judged-21, judged-22, judged-23, judged-24, judged-25, judged-26, nameless, asked-once}
 use Rattle.window.proofs.Calls.{is-of, judge-meets-1, judge-meets-3, judged, read-as-judged, rows-after-1, rows-after-3, rows-after-4, rows-after-refusal, rows-delivered}
@@ -20,6 +21,8 @@ use Rattle.window.proofs.Line.{line-answered, all-streams, recital}
 use Rattle.window.proofs.Nearest.{other-h}
 use Rattle.window.proofs.Refusals.{meets-20, meets-21, meets-22, meets-23, meets-24, meets-25, meets-26, numbers}
 use Rattle.window.proofs.RoundTrip.{sent-meets}
+use Rattle.window.proofs.Rules.{says-21, says-22, says-23, says-24, says-25, says-26}
+use Rattle.window.proofs.Scanning.{says-20, rule-before}
 use Rattle.window.proofs.SentAgain.{sendable-again, sent-again}
 use Rattle.window.proofs.Specials.{k28-5-at, only-k28-5, k29-7-at, only-k29-7}
 
@@ -66,6 +69,18 @@ window-refusals = record {
   judged25 = judged-25;
   judged26 = judged-26;
   otherH = other-h;
+}
+
+pub window-rules : WindowRules
+window-rules = record {
+  scan = λ f w k known. says-20 (shapeOf f) (known-has-streams f (is-format f known)) w k;
+  scanBefore = λ f w i k known. rule-before (shapeOf f) (known-has-streams f (is-format f known)) w i k;
+  timing = λ f word known. says-21 f (is-format f known) word;
+  lineNumber = λ f word known. says-22 f (is-format f known) word;
+  v = λ f word known timings numbers. says-23 f (is-format f known) word numbers timings;
+  crcc = λ f word known. says-24 f (is-format f known) word;
+  picture = λ f word known. says-25 f (is-format f known) word;
+  fill = λ f word known. says-26 f (is-format f known) word;
 }
 
 pub window-laws : WindowLaws

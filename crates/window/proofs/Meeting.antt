@@ -24,10 +24,10 @@ use Rattle.word.specs.LineNumber.{ln0, ln1, areWordsOf, lineOf}
 use Rattle.word.specs.Repair.{nearest}
 use Rattle.word.specs.Timing.{timing}
 use Rattle.word.proofs.LineNumbers.{named-is-line, named-ln0, named-ln1}
-use Rattle.window.specs.Encoded.{Meets}
 use Rattle.window.specs.Read.{placed}
 use Rattle.window.specs.Tests.{same, mayBring, sumOf, wordOf, holds21, nextLine, lineRead, holds22, holds23, registerOf, holds24, holds25, holds26, repairCount}
 use Rattle.word.specs.Received.{hasH, repaired, vIn, wrongBits}
+use Rattle.window.specs.Inside.Encoded.{Passes}
 use Rattle.window.proofs.Nearest.{repaired-is, whole-timing}
 use Rattle.window.proofs.Placing.{place-again, at-word, in-span}
 use Rattle.window.proofs.Symbols.{some-told}
@@ -71,11 +71,11 @@ module _ (f : Format) (word : ℕ → ℕ) (t : ℕ) (l : t < streams (shapeOf f
 -- ---- 22 of stream 1, and the fill
 
 -- words that name a line are those of its number
-line-named : (a b : ℕ) → isSome (lineOf a b) ≡ true → areWordsOf a b (Option·getD (lineOf a b) 0) ≡ true
+pub line-named : (a b : ℕ) → isSome (lineOf a b) ≡ true → areWordsOf a b (Option·getD (lineOf a b) 0) ≡ true
 unfolding lineOf
 line-named a b t = hit (areWordsOf a b) 1126 (Option·getD (lineOf a b) 0) (some-told (lineOf a b) t) .holds
 
-module _ (f : Format) (word : ℕ → ℕ) (m : Meets f word) (l : 0 < streams (shapeOf f)) where
+module _ (f : Format) (word : ℕ → ℕ) (m : Passes f word) (l : 0 < streams (shapeOf f)) where
   -- it is of a line, so its words are those of that line's number
   next-named :
       areWordsOf (wordOf (streams (shapeOf f)) word lineStart 0) (wordOf (streams (shapeOf f)) word (lineStart + 1) 0) (nextLine (streams (shapeOf f)) word)
@@ -117,7 +117,7 @@ parts-zero (suc n) f e t h =
     on-test (eqb t n) (λ q. rw (eqb-true t n q) (omega arith))
     (λ q. parts-zero n f (omega arith) t (let x = eqb-false t n q in omega arith))
 
-module _ (f : Format) (word : ℕ → ℕ) (m : Meets f word) (t : ℕ) (l : t < streams (shapeOf f)) where
+module _ (f : Format) (word : ℕ → ℕ) (m : Passes f word) (t : ℕ) (l : t < streams (shapeOf f)) where
   abbrev s : ℕ
   s = streams (shapeOf f)
 

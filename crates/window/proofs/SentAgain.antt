@@ -28,12 +28,12 @@ use Rattle.span.proofs.Places.{sav-words, picture-word, eav-words, line-number-
 use Rattle.crcc.specs.Crcc.{crccWords}
 use Rattle.packing.specs.Sample.{allowedWord}
 use Rattle.packing.proofs.Samples.{received-ten, received-twelve}
-use Rattle.window.specs.Encoded.{charsOf, AreContent, Meets}
+use Rattle.window.specs.Encoded.{charsOf, AreContent}
 use Rattle.window.specs.Read.{contentIn}
 use Rattle.window.specs.Scan.{startOf}
 use Rattle.window.specs.Tests.{mayBring, wordOf, nextLine, lineRead, registerOf, repairCount}
 use Rattle.window.specs.Words.{wordAt}
-use Rattle.window.specs.Inside.Encoded.{Sendable, sampleOf, requestFor, requestAgain}
+use Rattle.window.specs.Inside.Encoded.{Passes, Sendable, sampleOf, requestFor, requestAgain}
 use Rattle.window.proofs.Accepting.{Accepted}
 use Rattle.window.proofs.Bytes.{word-below}
 use Rattle.window.proofs.Exact.{encoded-again, accepted-encodes}
@@ -60,7 +60,7 @@ module _ (f : Format) (known : isKnown f ≡ true) (n t x : ℕ) (may : mayBring
 
 -- ---- words
 
-module _ (f : Format) (known : isKnown f ≡ true) (word : ℕ → ℕ) (small : (k : ℕ) → word k < 4096) (m : Meets f word)
+module _ (f : Format) (known : isKnown f ≡ true) (word : ℕ → ℕ) (small : (k : ℕ) → word k < 4096) (m : Passes f word)
     (none-wrong : repairCount (streams (shapeOf f)) word ≡ 0)
     (blankAncillary : (j t : ℕ) → ancillaryStart ≤ j → j < ancillaryStart + shapeOf f .ancillary → t < streams (shapeOf f)
     → wordOf (streams (shapeOf f)) word j t ≡ blankWord f)

@@ -25,11 +25,11 @@ use Rattle.window.specs.Encoded.{charsOf, AreContent, Encodes, wordIn, I
 use Rattle.window.specs.Read.{placed, pictureOf, readSpan, repairsOf}
 use Rattle.window.specs.Tests.{sumOf, holds21}
 use Rattle.window.specs.Inside.Encoded.{Restored, answered, Sendable}
-use Rattle.window.proofs.Accepting.{fails-at, meets-given}
+use Rattle.window.proofs.Accepting.{fails-at, passes-given}
 use Rattle.window.proofs.Encoded.{encoded-read, encoded-picture}
 use Rattle.window.proofs.Nearest.{none-near}
 use Rattle.window.proofs.Placing.{place-again, stream-below, at-place}
-use Rattle.window.proofs.Repaired.{timing-holds, as-sent, is-xyz, disturbed-restored, near-line, near-rows, near-repairs, near-meets}
+use Rattle.window.proofs.Repaired.{timing-holds, as-sent, is-xyz, disturbed-restored, near-line, near-rows, near-repairs, near-passes}
 
 -- words that are those of a span that is sent, apart from its XYZ, have an encoding, with any content bytes
 pub disturbed-encodes :
@@ -87,7 +87,7 @@ module _ (f : Format) (a : Request) (good : Sendable f a) (words : List ℕ) (di
           × (pictureOf f w ≡ upto s (picture f a))
       repaired-delivered = (
         encoded-read f (good .known) w d c words e restored
-            ∙ meets-given f (wordIn words) (near-meets f a good words disturbed near) (answered f d c words)
+            ∙ passes-given f (wordIn words) (near-passes f a good words disturbed near) (answered f d c words)
             ∙ rw (near-line f a good words disturbed near, near-repairs f a good words disturbed near),
         encoded-picture f (good .known) w d c words e restored ∙ near-rows f a good words disturbed near,
       )

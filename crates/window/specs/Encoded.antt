@@ -1,9 +1,8 @@
 -- A window as the encoding of words and content bytes: what a sender puts on the link, whatever its words say. A span that is sent is one
 -- (law `sent-encodes`), and so is every window that is read (law `accepted-encodes`).
 -- Assumes nothing.
-use Prim.Native.Nat.{ℕ, _*_, _/_, _<_}
+use Prim.Native.Nat.{ℕ, _+_, _*_, _/_, _%_, _<_}
 use mathlib.Core.Path.{_≡_}
-use mathlib.Core.Bool.{true}
 use mathlib.Core.List.{List, _++_}
 use mathlib.Core.Logic.{_⊎_}
 use lib.ListN.{length, getD, take, drop}
@@ -18,8 +17,7 @@ use Rattle.span.specs.Layout.{eavStart, savXyz, eavXyz}
 use Rattle.span.specs.Span.{bytes, synchronised, spanWords}
 use Rattle.span.specs.Stream.{Request}
 use Rattle.word.specs.Repair.{distance}
-use Rattle.window.specs.Read.{placed}
-use Rattle.window.specs.Tests.{holds21, holds22, holds23, holds24, holds25, holds26}
+use Rattle.window.specs.Rules.{Rule21, Rule22, Rule23, Rule24, Rule25, Rule26}
 
 -- the characters of a span's words, with the special characters and the content bytes put in
 unfoldable pub charsOf : Shape → ContentBytes → List ℕ → List ℕ
@@ -44,14 +42,22 @@ pub record Encodes (f : Format) (w : List ℕ) (d : Disparity) (c : ContentBytes
 abbrev pub wordIn : List ℕ → ℕ → ℕ
 wordIn words k = getD words k 0
 
--- words that pass tests 21 to 26: a window is read if and only if it is the encoding of such words (laws `exact-if`, `exact-only-if`)
+-- a rule at every interleaved place k: word k / s of stream k % s
+abbrev pub Everywhere : Format → (ℕ → ℕ → Type 0) → Type 0
+Everywhere f rule = (k : ℕ) → k < 2 * pairsIn (shapeOf f) → rule (k / streams (shapeOf f)) (k % streams (shapeOf f))
+
+-- word j of stream t of a span's words
+abbrev pub wordsOf : Format → (ℕ → ℕ) → ℕ → ℕ → ℕ
+wordsOf f word j t = word (streams (shapeOf f) * j + t)
+
+-- words that meet rules 21 to 26: a window is read if and only if it is the encoding of such words (laws `exactIf`, `exactOnlyIf`)
 pub record Meets (f : Format) (word : ℕ → ℕ) : Type 0 where
-  pub timing : (k : ℕ) → k < 2 * pairsIn (shapeOf f) → placed (streams (shapeOf f)) (holds21 (streams (shapeOf f)) word) k ≡ true
-  pub lineNumber : (k : ℕ) → k < 2 * pairsIn (shapeOf f) → placed (streams (shapeOf f)) (holds22 (streams (shapeOf f)) word) k ≡ true
-  pub v : (k : ℕ) → k < 2 * pairsIn (shapeOf f) → placed (streams (shapeOf f)) (holds23 (streams (shapeOf f)) word) k ≡ true
-  pub crcc : (k : ℕ) → k < 2 * pairsIn (shapeOf f) → placed (streams (shapeOf f)) (holds24 (streams (shapeOf f)) word) k ≡ true
-  pub picture : (k : ℕ) → k < 2 * pairsIn (shapeOf f) → placed (streams (shapeOf f)) (holds25 (streams (shapeOf f)) word f) k ≡ true
-  pub fill : (k : ℕ) → k < 2 * pairsIn (shapeOf f) → placed (streams (shapeOf f)) (holds26 (streams (shapeOf f)) word f) k ≡ true
+  pub timing : Everywhere f (Rule21 (wordsOf f word))
+  pub lineNumber : Everywhere f (Rule22 (wordsOf f word))
+  pub v : Everywhere f (Rule23 (wordsOf f word))
+  pub crcc : Everywhere f (Rule24 (wordsOf f word))
+  pub picture : Everywhere f (Rule25 f (wordsOf f word))
+  pub fill : Everywhere f (Rule26 f (wordsOf f word))
 
 -- ---- what is sent, and what arrives
 

@@ -1,7 +1,7 @@
 -- Laws of reading a window, for a reader of the papers; `proofs/Laws` proves each. Words and streams count from 0, so the paper's
 -- stream 1 is stream 0.
 -- Assumes nothing.
-use Prim.Native.Nat.{ℕ, _+_, _*_, _≤_, _<_}
+use Prim.Native.Nat.{ℕ, _+_, _*_, _/_, _%_, _≤_, _<_}
 use mathlib.Core.Path.{_≡_}
 use mathlib.Core.Bool.{Bool, true, false, not}
 use mathlib.Core.List.{List}
@@ -27,8 +27,9 @@ use Rattle.span.specs.Sample.{blankWord}
 use Rattle.span.specs.Span.{interleaved, bytes, spanWords, spanSymbols}
 use Rattle.span.specs.Stream.{Request}
 use Rattle.window.specs.declared.delivery.Delivery.{Delivery}
-use Rattle.window.specs.Encoded.{charsOf, wordIn, Meets}
+use Rattle.window.specs.Encoded.{charsOf, wordIn, Everywhere, wordsOf, Meets}
 use Rattle.window.specs.Read.{placed, contentIn, deliveryOf, pictureOf, readSpan, judgeOf, readOf, rowsRead}
+use Rattle.window.specs.Rules.{Reflects, Rule20, Rule21, Rule22, Rule23, Rule24, Rule25, Rule26}
 use Rattle.window.specs.Scan.{symbolAt, startOf, runningAt, holds20}
 use Rattle.window.specs.Tests.{wordOf, holds21, holds22, holds23, holds24, holds25, holds26, lineRead, repairCount}
 use Rattle.word.specs.Received.{hasH}
@@ -188,6 +189,64 @@ pub record WindowRefusals : Type 0 where
   pub judged26 : (s : ℕ) (word : ℕ → ℕ) (j t : ℕ) (f : Format) → holds26 s word f j t ≡ false → 1932 + shapeOf f .ancillary ≤ j
   -- an XYZ with at most one wrong bit does not pass for one with the other H (004, 6.2)
   pub otherH : (w : ℕ) (v h : Bool) → distance w (timing v h) ≤ 1 → hasH (not h) (nearest w) ≡ false
+
+-- Tests 20 to 26 are document 01's rules (specs/Rules). Each test is asked where those before it hold, and is the rule there; so the place
+-- that a refusal gives is the lowest at which the rule is not met.
+pub record WindowRules : Type 0 where
+  -- the symbols: what is met at symbol k is met at those before it
+  pub scan :
+      (f : Format) (w : List ℕ) (k : ℕ)
+      → IsFormat f
+      → k < length w
+      → ((i : ℕ) → i < k → test20 f w i ≡ true)
+      → Reflects (test20 f w k) (Rule20 (streams (shapeOf f)) w k)
+  pub scanBefore :
+      (f : Format) (w : List ℕ) (i k : ℕ)
+      → IsFormat f
+      → i ≤ k
+      → Rule20 (streams (shapeOf f)) w k
+      → Rule20 (streams (shapeOf f)) w i
+  -- any words, the place being word k / s of stream k % s
+  pub timing :
+      (f : Format) (word : ℕ → ℕ)
+      → IsFormat f
+      → (k : ℕ)
+      → let s = streams (shapeOf f) in
+      Reflects (placed s (holds21 s word) k) (Rule21 (wordsOf f word) (k / s) (k % s))
+  pub lineNumber :
+      (f : Format) (word : ℕ → ℕ)
+      → IsFormat f
+      → (k : ℕ)
+      → let s = streams (shapeOf f) in
+      Reflects (placed s (holds22 s word) k) (Rule22 (wordsOf f word) (k / s) (k % s))
+  pub v :
+      (f : Format) (word : ℕ → ℕ)
+      → IsFormat f
+      → Everywhere f (Rule21 (wordsOf f word))
+      → Everywhere f (Rule22 (wordsOf f word))
+      → (k : ℕ)
+      → let s = streams (shapeOf f) in
+      Reflects (placed s (holds23 s word) k) (Rule23 (wordsOf f word) (k / s) (k % s))
+  pub crcc :
+      (f : Format) (word : ℕ → ℕ)
+      → IsFormat f
+      → Everywhere f (Rule21 (wordsOf f word))
+      → (k : ℕ)
+      → let s = streams (shapeOf f) in
+      Reflects (placed s (holds24 s word) k) (Rule24 (wordsOf f word) (k / s) (k % s))
+  pub picture :
+      (f : Format) (word : ℕ → ℕ)
+      → IsFormat f
+      → Everywhere f (Rule22 (wordsOf f word))
+      → (k : ℕ)
+      → let s = streams (shapeOf f) in
+      Reflects (placed s (holds25 s word f) k) (Rule25 f (wordsOf f word) (k / s) (k % s))
+  pub fill :
+      (f : Format) (word : ℕ → ℕ)
+      → IsFormat f
+      → (k : ℕ)
+      → let s = streams (shapeOf f) in
+      Reflects (placed s (holds26 s word f) k) (Rule26 f (wordsOf f word) (k / s) (k % s))
 
 -- What holds for a window that is read, and how a sent span is read.
 pub record WindowLaws : Type 0 where
