@@ -165,7 +165,10 @@ module _ (f : Format) (word : ℕ → ℕ) (m : Passes f word) (t : ℕ) (l : t 
   module _ (small : (k : ℕ) → word k < 4096) (none-wrong : repairCount s word ≡ 0) where
     right : wrongBits (at savXyz) + wrongBits (at eavXyz) ≡ 0
     unfolding repairCount
-    right = parts-zero s (λ t. wrongBits (wordOf s word savXyz t) + wrongBits (wordOf s word eavXyz t)) none-wrong t l
+    right =
+        let wrong : ℕ → ℕ = λ t. wrongBits (wordOf s word savXyz t) + wrongBits (wordOf s word eavXyz t) in
+        let none : sumOf s wrong ≡ 0 = omega (arith, none-wrong) in
+        parts-zero s wrong none t l
 
     pub sav-xyz : at savXyz ≡ timing (vOf (lineRead s word)) false
     sav-xyz =
