@@ -5,6 +5,7 @@ use mathlib.Core.Bool.{true}
 use mathlib.Core.List.{List}
 use Prim.Native.Nat.{ℕ}
 use lib.ListN.{length}
+use Rattle.line.specs.Stream.{lineBefore}
 use Rattle.span.specs.declared.format.Format.{Format}
 use Rattle.span.specs.Format.{isKnown, numbered, shapeOf, symbolsIn}
 use Rattle.span.specs.Numbers.{IsFormat, Symbols}
@@ -15,13 +16,13 @@ use Rattle.window.proofs.Accepting.{accepted-told, delivers}
 use Rattle.window.proofs.Areas.{judged-21, judged-22, judged-23, judged-24, judged-25, judged-26, nameless, asked-once}
 use Rattle.window.proofs.Calls.{is-of, judge-meets-1, judge-meets-3, judged, read-as-judged, rows-after-1, rows-after-3, rows-after-4, rows-after-refusal, rows-delivered}
 use Rattle.window.proofs.Encoded.{fixed-bytes}
-use Rattle.window.proofs.Exact.{encoded-again}
+use Rattle.window.proofs.Exact.{encoded-again, exact-read, exact-only-if}
 use Rattle.window.proofs.Inverted.{inverted-is-refused}
 use Rattle.window.proofs.Line.{line-answered, all-streams, recital}
-use Rattle.window.proofs.Nearest.{other-h}
+use Rattle.window.proofs.Nearest.{other-h, near-legal}
 use Rattle.window.proofs.Refusals.{meets-20, meets-21, meets-22, meets-23, meets-24, meets-25, meets-26, numbers}
 use Rattle.window.proofs.RoundTrip.{sent-meets}
-use Rattle.window.proofs.Rules.{says-21, says-22, says-23, says-24, says-25, says-26}
+use Rattle.window.proofs.Rules.{follows-before, some-line, says-21, says-22, says-23, says-24, says-25, says-26}
 use Rattle.window.proofs.Scanning.{says-20, rule-before}
 use Rattle.window.proofs.SentAgain.{sendable-again, sent-again}
 use Rattle.window.proofs.Specials.{k28-5-at, only-k28-5, k29-7-at, only-k29-7}
@@ -95,6 +96,13 @@ window-laws = record {
   onlyK29 = λ f w r k e. only-k29-7 f w (is-format f k) (accepted-told f w r e);
   fixedBytes = fixed-bytes;
   sentMeets = sent-meets;
+  lineNamed =
+      λ f word k meets.
+      let (m, names) = some-line f (is-format f k) word (meets .lineNumber) in
+      (m, lineBefore m, names, follows-before m (names .first) (names .last));
+  exactIf = λ f w d c words k. exact-read f w (is-format f k) d c words;
+  exactOnlyIf = λ f w r k long. exact-only-if f w (is-format f k) (is-long f w long);
+  nearLegal = near-legal;
   invertedRefused = λ f a d i k good h l. inverted-is-refused f a good d i k h l;
   encodedAgain = λ f w r k long e. encoded-again f w (is-format f k) (is-long f w long) (accepted-told f w r e);
   sentAgain =

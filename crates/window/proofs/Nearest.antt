@@ -2,6 +2,7 @@
 -- Assumes nothing.
 use mathlib.Core.Path.{_≡_, refl, sym, ap, ap₂, _∙_}
 use mathlib.Core.Bool.{Bool, true, false, not, true≢false}
+use mathlib.Core.Logic.{_⊎_, ⊎-elim}
 use mathlib.Core.Option.{Option, none, some, Option·getD}
 use Prim.Native.Nat.{ℕ, _+_, _*_, _/_, _%_, _≤_, _<_}
 use native.Mathlib.Omega.{arith}
@@ -77,6 +78,19 @@ module _ (w : ℕ) (v h : Bool) where
   -- two wrong bits: none is
   pub none-near : distance w (timing v h) ≡ 2 → nearest w ≡ none
   none-near d = nearest-none w (vh v h) (told v h .below) (rw (told v h .legal) d)
+
+-- the same by the numerals of the legal words
+module _ (w x : ℕ) where
+  near-as : (v h : Bool) → x ≡ timing v h → distance w x ≤ 1 → (repaired w ≡ x) × (wrongBits w ≡ distance w x)
+  near-as v h e d =
+      let d' : distance w (timing v h) ≤ 1 = rw e at d in
+      (near-repaired w v h d' ∙ sym e, near-wrong w v h d' ∙ ap (distance w) (sym e))
+
+  pub near-legal : (x ≡ 0x800) ⊎ ((x ≡ 0x9D0) ⊎ ((x ≡ 0xAB0) ⊎ (x ≡ 0xB60))) → distance w x ≤ 1
+      → (repaired w ≡ x) × (wrongBits w ≡ distance w x)
+  unfolding timing
+  near-legal =
+      ⊎-elim (near-as false false) (⊎-elim (near-as false true) (⊎-elim (near-as true false) (near-as true true)))
 
 -- ---- V and H, as they are read
 

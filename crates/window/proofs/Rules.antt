@@ -110,7 +110,7 @@ eav-v-says w n near = v-says w n true (eav-says w .holds near)
 -- ---- the line
 
 -- the line before m is the one that m comes after
-pub before-is : (n m : ℕ) → Follows n m → lineBefore m ≡ n
+before-is : (n m : ℕ) → Follows n m → lineBefore m ≡ n
 before-is n m =
     ⊎-elim (λ (p, q). ap lineBefore q ∙ before-first ∙ sym p)
     (λ (p, q, r). ap lineBefore r ∙ simp (is-within 2 1125 (n + 1) (omega arith) (omega arith)) (omega arith))
@@ -155,7 +155,7 @@ module _ (s : ℕ) (word : ℕ → ℕ) where
 
   -- the words of stream 1 name m: m is the next line, and the one before it is read
   module _ (m : ℕ) (names : Names at m) where
-    pub next-is : nextLine s word ≡ m
+    next-is : nextLine s word ≡ m
     unfolding nextLine
     next-is =
         ap (λ (o : Option ℕ). Option·getD o 0)
@@ -168,7 +168,7 @@ module _ (s : ℕ) (word : ℕ → ℕ) where
     unfolding lineRead
     line-is n follows = ap lineBefore next-is ∙ before-is n m follows
 
-    pub follows-read : Follows (lineRead s word) m
+    follows-read : Follows (lineRead s word) m
     follows-read =
         let e : lineRead s word ≡ lineBefore m = line-is (lineBefore m) (follows-before m (names .first) (names .last)) in
         rw e (follows-before m (names .first) (names .last))

@@ -10,7 +10,7 @@ use mathlib.Core.Option.{none}
 use lib.ListN.{length, getD, set, replicate}
 use Rattle.ground.specs.Answer.{refused, given}
 use Rattle.ground.specs.Bit.{inverted}
-use Rattle.ground.specs.Written.{table}
+use Rattle.ground.specs.Written.{upto, table}
 use Rattle.line.specs.Stream.{isActive, lineBefore}
 use Rattle.symbol.specs.declared.disparity.Disparity.{Disparity}
 use Rattle.symbol.specs.declared.special.Special.the-variants.{«K28_5», «K29_7»}
@@ -19,20 +19,21 @@ use Rattle.symbol.specs.Code.{symbolOf}
 use Rattle.word.specs.LineNumber.{ln0, ln1, lineOf}
 use Rattle.word.specs.Repair.{distance, nearest}
 use Rattle.word.specs.Timing.{timing, timingCode}
+use Rattle.span.specs.declared.content.ContentBytes.{ContentBytes}
 use Rattle.span.specs.declared.format.Format.{Format}
-use Rattle.span.specs.Encoding.{symbolsFrom}
+use Rattle.span.specs.Encoding.{symbolsFrom, afterRun}
 use Rattle.span.specs.Format.{shapeOf, streams, pairsIn, symbolsIn, eavAt}
 use Rattle.span.specs.Numbers.{IsFormat, Symbols, Samples}
 use Rattle.span.specs.Sample.{blankWord}
 use Rattle.span.specs.Span.{interleaved, bytes, spanWords, spanSymbols}
 use Rattle.span.specs.Stream.{Request}
 use Rattle.window.specs.declared.delivery.Delivery.{Delivery}
-use Rattle.window.specs.Encoded.{charsOf, wordIn, Everywhere, wordsOf, Meets}
-use Rattle.window.specs.Read.{placed, contentIn, deliveryOf, pictureOf, readSpan, judgeOf, readOf, rowsRead}
-use Rattle.window.specs.Rules.{Reflects, Rule20, Rule21, Rule22, Rule23, Rule24, Rule25, Rule26}
+use Rattle.window.specs.Encoded.{charsOf, Encodes, wordIn, Everywhere, wordsOf, Meets}
+use Rattle.window.specs.Read.{placed, contentIn, repairsOf, deliveryOf, pictureOf, readSpan, judgeOf, readOf, rowsRead}
+use Rattle.window.specs.Rules.{Reflects, Rule20, Rule21, Names, Follows, Rule22, Rule23, Rule24, Rule25, Rule26}
 use Rattle.window.specs.Scan.{symbolAt, startOf, runningAt, holds20}
-use Rattle.window.specs.Tests.{wordOf, holds21, holds22, holds23, holds24, holds25, holds26, lineRead, repairCount}
-use Rattle.word.specs.Received.{hasH}
+use Rattle.window.specs.Tests.{sumOf, wordOf, holds21, holds22, holds23, holds24, holds25, holds26, lineRead, repairCount}
+use Rattle.word.specs.Received.{hasH, repaired, wrongBits}
 use Rattle.window.specs.Words.{fixedByte, wordAt}
 use Rattle.window.specs.Inside.Encoded.{Sendable, requestAgain}
 
@@ -318,6 +319,45 @@ pub record WindowLaws : Type 0 where
       → getD (bytes (interleaved (2 * half) 4 (λ _. timingCode v h))) i 0 ≡ fixedByte (2 * half) i
   -- a sent span passes tests 21 to 26
   pub sentMeets : (f : Format) (a : Request) → Sendable f a → Meets f (wordIn (spanWords f a))
+  -- words that meet the rules name a line, which comes after one line,
+  pub lineNamed :
+      (f : Format) (word : ℕ → ℕ)
+      → IsFormat f
+      → Meets f word
+      → (m : ℕ) × (n : ℕ) × Names (wordsOf f word) m × Follows n m
+  -- and the encoding of such words, whoever made it, is read: as line n, with its content bytes and disparities, the wrong bits of all XYZ
+  -- together, and its picture words; no other window is read
+  pub exactIf :
+      (f : Format) (w : List ℕ) (d : Disparity) (c : ContentBytes) (words : List ℕ)
+      → IsFormat f
+      → Encodes f w d c words
+      → Meets f (wordIn words)
+      → (m n : ℕ)
+      → Names (wordsOf f (wordIn words)) m
+      → Follows n m
+      → let s = streams (shapeOf f) in
+      let word = wordsOf f (wordIn words) in
+      (readSpan f w
+      ≡ given (record {
+        line = record { 0 = n };
+        content = c;
+        before = d;
+        after = afterRun d (charsOf (shapeOf f) c words);
+        repairs = repairsOf (sumOf s (λ t. wrongBits (word 3 t) + wrongBits (word 1927 t)));
+      }))
+      × (pictureOf f w ≡ upto s (λ t. table 1920 (λ i. word (4 + i) t)))
+  pub exactOnlyIf :
+      (f : Format) (w : List ℕ) (r : Delivery)
+      → IsFormat f
+      → Symbols f (length w)
+      → readSpan f w ≡ given r
+      → (d : Disparity) × (c : ContentBytes) × (words : List ℕ) × Encodes f w d c words × Meets f (wordIn words)
+  -- a word that is near a legal timing word is repaired to it, and its wrong bits are those in which it differs
+  pub nearLegal :
+      (w x : ℕ)
+      → (x ≡ 0x800) ⊎ ((x ≡ 0x9D0) ⊎ ((x ≡ 0xAB0) ⊎ (x ≡ 0xB60)))
+      → distance w x ≤ 1
+      → (repaired w ≡ x) × (wrongBits w ≡ distance w x)
   -- a sent span with one of the ten bits of one symbol inverted is refused
   pub invertedRefused :
       (f : Format) (a : Request) (d : Disparity) (i k : ℕ)
