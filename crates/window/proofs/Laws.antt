@@ -24,7 +24,7 @@ use Rattle.window.proofs.Refusals.{meets-20, meets-21, meets-22, meets-
 use Rattle.window.proofs.RoundTrip.{sent-meets}
 use Rattle.window.proofs.Rules.{follows-before, some-line, says-21, says-22, says-23, says-24, says-25, says-26}
 use Rattle.window.proofs.Scanning.{says-20, rule-before}
-use Rattle.window.proofs.SentAgain.{sendable-again, sent-again}
+use Rattle.window.proofs.SentAgain.{strict, sendable-again, sent-again}
 use Rattle.window.proofs.Specials.{k28-5-at, only-k28-5, k29-7-at, only-k29-7}
 
 -- document 01's numbers, as the definitions have them
@@ -105,10 +105,10 @@ window-laws = record {
   nearLegal = near-legal;
   invertedRefused = λ f a d i k good h l. inverted-is-refused f a good d i k h l;
   encodedAgain = λ f w r k long e. encoded-again f w (is-format f k) (is-long f w long) (accepted-told f w r e);
+  strict = λ f w r k e. strict f w (is-format f k) r e;
   sentAgain =
-      λ f w r k long e none-wrong blank-ancillary blank-line.
-      let acc = accepted-told f w r e in (
-        sendable-again f w (is-format f k) (is-long f w long) acc none-wrong blank-ancillary blank-line,
-        sent-again f w (is-format f k) (is-long f w long) acc none-wrong blank-ancillary blank-line,
+      λ f w r k long e none-wrong blank-ancillary blank-line. (
+        sendable-again f w (is-format f k) r e (is-long f w long) none-wrong blank-ancillary blank-line,
+        sent-again f w (is-format f k) r e (is-long f w long) none-wrong blank-ancillary blank-line,
       );
 }

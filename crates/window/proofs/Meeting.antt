@@ -21,14 +21,14 @@ use Rattle.span.specs.Span.{fillWord}
 use Rattle.span.specs.Layout.{pictureStart, eavStart, lineStart, crccStart, ancillaryStart, savXyz, eavXyz}
 use Rattle.crcc.specs.Crcc.{crccWords}
 use Rattle.word.specs.LineNumber.{ln0, ln1, areWordsOf, lineOf}
-use Rattle.word.specs.Repair.{nearest}
+use Rattle.word.specs.Repair.{distance, nearest}
 use Rattle.word.specs.Timing.{timing}
 use Rattle.word.proofs.LineNumbers.{named-is-line, named-ln0, named-ln1}
 use Rattle.window.specs.Read.{placed}
 use Rattle.window.specs.Tests.{same, mayBring, sumOf, wordOf, holds21, nextLine, lineRead, holds22, holds23, registerOf, holds24, holds25, holds26, repairCount}
 use Rattle.word.specs.Received.{hasH, repaired, vIn, wrongBits}
 use Rattle.window.specs.Inside.Encoded.{Passes}
-use Rattle.window.proofs.Nearest.{repaired-is, whole-timing}
+use Rattle.window.proofs.Nearest.{same-told, near-read, repaired-is, whole-timing}
 use Rattle.window.proofs.Placing.{place-again, at-word, in-span}
 use Rattle.window.proofs.Symbols.{some-told}
 
@@ -156,6 +156,18 @@ module _ (f : Format) (word : ℕ → ℕ) (m : Passes f word) (t : ℕ) (l : t 
   eav-v =
       let told : same (vIn (at eavXyz)) (vOf (nextLine s word)) ≡ true = held f t l (holds23 s word) (m .v) eavXyz (omega arith) in
       rw is-next at told
+
+  -- so XYZ is near the word of its line
+  near-v : (j n : ℕ) (h : Bool) → hasH h (nearest (at j)) ≡ true → same (vIn (at j)) (vOf n) ≡ true → distance (at j) (timing (vOf n) h) ≤ 1
+  near-v j n h is-h is-v =
+      let e : timing (vIn (at j)) h ≡ timing (vOf n) h = ap (λ (v : Bool). timing v h) (same-told (vIn (at j)) (vOf n) is-v) in
+      rw e at (near-read (at j) h is-h)
+
+  pub sav-near : distance (at savXyz) (timing (vOf (lineRead s word)) false) ≤ 1
+  sav-near = near-v savXyz (lineRead s word) false (sav-told f word t l (m .timing) .3) sav-v
+
+  pub eav-near : distance (at eavXyz) (timing (vOf next) true) ≤ 1
+  eav-near = near-v eavXyz next true (eav-told f word t l (m .timing) .3) eav-v
 
   -- XYZ, repaired
   pub eav-repaired : repaired (at eavXyz) ≡ timing (vOf next) true

@@ -1,13 +1,17 @@
 -- A window as the encoding of words and content bytes: what a sender puts on the link, whatever its words say. A span that is sent is one
 -- (law `sent-encodes`), and so is every window that is read (law `accepted-encodes`).
 -- Assumes nothing.
-use Prim.Native.Nat.{ℕ, _+_, _*_, _/_, _%_, _<_}
+use Prim.Native.Nat.{ℕ, _+_, _*_, _/_, _%_, _≤_, _<_}
 use mathlib.Core.Path.{_≡_}
-use mathlib.Core.List.{List, _++_}
+use mathlib.Core.Bool.{cond, _&&_}
+use mathlib.Core.List.{List, _++_, map}
 use mathlib.Core.Logic.{_⊎_}
+use lib.Dec.{eqb}
 use lib.ListN.{length, getD, take, drop}
+use Rattle.line.specs.Stream.{isActive}
 use Rattle.symbol.specs.declared.disparity.Disparity.{Disparity}
 use Rattle.symbol.specs.declared.special.Special.the-variants.{«K28_5», «K29_7»}
+use Rattle.span.specs.declared.content.Content.the-variants.{Named}
 use Rattle.span.specs.declared.content.ContentBytes.{ContentBytes}
 use Rattle.span.specs.declared.format.Format.{Format}
 use Rattle.span.specs.declared.format.Shape.{Shape}
@@ -17,6 +21,7 @@ use Rattle.span.specs.Layout.{eavStart, savXyz, eavXyz}
 use Rattle.span.specs.Span.{bytes, synchronised, spanWords}
 use Rattle.span.specs.Stream.{Request}
 use Rattle.word.specs.Repair.{distance}
+use Rattle.window.specs.declared.delivery.Delivery.{Delivery}
 use Rattle.window.specs.Rules.{Rule21, Rule22, Rule23, Rule24, Rule25, Rule26}
 
 -- the characters of a span's words, with the special characters and the content bytes put in
@@ -79,3 +84,24 @@ pub record Disturbed (f : Format) (a : Request) (words : List ℕ) : Type 0 wher
 -- in how many bits the word at place k differs from the one sent
 abbrev pub wrongAt : Format → Request → List ℕ → ℕ → ℕ
 wrongAt f a words k = distance (wordIn words k) (wordIn (spanWords f a) k)
+
+-- ---- what is read, sent again
+
+-- the sample that a word of line n carries: on an active line at ten bits the word without its two low bits, else the word
+abbrev pub sampleOf : Format → ℕ → ℕ → ℕ
+sampleOf f n x = cond (isActive n && eqb (f .depth) 10) (x / 4) x
+
+-- the answer for a span and its picture words, as a request
+abbrev pub requestOf : Format → Delivery → List ℕ → Request
+requestOf f r words = record { line = r .line .0; content = Named (r .content); samples = map (sampleOf f (r .line .0)) words }
+
+-- the words of a sent span, but for XYZ, which have at most one wrong bit, and for the ancillary area
+pub record SentBut (f : Format) (a : Request) (word : ℕ → ℕ) : Type 0 where
+  pub same :
+      (k : ℕ)
+      → k < 2 * pairsIn (shapeOf f)
+      → (IsXyz (k / streams (shapeOf f)) → ⊥)
+      → (1932 ≤ k / streams (shapeOf f) → k / streams (shapeOf f) < 1932 + shapeOf f .ancillary → ⊥)
+      → word k ≡ wordIn (spanWords f a) k
+  pub near :
+      (k : ℕ) → k < 2 * pairsIn (shapeOf f) → IsXyz (k / streams (shapeOf f)) → distance (word k) (wordIn (spanWords f a) k) ≤ 1

@@ -28,14 +28,14 @@ use Rattle.span.specs.Sample.{blankWord}
 use Rattle.span.specs.Span.{interleaved, bytes, spanWords, spanSymbols}
 use Rattle.span.specs.Stream.{Request}
 use Rattle.window.specs.declared.delivery.Delivery.{Delivery}
-use Rattle.window.specs.Encoded.{charsOf, Encodes, wordIn, Everywhere, wordsOf, Meets}
+use Rattle.window.specs.Encoded.{charsOf, Encodes, wordIn, Everywhere, wordsOf, Meets, requestOf, SentBut}
 use Rattle.window.specs.Read.{placed, contentIn, repairsOf, deliveryOf, pictureOf, readSpan, judgeOf, readOf, rowsRead}
 use Rattle.window.specs.Rules.{Reflects, Rule20, Rule21, Names, Follows, Rule22, Rule23, Rule24, Rule25, Rule26}
 use Rattle.window.specs.Scan.{symbolAt, startOf, runningAt, holds20}
 use Rattle.window.specs.Tests.{sumOf, wordOf, holds21, holds22, holds23, holds24, holds25, holds26, lineRead, repairCount}
 use Rattle.word.specs.Received.{hasH, repaired, wrongBits}
 use Rattle.window.specs.Words.{fixedByte, wordAt}
-use Rattle.window.specs.Inside.Encoded.{Sendable, requestAgain}
+use Rattle.window.specs.Inside.Encoded.{Sendable}
 
 -- a test holds at all of n places
 abbrev pub Holds : ℕ → (ℕ → Bool) → Type 0
@@ -375,6 +375,12 @@ pub record WindowLaws : Type 0 where
       → w
       ≡ symbolsFrom (startOf w)
       (charsOf (shapeOf f) (contentIn (shapeOf f) w) (table (2 * pairsIn (shapeOf f)) (wordAt (shapeOf f) w)))
+  -- a window that is read has the words of the span sent for its answer, but for XYZ, each with at most one wrong bit, and the ancillary area
+  pub strict :
+      (f : Format) (w : List ℕ) (r : Delivery)
+      → IsFormat f
+      → readSpan f w ≡ given r
+      → SentBut f (requestOf f r (pictureOf f w)) (wordAt (shapeOf f) w)
   -- if nothing was repaired, and the ancillary area and any blanking line are blank, the answer may be sent, and is sent as the same window
   pub sentAgain :
       (f : Format) (w : List ℕ) (r : Delivery)
@@ -386,4 +392,4 @@ pub record WindowLaws : Type 0 where
       repairCount s (wordAt (shapeOf f) w) ≡ 0
       → ((j t : ℕ) → 1932 ≤ j → j < 1932 + shapeOf f .ancillary → t < s → word f w j t ≡ blankWord f)
       → (isActive n ≡ false → (j t : ℕ) → 4 ≤ j → j < 1924 → t < s → word f w j t ≡ 0x100)
-      → Sendable f (requestAgain f w) × (w ≡ spanSymbols (startOf w) f (requestAgain f w))
+      → Sendable f (requestOf f r (pictureOf f w)) × (w ≡ spanSymbols (startOf w) f (requestOf f r (pictureOf f w)))

@@ -2,9 +2,8 @@
 -- Assumes nothing.
 use Prim.Native.Nat.{ℕ, _+_, _*_, _/_, _%_, _<_}
 use mathlib.Core.Path.{_≡_}
-use mathlib.Core.Bool.{true, cond, _&&_}
+use mathlib.Core.Bool.{true}
 use mathlib.Core.List.{List}
-use lib.Dec.{eqb}
 use lib.ListN.{length, getD}
 use Rattle.ground.specs.Written.{table}
 use Rattle.symbol.specs.declared.disparity.Disparity.{Disparity}
@@ -19,9 +18,9 @@ use Rattle.span.specs.Layout.{pictureStart}
 use Rattle.span.specs.Sample.{allowed}
 use Rattle.span.specs.Span.{bytes}
 use Rattle.span.specs.Stream.{Request}
-use Rattle.line.specs.Stream.{isLine, isActive}
+use Rattle.line.specs.Stream.{isLine}
 use Rattle.window.specs.declared.delivery.Delivery.{Delivery}
-use Rattle.window.specs.Encoded.{charsOf, AreContent, wordIn}
+use Rattle.window.specs.Encoded.{charsOf, AreContent, wordIn, sampleOf}
 use Rattle.window.specs.Read.{placed, contentIn, repairsOf}
 use Rattle.window.specs.Tests.{wordOf, holds21, holds22, holds23, holds24, holds25, holds26, lineRead, repairCount}
 use Rattle.window.specs.Words.{fixedByte, wordAt}
@@ -63,10 +62,6 @@ pub record Sendable (f : Format) (a : Request) : Type 0 where
   pub allowed : (i : ℕ) → i < length (a .samples) → allowed f (a .line) (i / 1920) (getD (a .samples) i 0) ≡ true
 
 -- ---- what is read, sent again
-
--- the sample that a word of line n carries: on an active line at ten bits the word without its two low bits, else the word
-abbrev pub sampleOf : Format → ℕ → ℕ → ℕ
-sampleOf f n x = cond (isActive n && eqb (f .depth) 10) (x / 4) x
 
 -- the samples that words carry, stream by stream
 abbrev pub samplesRead : Format → (ℕ → ℕ) → List ℕ
