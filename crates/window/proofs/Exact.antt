@@ -1,7 +1,7 @@
 -- A window is read if and only if it is the encoding of words that meet the rules, and then it is the encoding of the words and content
 -- bytes read from it, and of nothing else.
 -- Assumes nothing.
-use mathlib.Core.Path.{_≡_, sym, _∙_}
+use mathlib.Core.Path.{_≡_, sym, ap, _∙_}
 use mathlib.Core.Bool.{true}
 use mathlib.Core.List.{List}
 use Prim.Native.Nat.{ℕ, _+_, _*_, _≤_, _<_}
@@ -174,6 +174,13 @@ module _ (f : Format) (w : List ℕ) (known : isKnown f ≡ true) where
             ∙ rw (line-is (streams (shapeOf f)) word m names n follows),
         encoded-picture f known w d c words e restored,
       )
+
+  -- and the words read are these
+  pub exact-word : (d : Disparity) (c : ContentBytes) (words : List ℕ) → Encodes f w d c words → Meets f (wordIn words)
+      → (k : ℕ) → wordAt (shapeOf f) w k ≡ wordIn words k
+  exact-word d c words e meets k =
+      let restored = restored-told f known words (e .long) (meets-passes f known (wordIn words) meets .timing) in
+      ap (λ (word : ℕ → ℕ). word k) (encoded-word f known w d c words e restored)
 
   pub exact-only-if : {r : Delivery} → length w ≡ symbolsIn (shapeOf f) → readSpan f w ≡ given r
       → (d : Disparity) × (c : ContentBytes) × (words : List ℕ) × Encodes f w d c words × Meets f (wordIn words)

@@ -16,7 +16,7 @@ use Rattle.window.proofs.Accepting.{accepted-told, delivers}
 use Rattle.window.proofs.Areas.{judged-21, judged-22, judged-23, judged-24, judged-25, judged-26, nameless, asked-once}
 use Rattle.window.proofs.Calls.{is-of, judge-meets-1, judge-meets-3, judged, read-as-judged, rows-after-1, rows-after-3, rows-after-4, rows-after-refusal, rows-delivered}
 use Rattle.window.proofs.Encoded.{fixed-bytes}
-use Rattle.window.proofs.Exact.{encoded-again, exact-read, exact-only-if}
+use Rattle.window.proofs.Exact.{encoded-again, exact-read, exact-word, exact-only-if}
 use Rattle.window.proofs.Inverted.{inverted-is-refused}
 use Rattle.window.proofs.Line.{line-answered, all-streams, recital}
 use Rattle.window.proofs.Nearest.{other-h, near-legal}
@@ -26,6 +26,7 @@ use Rattle.window.proofs.Rules.{follows-before, some-line, says-21, say
 use Rattle.window.proofs.Scanning.{says-20, rule-before}
 use Rattle.window.proofs.SentAgain.{strict, sendable-again, sent-again}
 use Rattle.window.proofs.Specials.{k28-5-at, only-k28-5, k29-7-at, only-k29-7}
+use Rattle.window.proofs.TimingWords.{two-wrong}
 
 -- document 01's numbers, as the definitions have them
 known : (f : Format) → IsFormat f → Known f
@@ -102,6 +103,8 @@ window-laws = record {
       (m, lineBefore m, names, follows-before m (names .first) (names .last));
   exactIf = λ f w d c words k. exact-read f w (is-format f k) d c words;
   exactOnlyIf = λ f w r k long. exact-only-if f w (is-format f k) (is-long f w long);
+  wordsEncoded = λ f w d c words k. exact-word f w (is-format f k) d c words;
+  beyondRepair = λ f a w d c words k known e h x before. two-wrong f a (is-format f known) words w d c e k x before h;
   nearLegal = near-legal;
   invertedRefused = λ f a d i k good h l. inverted-is-refused f a good d i k h l;
   encodedAgain = λ f w r k long e. encoded-again f w (is-format f k) (is-long f w long) (accepted-told f w r e);

@@ -98,7 +98,7 @@ module _ (f : Format) (a : Request) (good : Sendable f a) (words : List ℕ) (di
 
   module _ (j t : ℕ) (l : t < s) where
     -- word j of stream t is as sent, if it is not an XYZ
-    pub as-sent : s * j + t < n → (j ≡ savXyz → ⊥) → (j ≡ eavXyz → ⊥) → word (s * j + t) ≡ sentAt f a j t
+    as-sent : s * j + t < n → (j ≡ savXyz → ⊥) → (j ≡ eavXyz → ⊥) → word (s * j + t) ≡ sentAt f a j t
     as-sent h x y =
         let e = word-of-place s has-streams j t l in
         disturbed .same (s * j + t) h (λ q. x (sym e ∙ q)) (λ q. y (sym e ∙ q))
@@ -108,7 +108,7 @@ module _ (f : Format) (a : Request) (good : Sendable f a) (words : List ℕ) (di
     early h = as-sent (in-span (shapeOf f) j t (omega arith) l)
 
     -- it is an XYZ at its place
-    pub is-xyz : IsXyz j → IsXyz ((s * j + t) / s)
+    is-xyz : IsXyz j → IsXyz ((s * j + t) / s)
     is-xyz x = rw (word-of-place s has-streams j t l) x
 
   -- the first three words of SAV and EAV

@@ -1,7 +1,7 @@
 -- A window that is read has the words of the span sent for its answer, XYZ and ancillary area apart; with no repair, and with blanking where
 -- blanking is sent, it is that span.
 -- Assumes nothing.
-use mathlib.Core.Path.{_≡_, refl, sym, ap, _∙_}
+use mathlib.Core.Path.{_≡_, sym, ap, _∙_}
 use mathlib.Core.Bool.{true, false}
 use mathlib.Core.List.{List, map}
 use mathlib.Core.Logic.{inl, inr, ⊎-elim}

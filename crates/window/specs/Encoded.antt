@@ -85,6 +85,11 @@ pub record Disturbed (f : Format) (a : Request) (words : List ℕ) : Type 0 wher
 abbrev pub wrongAt : Format → Request → List ℕ → ℕ → ℕ
 wrongAt f a words k = distance (wordIn words k) (wordIn (spanWords f a) k)
 
+-- words that are those of a sent span before place k, apart from its XYZ, each of which has at most one wrong bit; whatever stands behind k
+pub record DisturbedBefore (f : Format) (a : Request) (words : List ℕ) (k : ℕ) : Type 0 where
+  pub same : (i : ℕ) → i < k → (IsXyz (i / streams (shapeOf f)) → ⊥) → wordIn words i ≡ wordIn (spanWords f a) i
+  pub near : (i : ℕ) → i < k → IsXyz (i / streams (shapeOf f)) → wrongAt f a words i ≤ 1
+
 -- ---- what is read, sent again
 
 -- the sample that a word of line n carries: on an active line at ten bits the word without its two low bits, else the word

@@ -28,7 +28,7 @@ use Rattle.span.specs.Sample.{blankWord}
 use Rattle.span.specs.Span.{interleaved, bytes, spanWords, spanSymbols}
 use Rattle.span.specs.Stream.{Request}
 use Rattle.window.specs.declared.delivery.Delivery.{Delivery}
-use Rattle.window.specs.Encoded.{charsOf, Encodes, wordIn, Everywhere, wordsOf, Meets, requestOf, SentBut}
+use Rattle.window.specs.Encoded.{charsOf, Encodes, wordIn, Everywhere, wordsOf, Meets, IsXyz, wrongAt, DisturbedBefore, requestOf, SentBut}
 use Rattle.window.specs.Read.{placed, contentIn, repairsOf, deliveryOf, pictureOf, readSpan, judgeOf, readOf, rowsRead}
 use Rattle.window.specs.Rules.{Reflects, Rule20, Rule21, Names, Follows, Rule22, Rule23, Rule24, Rule25, Rule26}
 use Rattle.window.specs.Scan.{symbolAt, startOf, runningAt, holds20}
@@ -352,6 +352,24 @@ pub record WindowLaws : Type 0 where
       → Symbols f (length w)
       → readSpan f w ≡ given r
       → (d : Disparity) × (c : ContentBytes) × (words : List ℕ) × Encodes f w d c words × Meets f (wordIn words)
+  -- the words read from such an encoding are the words encoded
+  pub wordsEncoded :
+      (f : Format) (w : List ℕ) (d : Disparity) (c : ContentBytes) (words : List ℕ)
+      → IsFormat f
+      → Encodes f w d c words
+      → Meets f (wordIn words)
+      → (k : ℕ)
+      → wordAt (shapeOf f) w k ≡ wordIn words k
+  -- the encoding of words that begin as a sent span does is refused at the first XYZ with two wrong bits, whatever stands behind it
+  pub beyondRepair :
+      (f : Format) (a : Request) (w : List ℕ) (d : Disparity) (c : ContentBytes) (words : List ℕ) (k : ℕ)
+      → IsFormat f
+      → Encodes f w d c words
+      → k < 2 * pairsIn (shapeOf f)
+      → IsXyz (k / streams (shapeOf f))
+      → DisturbedBefore f a words k
+      → wrongAt f a words k ≡ 2
+      → readSpan f w ≡ refused 21 k
   -- a word that is near a legal timing word is repaired to it, and its wrong bits are those in which it differs
   pub nearLegal :
       (w x : ℕ)
