@@ -23,7 +23,7 @@ use Rattle.window.proofs.Nearest.{other-h, near-legal}
 use Rattle.window.proofs.Refusals.{meets-20, meets-21, meets-22, meets-23, meets-24, meets-25, meets-26, numbers}
 use Rattle.window.proofs.RoundTrip.{sent-meets}
 use Rattle.window.proofs.Rules.{follows-before, some-line, says-21, says-22, says-23, says-24, says-25, says-26}
-use Rattle.window.proofs.Scanning.{says-20, rule-before}
+use Rattle.window.proofs.Scanning.{holds-before, says-20, rule-before}
 use Rattle.window.proofs.SentAgain.{strict, sendable-again, sent-again}
 use Rattle.window.proofs.Specials.{k28-5-at, only-k28-5, k29-7-at, only-k29-7}
 use Rattle.window.proofs.TimingWords.{two-wrong}
@@ -77,6 +77,7 @@ pub window-rules : WindowRules
 window-rules = record {
   scan = λ f w k known. says-20 (shapeOf f) (known-has-streams f (is-format f known)) w k;
   scanBefore = λ f w i k known. rule-before (shapeOf f) (known-has-streams f (is-format f known)) w i k;
+  scanHolds = λ f w i k known h r. holds-before (shapeOf f) (known-has-streams f (is-format f known)) w k r i h;
   timing = λ f word known. says-21 f (is-format f known) word;
   lineNumber = λ f word known. says-22 f (is-format f known) word;
   v = λ f word known timings numbers. says-23 f (is-format f known) word numbers timings;

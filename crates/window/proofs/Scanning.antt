@@ -95,7 +95,7 @@ module _ (p : Shape) (some : 1 ≤ p .«stream_pairs») where
           sym (encode-decode (runningAt w i) (symbolAt w i) (meant (symbolAt w i)) (legal-told p w i (all i l)))
           ∙ rw (running i l, ← (stood-at i l)) (sym (symbol-at (startOf w) stood i (omega (arith, length-stood))))
 
-      pub scanned : Rule20 (streams p) w k
+      scanned : Rule20 (streams p) w k
       scanned =
           let short : length (take (k + 1) w) ≡ k + 1 = length-take-le (k + 1) w (omega arith) in
           record {
@@ -140,7 +140,7 @@ module _ (p : Shape) (some : 1 ≤ p .«stream_pairs») where
           (kind-fits i (getD (r .chars) i 0) (r .kinds i l))
 
       -- there are so many symbols
-      pub long-enough : k < length w
+      long-enough : k < length w
       long-enough =
           omega (arith, sym (length-take (k + 1) w) ∙ ap length (r .symbols) ∙ length-symbols (r .before) (r .chars) ∙ r .long)
 

@@ -194,7 +194,7 @@ pub record WindowRefusals : Type 0 where
 -- Tests 20 to 26 are document 01's rules (specs/Rules). Each test is asked where those before it hold, and is the rule there; so the place
 -- that a refusal gives is the lowest at which the rule is not met.
 pub record WindowRules : Type 0 where
-  -- the symbols: what is met at symbol k is met at those before it
+  -- the symbols: where the rule is met at symbol k it is met, and the test holds, at those before it too
   pub scan :
       (f : Format) (w : List ℕ) (k : ℕ)
       → IsFormat f
@@ -207,6 +207,12 @@ pub record WindowRules : Type 0 where
       → i ≤ k
       → Rule20 (streams (shapeOf f)) w k
       → Rule20 (streams (shapeOf f)) w i
+  pub scanHolds :
+      (f : Format) (w : List ℕ) (i k : ℕ)
+      → IsFormat f
+      → i ≤ k
+      → Rule20 (streams (shapeOf f)) w k
+      → test20 f w i ≡ true
   -- any words, the place being word k / s of stream k % s
   pub timing :
       (f : Format) (word : ℕ → ℕ)
