@@ -20,3 +20,7 @@ Symbols f = Of 7920 9504 19008 (f .number)
 
 abbrev pub Samples : Format → ℕ → Type 0
 Samples f = Of 3840 3840 7680 (f .number)
+
+-- the ancillary words of a stream
+abbrev pub Ancillary : Format → ℕ → Type 0
+Ancillary f = Of 268 708 708 (f .number)

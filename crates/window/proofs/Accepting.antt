@@ -14,11 +14,11 @@ use Rattle.ground.proofs.Searches.{miss, is-miss, is-hit}
 use Rattle.span.specs.declared.format.Format.{Format}
 use Rattle.span.specs.Format.{shapeOf, streams, pairsIn, symbolsIn}
 use Rattle.window.specs.declared.delivery.Delivery.{Delivery}
-use Rattle.window.specs.Encoded.{Meets}
 use Rattle.window.specs.Read.{placed, wordTests, spanTests, deliveryOf, readSpan}
 use Rattle.window.specs.Scan.{holds20}
 use Rattle.window.specs.Tests.{holds21, holds22, holds23, holds24, holds25, holds26}
 use Rattle.window.specs.Words.{wordAt}
+use Rattle.window.specs.Inside.Encoded.{Passes}
 
 module _ (n : ℕ) (holds : ℕ → Bool) where
   -- a test that fails nowhere holds everywhere, and the other way round
@@ -37,7 +37,7 @@ module _ (n : ℕ) (holds : ℕ → Bool) where
 -- all tests hold
 pub record Accepted (f : Format) (w : List ℕ) : Type 0 where
   pub scan : (i : ℕ) → i < symbolsIn (shapeOf f) → holds20 (shapeOf f) w i ≡ true
-  pub words : Meets f (wordAt (shapeOf f) w)
+  pub words : Passes f (wordAt (shapeOf f) w)
 
 -- rows from the i-th on: where it holds it is passed, and where it does not it is met, by its number
 abbrev pub nothing : Row
@@ -96,8 +96,8 @@ module _ (f : Format) (w : List ℕ) where
       }
 
 -- words that meet tests 21 to 26 pass them
-pub meets-given : {A : Type 0} (f : Format) (word : ℕ → ℕ) → Meets f word → (a : A) → checked (wordTests f word) a ≡ given a
-meets-given f word m a =
+pub passes-given : {A : Type 0} (f : Format) (word : ℕ → ℕ) → Passes f word → (a : A) → checked (wordTests f word) a ≡ given a
+passes-given f word m a =
     let s = streams (shapeOf f) in
     let n = 2 * pairsIn (shapeOf f) in
     let on = passes (wordTests f word) a (given a) in
@@ -113,7 +113,7 @@ module _ (f : Format) (w : List ℕ) where
   unfolding readSpan
   is-accepted a =
       passes (spanTests f w) (deliveryOf f w) (given (deliveryOf f w)) 0 (none-fails (symbolsIn (shapeOf f)) (holds20 (shapeOf f) w) (a .scan))
-      (meets-given f (wordAt (shapeOf f) w) (a .words) (deliveryOf f w))
+      (passes-given f (wordAt (shapeOf f) w) (a .words) (deliveryOf f w))
 
   pub delivers : (r : Delivery) → readSpan f w ≡ given r → r ≡ deliveryOf f w
   delivers r e =

@@ -6,7 +6,7 @@ use mathlib.Core.Bool.{Bool, true, false, cond, true≢false}
 use mathlib.Core.Logic.{_⊎_, inl, inr, ⊎-elim}
 use mathlib.Core.Option.{none}
 use Prim.Native.Nat.{ℕ, _+_, _-_, _≤_, _<_}
-use lib.Dec.{eqb, ltb}
+use lib.Dec.{ltb}
 use borrow.Author.Tests.{eq-eqb, eqb-true, ltb-true, ltb-false}
 use Rattle.ground.specs.Range.{within}
 use Rattle.ground.specs.Search.{isSome}
@@ -14,10 +14,9 @@ use Rattle.ground.proofs.Ranges.{from-low, to-high}
 use Rattle.line.specs.Stream.{isActive}
 use Rattle.span.specs.declared.format.Format.{Format}
 use Rattle.span.specs.Format.{shapeOf}
-use Rattle.span.specs.Span.{fillWord}
 use Rattle.span.specs.Layout.{pictureStart, eavStart, lineStart, crccStart, ancillaryStart, eavXyz}
 use Rattle.word.specs.LineNumber.{lineOf}
-use Rattle.window.specs.Tests.{mayBring, wordOf, holds21, lineRead, holds22, holds23, holds24, holds25, holds26}
+use Rattle.window.specs.Tests.{wordOf, holds21, lineRead, holds22, holds23, holds24, holds25, holds26}
 
 -- a test that asks under a condition alone does not hold only there
 asked : (c x : Bool) → cond c x true ≡ false → c ≡ true
@@ -65,9 +64,9 @@ module _ (s : ℕ) (word : ℕ → ℕ) (j t : ℕ) where
       → (pictureStart ≤ j) × (j ≤ 1923) × (42 ≤ lineRead s word) × (lineRead s word ≤ 1121)
   unfolding holds25
   judged-25 f e =
-      let may = mayBring f (lineRead s word) t (wordOf s word j t) in
-      let c = asked (within pictureStart (eavStart - 1) j) may e in
-      let line = asked (isActive (lineRead s word)) _ (answered (within pictureStart (eavStart - 1) j) may e) in
+      let there = within pictureStart (eavStart - 1) j in
+      let c = asked there _ e in
+      let line = asked (isActive (lineRead s word)) _ (answered there _ e) in
       (from-low _ _ _ c, to-high _ _ _ c, from-low _ _ _ line, to-high _ _ _ line)
 
   -- the fill
@@ -75,7 +74,7 @@ module _ (s : ℕ) (word : ℕ → ℕ) (j t : ℕ) where
   unfolding holds26
   judged-26 f e =
       let ahead = ltb j (ancillaryStart + shapeOf f .ancillary) in
-      ltb-false _ _ (unless ahead (eqb (wordOf s word j t) fillWord) e)
+      ltb-false _ _ (unless ahead _ e)
 
 -- whether stream 1 names a line is asked at its LN0, and not at its LN1
 module _ (s : ℕ) (word : ℕ → ℕ) where

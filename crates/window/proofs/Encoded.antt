@@ -30,17 +30,17 @@ use Rattle.span.proofs.Interleaving.{length-interleaved, interleaved-at}
 use Rattle.span.proofs.Lengths.{known-has-streams}
 use Rattle.span.proofs.Packing.{length-bytes, byte-at}
 use Rattle.window.specs.declared.delivery.Delivery.{Delivery}
-use Rattle.window.specs.Encoded.{charsOf, Encodes, wordIn, Meets}
+use Rattle.window.specs.Encoded.{charsOf, Encodes, wordIn}
 use Rattle.window.specs.Read.{placed, wordTests, spanTests, contentIn, deliveryOf, pictureOf, readSpan, repairsOf}
 use Rattle.window.specs.Scan.{meant, byteOf, symbolAt, startOf, runningAt, holds20}
 use Rattle.window.specs.Tests.{holds21, lineRead, repairCount, rows}
 use Rattle.window.specs.Words.{fixedByte, byteAt, pairAt, wordAt}
-use Rattle.window.specs.Inside.Encoded.{Restored, answered}
+use Rattle.window.specs.Inside.Encoded.{Restored, Passes, answered}
 use Rattle.window.proofs.Accepting.{Accepted, none-fails, passes}
 use Rattle.window.proofs.Bytes.{bytes-below, byte-sav, byte-eav, byte-else}
 use Rattle.window.proofs.Characters.{length-chars, char-sav, char-eav, char-byte, chars-below, chars-fit}
 use Rattle.window.proofs.Meeting.{sav-told, eav-told}
-use Rattle.window.proofs.Placing.{place-again, stream-below, four, each-place}
+use Rattle.window.proofs.Placing.{place-again, stream-below, split, four, each-place}
 use Rattle.window.proofs.Symbols.{no-symbol, is-legal, starts, running-is, symbol-is, meant-char}
 
 -- ---- the replaced bytes
@@ -155,58 +155,74 @@ module _ (f : Format) (known : isKnown f ≡ true) (w : List ℕ) (d : Disparity
       let b : wordIn words (2 * q + 1) ≡ 0 = List·getD-eq-default words 0 (omega (arith, e .long)) in
       z ∙ zeros i l ∙ sym (ap₂ (λ (x y : ℕ). getD (bytesListed (bytesOf x y)) i 0) a b))
 
-  -- ---- where the replaced bytes are those that a receiver takes them to be
-  module _ (r : Restored p words) where
-    -- a byte that was not replaced
-    kept-byte : (i : ℕ) → 4 ≤ i → (eavAt p ≤ i → eavAt p + 4 ≤ i) → byteOf (symbolAt w i) ≡ getD (bytes words) i 0
-    kept-byte i past q =
-        on-test (ltb i (symbolsIn p))
-        (λ t.
-        byte-is i (getD (bytes words) i 0) (ltb-true i (symbolsIn p) t) (char-byte p some c words (e .long) i past q) (bytes-below words i))
-        (λ t.
-        let behind : symbolsIn p ≤ i = ltb-false i (symbolsIn p) t in
-        let none-there : symbolAt w i ≡ 0 =
-        List·getD-eq-default w 0 (omega (arith, ap length (e .symbols) ∙ length-symbols d chars ∙ all-chars)) in
-        let z : getD (bytes words) i 0 ≡ 0 =
-        List·getD-eq-default (bytes words) 0 (omega (arith, length-bytes (pairsIn p) words (e .long))) in
-        rw (none-there, no-symbol, z))
+  -- a byte that was not replaced
+  kept-byte : (i : ℕ) → 4 ≤ i → (eavAt p ≤ i → eavAt p + 4 ≤ i) → byteOf (symbolAt w i) ≡ getD (bytes words) i 0
+  kept-byte i past q =
+      on-test (ltb i (symbolsIn p))
+      (λ t.
+      byte-is i (getD (bytes words) i 0) (ltb-true i (symbolsIn p) t) (char-byte p some c words (e .long) i past q) (bytes-below words i))
+      (λ t.
+      let behind : symbolsIn p ≤ i = ltb-false i (symbolsIn p) t in
+      let none-there : symbolAt w i ≡ 0 =
+      List·getD-eq-default w 0 (omega (arith, ap length (e .symbols) ∙ length-symbols d chars ∙ all-chars)) in
+      let z : getD (bytes words) i 0 ≡ 0 =
+      List·getD-eq-default (bytes words) 0 (omega (arith, length-bytes (pairsIn p) words (e .long))) in
+      rw (none-there, no-symbol, z))
 
-    -- the bytes of the window are those of the words
-    encoded-byte : (i : ℕ) → byteAt p w i ≡ getD (bytes words) i 0
-    encoded-byte =
-        each-place (eavAt p)
-        (λ i h. byte-sav p w i h ∙ sym (r .sav i h))
-        (λ i h. byte-eav p w some i h ∙ sym (r .eav i h))
-        (λ i past q. byte-else p w i past q ∙ kept-byte i past q)
+  -- ---- words by their bytes
 
-    -- its words, two at a time
-    encoded-pair : (q : ℕ) → pairAt p w q ≡ record { a = wordIn words (2 * q); b = wordIn words (2 * q + 1) }
-    unfolding pairAt
-    encoded-pair q =
-        let a = wordIn words (2 * q) in
-        let b = wordIn words (2 * q + 1) in
-        let at-first : 3 * q ≡ 3 * q + 0 = omega arith in
-        let first : byteAt p w (3 * q) ≡ bytesOf a b .first =
-        encoded-byte (3 * q) ∙ ap (λ (i : ℕ). getD (bytes words) i 0) at-first ∙ three-bytes q 0 (omega arith) in
-        let second : byteAt p w (3 * q + 1) ≡ bytesOf a b .second = encoded-byte (3 * q + 1) ∙ three-bytes q 1 (omega arith) in
-        let third : byteAt p w (3 * q + 2) ≡ bytesOf a b .third = encoded-byte (3 * q + 2) ∙ three-bytes q 2 (omega arith) in
-        rw (first, second, third) (unpack-pack a b (twelve-bits (2 * q)) (twelve-bits (2 * q + 1)))
+  -- the bytes of pair q of the window are those of the words
+  abbrev SameBytes : ℕ → Type 0
+  SameBytes q = (i : ℕ) → i < 3 → byteAt p w (3 * q + i) ≡ getD (bytes words) (3 * q + i) 0
 
-    -- one at a time
-    word-is : (k : ℕ) → wordAt p w k ≡ wordIn words k
-    unfolding wordAt
-    word-is k =
-        on-test (eqb (k % 2) 0)
-        (λ t.
-        let even : 2 * (k / 2) ≡ k = omega (arith, eqb-true (k % 2) 0 t) in
-        simp (t, encoded-pair, even))
-        (λ t.
-        let odd : 2 * (k / 2) + 1 ≡ k = let n = eqb-false (k % 2) 0 t in omega arith in
-        simp (t, encoded-pair, odd))
+  -- then so are its two words
+  encoded-pair : (q : ℕ) → SameBytes q → pairAt p w q ≡ record { a = wordIn words (2 * q); b = wordIn words (2 * q + 1) }
+  unfolding pairAt
+  encoded-pair q same =
+      let a = wordIn words (2 * q) in
+      let b = wordIn words (2 * q + 1) in
+      let at-first : 3 * q ≡ 3 * q + 0 = omega arith in
+      let first : byteAt p w (3 * q) ≡ bytesOf a b .first = ap (byteAt p w) at-first ∙ same 0 (omega arith) ∙ three-bytes q 0 (omega arith) in
+      let second : byteAt p w (3 * q + 1) ≡ bytesOf a b .second = same 1 (omega arith) ∙ three-bytes q 1 (omega arith) in
+      let third : byteAt p w (3 * q + 2) ≡ bytesOf a b .third = same 2 (omega arith) ∙ three-bytes q 2 (omega arith) in
+      rw (first, second, third) (unpack-pack a b (twelve-bits (2 * q)) (twelve-bits (2 * q + 1)))
 
-    -- at every place, also after the last word, where both are 0
-    pub encoded-word : wordAt p w ≡ wordIn words
-    encoded-word = fun-ext word-is
+  -- one at a time
+  word-is : (k : ℕ) → SameBytes (k / 2) → wordAt p w k ≡ wordIn words k
+  unfolding wordAt
+  word-is k same =
+      on-test (eqb (k % 2) 0)
+      (λ t.
+      let even : 2 * (k / 2) ≡ k = omega (arith, eqb-true (k % 2) 0 t) in
+      simp (t, encoded-pair (k / 2) same, even))
+      (λ t.
+      let odd : 2 * (k / 2) + 1 ≡ k = let n = eqb-false (k % 2) 0 t in omega arith in
+      simp (t, encoded-pair (k / 2) same, odd))
+
+  -- where the replaced bytes are those that a receiver takes them to be, all bytes of the window are those of the words, and so are its words:
+  -- at every place, also after the last word, where both are 0
+  encoded-byte : Restored p words → (i : ℕ) → byteAt p w i ≡ getD (bytes words) i 0
+  encoded-byte r =
+      each-place (eavAt p)
+      (λ i h. byte-sav p w i h ∙ sym (r .sav i h))
+      (λ i h. byte-eav p w some i h ∙ sym (r .eav i h))
+      (λ i past q. byte-else p w i past q ∙ kept-byte i past q)
+
+  pub encoded-word : Restored p words → wordAt p w ≡ wordIn words
+  encoded-word r = fun-ext (λ k. word-is k (λ i h. encoded-byte r (3 * (k / 2) + i)))
+
+  -- where only those of the SAV are, the words before the EAV
+  pub early-word : ((i : ℕ) → i < 4 → getD (bytes words) i 0 ≡ fixedByte (streams p) i)
+      → (k : ℕ) → k < eavStart * streams p → wordAt p w k ≡ wordIn words k
+  early-word sav k h =
+      word-is k
+      (λ i l.
+      let early : 3 * (k / 2) + i < eavAt p = omega arith in
+      split (3 * (k / 2) + i) 4
+      (λ b. byte-sav p w (3 * (k / 2) + i) b ∙ sym (sav (3 * (k / 2) + i) b))
+      (λ m q.
+      let behind : eavAt p ≤ 3 * (k / 2) + i → eavAt p + 4 ≤ 3 * (k / 2) + i = λ x. absurd (omega arith) in
+      byte-else p w (3 * (k / 2) + i) (omega arith) behind ∙ kept-byte (3 * (k / 2) + i) (omega arith) behind))
 
 -- ---- words whose replaced bytes are those
 
@@ -294,14 +310,17 @@ module _ (f : Format) (known : isKnown f ≡ true) (words : List ℕ) (long : le
   has-streams : 1 ≤ half
   has-streams = known-has-streams f known
 
-  -- words that begin with a SAV, and that have an EAV where it stands
+  -- words that begin with a SAV
+  pub restored-sav : Begins s words 0 → (i : ℕ) → i < 4 → getD (bytes words) i 0 ≡ fixedByte s i
+  restored-sav sav i h =
+      let e : i ≡ 3 * (half * 0) + i = omega arith in
+      ap (λ (n : ℕ). getD (bytes words) n 0) e ∙ bytes-begin half has-streams words (pairsIn (shapeOf f)) long 0 (omega arith) sav i h
+
+  -- and that have an EAV where it stands
   pub restored-words : Begins s words 0 → Begins s words eavStart → Restored (shapeOf f) words
   restored-words sav eav =
       record {
-        sav =
-            λ i h.
-            let e : i ≡ 3 * (half * 0) + i = omega arith in
-            ap (λ (n : ℕ). getD (bytes words) n 0) e ∙ bytes-begin half has-streams words (pairsIn (shapeOf f)) long 0 (omega arith) sav i h;
+        sav = restored-sav sav;
         eav =
             λ i h.
             let e : eavAt (shapeOf f) + i ≡ 3 * (half * eavStart) + i = omega arith in
@@ -345,8 +364,8 @@ module _ (f : Format) (known : isKnown f ≡ true) (w : List ℕ) (d : Disparity
     encoded-picture = ap (rows (streams (shapeOf f))) (encoded-word f known w d c words e r)
 
   -- where the words meet the tests, all tests of the window hold
-  pub meets-accepted : Meets f (wordIn words) → Accepted f w
-  meets-accepted m =
+  pub passes-accepted : Passes f (wordIn words) → Accepted f w
+  passes-accepted m =
       record {
         scan = encoded-scan f known w d c words e;
         words = rw (encoded-word f known w d c words e (restored-told f known words (e .long) (m .timing))) m;

@@ -1,7 +1,7 @@
--- A window is read if and only if it is the encoding of words that meet the tests, and then it is the encoding of the words and content
+-- A window is read if and only if it is the encoding of words that meet the rules, and then it is the encoding of the words and content
 -- bytes read from it, and of nothing else.
 -- Assumes nothing.
-use mathlib.Core.Path.{_≡_, sym, _∙_}
+use mathlib.Core.Path.{_≡_, sym, ap, _∙_}
 use mathlib.Core.Bool.{true}
 use mathlib.Core.List.{List}
 use Prim.Native.Nat.{ℕ, _+_, _*_, _≤_, _<_}
@@ -9,28 +9,32 @@ use native.Mathlib.Omega.{arith}
 use lib.ListN.{length, getD}
 use lib.Seq.{ext-getD}
 use Rattle.ground.specs.Answer.{given}
-use Rattle.ground.specs.Written.{table}
+use Rattle.ground.specs.Written.{upto, table}
 use Rattle.ground.proofs.Writing.{length-table, getD-table}
 use Rattle.symbol.specs.declared.disparity.Disparity.{Disparity}
 use Rattle.symbol.specs.declared.special.Special.the-variants.{«K28_5», «K29_7»}
 use Rattle.span.specs.declared.content.ContentBytes.{ContentBytes}
 use Rattle.span.specs.declared.format.Format.{Format}
 use Rattle.span.specs.declared.format.Shape.{Shape}
-use Rattle.span.specs.Encoding.{symbolsFrom}
-use Rattle.span.specs.Format.{isKnown, shapeOf, pairsIn, symbolsIn, eavAt}
+use Rattle.span.specs.Encoding.{symbolsFrom, afterRun}
+use Rattle.span.specs.Format.{isKnown, shapeOf, streams, pairsIn, symbolsIn, eavAt}
 use Rattle.span.proofs.Encoding.{length-symbols, symbol-at}
 use Rattle.span.proofs.Lengths.{known-has-streams}
 use Rattle.window.specs.declared.delivery.Delivery.{Delivery}
-use Rattle.window.specs.Encoded.{charsOf, Encodes, wordIn, Meets}
-use Rattle.window.specs.Read.{contentIn, deliveryOf, readSpan}
+use Rattle.window.specs.Encoded.{charsOf, Encodes, wordIn, wordsOf, Meets}
+use Rattle.window.specs.Read.{contentIn, repairsOf, deliveryOf, pictureOf, readSpan}
+use Rattle.window.specs.Rules.{Names, Follows}
 use Rattle.window.specs.Scan.{meant, byteOf, symbolAt, startOf}
+use Rattle.window.specs.Tests.{sumOf, repairCount, rows}
 use Rattle.window.specs.Words.{wordAt}
-use Rattle.window.specs.Inside.Encoded.{Restored}
-use Rattle.window.proofs.Accepting.{Accepted, is-accepted, accepted-told}
+use Rattle.word.specs.Received.{wrongBits}
+use Rattle.window.specs.Inside.Encoded.{Restored, Passes, answered}
+use Rattle.window.proofs.Accepting.{Accepted, is-accepted, accepted-told, passes-given}
 use Rattle.window.proofs.Bytes.{byte-sav, byte-eav, byte-else, word-below, byte-again}
 use Rattle.window.proofs.Characters.{replacing, length-chars, char-sav, char-eav, char-byte}
-use Rattle.window.proofs.Encoded.{encoded-word, meets-accepted}
+use Rattle.window.proofs.Encoded.{encoded-word, restored-told, encoded-read, encoded-picture, passes-accepted}
 use Rattle.window.proofs.Placing.{four, each-place}
+use Rattle.window.proofs.Rules.{line-is, passes-meets, meets-passes}
 use Rattle.window.proofs.Specials.{symbol-read, k28-5-read, k29-7-read, byte-read}
 use Rattle.window.proofs.Symbols.{running-chars}
 
@@ -134,16 +138,49 @@ module _ (f : Format) (w : List ℕ) (known : isKnown f ≡ true) (long : length
   pub words-again : wordIn (table (2 * pairsIn (shapeOf f)) (wordAt (shapeOf f) w)) ≡ wordAt (shapeOf f) w
   words-again = sym (encoded-word f known w (startOf w) c words accepted-encodes restored)
 
-  -- and meets the tests that they meet
-  pub accepted-meets : Meets f (wordIn (table (2 * pairsIn (shapeOf f)) (wordAt (shapeOf f) w)))
-  accepted-meets = rw words-again (acc .words)
+  -- and passes the tests that they pass
+  pub accepted-passes : Passes f (wordIn (table (2 * pairsIn (shapeOf f)) (wordAt (shapeOf f) w)))
+  accepted-passes = rw words-again (acc .words)
 
--- ---- exactly the encodings of words that meet the tests are read
+-- ---- exactly the encodings of words that meet the rules are read
 
 module _ (f : Format) (w : List ℕ) (known : isKnown f ≡ true) where
   pub exact-if : {d : Disparity} {c : ContentBytes} {words : List ℕ} → Encodes f w d c words → Meets f (wordIn words)
       → (r : Delivery) × (readSpan f w ≡ given r)
-  exact-if {d} {c} {words} e m = (deliveryOf f w, is-accepted f w (meets-accepted f known w d c words e m))
+  exact-if {d} {c} {words} e m = (deliveryOf f w, is-accepted f w (passes-accepted f known w d c words e (meets-passes f known (wordIn words) m)))
+
+  -- what is answered: the line before the one that stream 1 names, the content bytes and disparities of the encoding, the wrong bits of all
+  -- XYZ together; and the picture words
+  pub exact-read : (d : Disparity) (c : ContentBytes) (words : List ℕ) → Encodes f w d c words → Meets f (wordIn words)
+      → (m n : ℕ) → Names (wordsOf f (wordIn words)) m → Follows n m
+      → let s = streams (shapeOf f) in
+      let word = wordsOf f (wordIn words) in
+      (readSpan f w
+      ≡ given (record {
+        line = record { 0 = n };
+        content = c;
+        before = d;
+        after = afterRun d (charsOf (shapeOf f) c words);
+        repairs = repairsOf (sumOf s (λ t. wrongBits (word 3 t) + wrongBits (word 1927 t)));
+      }))
+      × (pictureOf f w ≡ upto s (λ t. table 1920 (λ i. word (4 + i) t)))
+  unfolding repairCount rows
+  exact-read d c words e meets m n names follows =
+      let word = wordIn words in
+      let passes = meets-passes f known word meets in
+      let restored = restored-told f known words (e .long) (passes .timing) in (
+        encoded-read f known w d c words e restored
+            ∙ passes-given f word passes (answered f d c words)
+            ∙ rw (line-is (streams (shapeOf f)) word m names n follows),
+        encoded-picture f known w d c words e restored,
+      )
+
+  -- and the words read are these
+  pub exact-word : (d : Disparity) (c : ContentBytes) (words : List ℕ) → Encodes f w d c words → Meets f (wordIn words)
+      → (k : ℕ) → wordAt (shapeOf f) w k ≡ wordIn words k
+  exact-word d c words e meets k =
+      let restored = restored-told f known words (e .long) (meets-passes f known (wordIn words) meets .timing) in
+      ap (λ (word : ℕ → ℕ). word k) (encoded-word f known w d c words e restored)
 
   pub exact-only-if : {r : Delivery} → length w ≡ symbolsIn (shapeOf f) → readSpan f w ≡ given r
       → (d : Disparity) × (c : ContentBytes) × (words : List ℕ) × Encodes f w d c words × Meets f (wordIn words)
@@ -153,5 +190,5 @@ module _ (f : Format) (w : List ℕ) (known : isKnown f ≡ true) where
         contentIn (shapeOf f) w,
         table (2 * pairsIn (shapeOf f)) (wordAt (shapeOf f) w),
         accepted-encodes f w known long acc,
-        accepted-meets f w known long acc,
+        passes-meets f known _ (accepted-passes f w known long acc),
       )

@@ -17,6 +17,8 @@ pub mod Plain
 pub mod Refusals
 pub mod Repaired
 pub mod RoundTrip
+pub mod Rules
+pub mod Scanning
 pub mod Sent
 pub mod SentAgain
 pub mod Specials

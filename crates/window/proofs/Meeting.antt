@@ -21,14 +21,14 @@ use Rattle.span.specs.Span.{fillWord}
 use Rattle.span.specs.Layout.{pictureStart, eavStart, lineStart, crccStart, ancillaryStart, savXyz, eavXyz}
 use Rattle.crcc.specs.Crcc.{crccWords}
 use Rattle.word.specs.LineNumber.{ln0, ln1, areWordsOf, lineOf}
-use Rattle.word.specs.Repair.{nearest}
+use Rattle.word.specs.Repair.{distance, nearest}
 use Rattle.word.specs.Timing.{timing}
 use Rattle.word.proofs.LineNumbers.{named-is-line, named-ln0, named-ln1}
-use Rattle.window.specs.Encoded.{Meets}
 use Rattle.window.specs.Read.{placed}
 use Rattle.window.specs.Tests.{same, mayBring, sumOf, wordOf, holds21, nextLine, lineRead, holds22, holds23, registerOf, holds24, holds25, holds26, repairCount}
 use Rattle.word.specs.Received.{hasH, repaired, vIn, wrongBits}
-use Rattle.window.proofs.Nearest.{repaired-is, whole-timing}
+use Rattle.window.specs.Inside.Encoded.{Passes}
+use Rattle.window.proofs.Nearest.{same-told, near-read, repaired-is, whole-timing}
 use Rattle.window.proofs.Placing.{place-again, at-word, in-span}
 use Rattle.window.proofs.Symbols.{some-told}
 
@@ -71,11 +71,11 @@ module _ (f : Format) (word : ℕ → ℕ) (t : ℕ) (l : t < streams (shapeOf f
 -- ---- 22 of stream 1, and the fill
 
 -- words that name a line are those of its number
-line-named : (a b : ℕ) → isSome (lineOf a b) ≡ true → areWordsOf a b (Option·getD (lineOf a b) 0) ≡ true
+pub line-named : (a b : ℕ) → isSome (lineOf a b) ≡ true → areWordsOf a b (Option·getD (lineOf a b) 0) ≡ true
 unfolding lineOf
 line-named a b t = hit (areWordsOf a b) 1126 (Option·getD (lineOf a b) 0) (some-told (lineOf a b) t) .holds
 
-module _ (f : Format) (word : ℕ → ℕ) (m : Meets f word) (l : 0 < streams (shapeOf f)) where
+module _ (f : Format) (word : ℕ → ℕ) (m : Passes f word) (l : 0 < streams (shapeOf f)) where
   -- it is of a line, so its words are those of that line's number
   next-named :
       areWordsOf (wordOf (streams (shapeOf f)) word lineStart 0) (wordOf (streams (shapeOf f)) word (lineStart + 1) 0) (nextLine (streams (shapeOf f)) word)
@@ -117,7 +117,7 @@ parts-zero (suc n) f e t h =
     on-test (eqb t n) (λ q. rw (eqb-true t n q) (omega arith))
     (λ q. parts-zero n f (omega arith) t (let x = eqb-false t n q in omega arith))
 
-module _ (f : Format) (word : ℕ → ℕ) (m : Meets f word) (t : ℕ) (l : t < streams (shapeOf f)) where
+module _ (f : Format) (word : ℕ → ℕ) (m : Passes f word) (t : ℕ) (l : t < streams (shapeOf f)) where
   abbrev s : ℕ
   s = streams (shapeOf f)
 
@@ -157,6 +157,18 @@ module _ (f : Format) (word : ℕ → ℕ) (m : Meets f word) (t : ℕ) (l : t <
       let told : same (vIn (at eavXyz)) (vOf (nextLine s word)) ≡ true = held f t l (holds23 s word) (m .v) eavXyz (omega arith) in
       rw is-next at told
 
+  -- so XYZ is near the word of its line
+  near-v : (j n : ℕ) (h : Bool) → hasH h (nearest (at j)) ≡ true → same (vIn (at j)) (vOf n) ≡ true → distance (at j) (timing (vOf n) h) ≤ 1
+  near-v j n h is-h is-v =
+      let e : timing (vIn (at j)) h ≡ timing (vOf n) h = ap (λ (v : Bool). timing v h) (same-told (vIn (at j)) (vOf n) is-v) in
+      rw e at (near-read (at j) h is-h)
+
+  pub sav-near : distance (at savXyz) (timing (vOf (lineRead s word)) false) ≤ 1
+  sav-near = near-v savXyz (lineRead s word) false (sav-told f word t l (m .timing) .3) sav-v
+
+  pub eav-near : distance (at eavXyz) (timing (vOf next) true) ≤ 1
+  eav-near = near-v eavXyz next true (eav-told f word t l (m .timing) .3) eav-v
+
   -- XYZ, repaired
   pub eav-repaired : repaired (at eavXyz) ≡ timing (vOf next) true
   eav-repaired = repaired-is (at eavXyz) (vOf next) true (eav-told f word t l (m .timing) .3) eav-v
@@ -165,7 +177,10 @@ module _ (f : Format) (word : ℕ → ℕ) (m : Meets f word) (t : ℕ) (l : t <
   module _ (small : (k : ℕ) → word k < 4096) (none-wrong : repairCount s word ≡ 0) where
     right : wrongBits (at savXyz) + wrongBits (at eavXyz) ≡ 0
     unfolding repairCount
-    right = parts-zero s (λ t. wrongBits (wordOf s word savXyz t) + wrongBits (wordOf s word eavXyz t)) none-wrong t l
+    right =
+        let wrong : ℕ → ℕ = λ t. wrongBits (wordOf s word savXyz t) + wrongBits (wordOf s word eavXyz t) in
+        let none : sumOf s wrong ≡ 0 = omega (arith, none-wrong) in
+        parts-zero s wrong none t l
 
     pub sav-xyz : at savXyz ≡ timing (vOf (lineRead s word)) false
     sav-xyz =

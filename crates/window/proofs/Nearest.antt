@@ -2,14 +2,16 @@
 -- Assumes nothing.
 use mathlib.Core.Path.{_≡_, refl, sym, ap, ap₂, _∙_}
 use mathlib.Core.Bool.{Bool, true, false, not, true≢false}
+use mathlib.Core.Logic.{_⊎_, ⊎-elim}
 use mathlib.Core.Option.{Option, none, some, Option·getD}
 use Prim.Native.Nat.{ℕ, _+_, _*_, _/_, _%_, _≤_, _<_}
 use native.Mathlib.Omega.{arith}
 use lib.Dec.{eqb}
-use borrow.Author.Tests.{eqb-true, not-true}
-use Rattle.word.specs.Repair.{distance, legalWord, nearest}
+use borrow.Author.Tests.{eqb-true, leb-true, not-true}
+use Rattle.word.specs.Repair.{distance, legalWord, near, nearest}
 use Rattle.word.specs.Timing.{timing}
 use Rattle.ground.specs.Bit.{bit}
+use Rattle.ground.proofs.Searches.{hit}
 use Rattle.word.proofs.Repairs.{same-word, nearest-is, nearest-none}
 use Rattle.word.proofs.Timings.{timing-below}
 use Rattle.window.specs.Tests.{same}
@@ -20,7 +22,7 @@ pub same-test : (a b : Bool) → a ≡ b → same a b ≡ true
 same-test true b e = sym e
 same-test false b e = rw (← e)
 
-same-told : (a b : Bool) → same a b ≡ true → a ≡ b
+pub same-told : (a b : Bool) → same a b ≡ true → a ≡ b
 same-told true b t = sym t
 same-told false b t = sym (not-true b t)
 
@@ -77,7 +79,35 @@ module _ (w : ℕ) (v h : Bool) where
   pub none-near : distance w (timing v h) ≡ 2 → nearest w ≡ none
   none-near d = nearest-none w (vh v h) (told v h .below) (rw (told v h .legal) d)
 
+-- the same by the numerals of the legal words
+module _ (w x : ℕ) where
+  near-as : (v h : Bool) → x ≡ timing v h → distance w x ≤ 1 → (repaired w ≡ x) × (wrongBits w ≡ distance w x)
+  near-as v h e d =
+      let d' : distance w (timing v h) ≤ 1 = rw e at d in
+      (near-repaired w v h d' ∙ sym e, near-wrong w v h d' ∙ ap (distance w) (sym e))
+
+  pub near-legal : (x ≡ 0x800) ⊎ ((x ≡ 0x9D0) ⊎ ((x ≡ 0xAB0) ⊎ (x ≡ 0xB60))) → distance w x ≤ 1
+      → (repaired w ≡ x) × (wrongBits w ≡ distance w x)
+  unfolding timing
+  near-legal =
+      ⊎-elim (near-as false false) (⊎-elim (near-as false true) (⊎-elim (near-as true false) (near-as true true)))
+
 -- ---- V and H, as they are read
+
+-- the legal word that is found is near
+near-told : (w vh : ℕ) → nearest w ≡ some vh → distance w (legalWord vh) ≤ 1
+unfolding nearest
+near-told w vh e = leb-true (distance w (legalWord vh)) 1 (hit (near w) 4 vh e .holds)
+
+-- so a word that has one with this H is near the word of this H and of its V
+pub near-read : (w : ℕ) (h : Bool) → hasH h (nearest w) ≡ true → distance w (timing (vIn w) h) ≤ 1
+near-read w h t = go (nearest w) refl t
+  where
+    go : (o : Option ℕ) → nearest w ≡ o → hasH h o ≡ true → distance w (timing (eqb (Option·getD o 0 / 2) 1) h) ≤ 1
+    go none e t = absurd (true≢false (sym t))
+    go (some vh) e t =
+        let again : legalWord vh ≡ timing (eqb (vh / 2) 1) h = ap (timing (eqb (vh / 2) 1)) (h-read h (some vh) t) in
+        rw again at (near-told w vh e)
 
 module _ (w : ℕ) (v h : Bool) (is-h : hasH h (nearest w) ≡ true) (is-v : same (vIn w) v ≡ true) where
   -- as repaired, it is the word of its V and H

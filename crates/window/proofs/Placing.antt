@@ -5,8 +5,8 @@ use mathlib.Core.Bool.{Bool, true}
 use Prim.Native.Nat.{ℕ, zero, suc, _+_, _-_, _*_, _/_, _%_, _≤_, _<_}
 use native.Mathlib.Nat.{mod-lt, div-add-mod, mul-add-div, mul-add-mod-self-left, div-eq-of-lt, mod-eq-of-lt}
 use native.Mathlib.Omega.{arith}
-use lib.Dec.{ltb}
-use borrow.Author.Tests.{ltb-true, ltb-false}
+use lib.Dec.{eqb, ltb}
+use borrow.Author.Tests.{eqb-true, eqb-false, ltb-true, ltb-false}
 use Rattle.ground.proofs.Cases.{on-test}
 use Rattle.span.specs.declared.format.Shape.{Shape}
 use Rattle.span.specs.Format.{streams, pairsIn}
@@ -74,3 +74,9 @@ each-place {C} e sav eav other i =
     (λ j p.
     split i e (λ h. other i (omega arith) (λ l. absurd (omega arith)))
     (λ k q. split k 4 (λ h. rw q (eav k h)) (λ m r. other i (omega arith) (λ l. omega arith))))
+
+-- a number is one of two, or another
+pub each-of-two : {C : ℕ → Type 0} (a b : ℕ) → C a → C b → ((j : ℕ) → (j ≡ a → ⊥) → (j ≡ b → ⊥) → C j) → (j : ℕ) → C j
+each-of-two a b x y other j =
+    on-test (eqb j a) (λ t. rw (eqb-true j a t) x)
+    (λ t. on-test (eqb j b) (λ u. rw (eqb-true j b u) y) (λ u. other j (eqb-false j a t) (eqb-false j b u)))

@@ -11,7 +11,7 @@ use native.Mathlib.Nat.{mul-le-mul-left}
 use native.Mathlib.Omega.{arith}
 use lib.Dec.{eqb, ltb}
 use lib.ListN.{getD}
-use borrow.Author.Tests.{le-ltb, ltb-false, eq-eqb, ne-eqb, eqb-true, eqb-false}
+use borrow.Author.Tests.{le-ltb, ltb-false, eq-eqb, ne-eqb}
 use Rattle.ground.specs.Range.{within}
 use Rattle.ground.specs.Written.{upto}
 use Rattle.ground.proofs.Cases.{on-test}
@@ -32,13 +32,13 @@ use Rattle.span.specs.Stream.{Request, picture, register}
 use Rattle.span.specs.Layout.{pictureStart, eavStart, lineStart, crccStart, ancillaryStart, savXyz, eavXyz}
 use Rattle.span.proofs.Lengths.{known-has-streams}
 use Rattle.span.proofs.Places.{wordAt as sentAt, fill-word, sav-words, picture-word, eav-words, line-number-words, crcc-words}
-use Rattle.window.specs.Encoded.{wordIn, Meets, IsXyz, Disturbed, wrongAt}
+use Rattle.window.specs.Encoded.{wordIn, IsXyz, Disturbed, wrongAt}
 use Rattle.window.specs.Tests.{sumOf, column, holds21, named, nextLine, lineRead, holds22, holds23, registerOf, holds24, holds25, holds26, repairCount, rows}
 use Rattle.word.specs.Received.{vIn, wrongBits}
-use Rattle.window.specs.Inside.Encoded.{Restored, Sendable}
+use Rattle.window.specs.Inside.Encoded.{Restored, Passes, Sendable}
 use Rattle.window.proofs.Encoded.{restored-words}
 use Rattle.window.proofs.Nearest.{same-test, near-h, near-v, near-repaired, near-wrong}
-use Rattle.window.proofs.Placing.{word-of-place, at-place, in-span, four, each-place}
+use Rattle.window.proofs.Placing.{word-of-place, at-place, in-span, four, each-place, each-of-two}
 use Rattle.window.proofs.Sent.{may-bring, picture-column, register-is}
 
 -- ---- test 21, word by word
@@ -77,12 +77,6 @@ module _ (f : Format) (a : Request) (word : ℕ → ℕ) (t : ℕ) (l : t < stre
 
 -- ---- all words
 
--- a number is one of two, or another
-each-of-two : {C : ℕ → Type 0} (a b : ℕ) → C a → C b → ((j : ℕ) → (j ≡ a → ⊥) → (j ≡ b → ⊥) → C j) → (j : ℕ) → C j
-each-of-two a b x y other j =
-    on-test (eqb j a) (λ t. rw (eqb-true j a t) x)
-    (λ t. on-test (eqb j b) (λ u. rw (eqb-true j b u) y) (λ u. other j (eqb-false j a t) (eqb-false j b u)))
-
 -- sums of the same numbers
 sum-same : (n : ℕ) (f g : ℕ → ℕ) → ((i : ℕ) → i < n → f i ≡ g i) → sumOf n f ≡ sumOf n g
 unfolding sumOf
@@ -104,7 +98,7 @@ module _ (f : Format) (a : Request) (good : Sendable f a) (words : List ℕ) (di
 
   module _ (j t : ℕ) (l : t < s) where
     -- word j of stream t is as sent, if it is not an XYZ
-    pub as-sent : s * j + t < n → (j ≡ savXyz → ⊥) → (j ≡ eavXyz → ⊥) → word (s * j + t) ≡ sentAt f a j t
+    as-sent : s * j + t < n → (j ≡ savXyz → ⊥) → (j ≡ eavXyz → ⊥) → word (s * j + t) ≡ sentAt f a j t
     as-sent h x y =
         let e = word-of-place s has-streams j t l in
         disturbed .same (s * j + t) h (λ q. x (sym e ∙ q)) (λ q. y (sym e ∙ q))
@@ -114,7 +108,7 @@ module _ (f : Format) (a : Request) (good : Sendable f a) (words : List ℕ) (di
     early h = as-sent (in-span (shapeOf f) j t (omega arith) l)
 
     -- it is an XYZ at its place
-    pub is-xyz : IsXyz j → IsXyz ((s * j + t) / s)
+    is-xyz : IsXyz j → IsXyz ((s * j + t) / s)
     is-xyz x = rw (word-of-place s has-streams j t l) x
 
   -- the first three words of SAV and EAV
@@ -298,8 +292,8 @@ module _ (f : Format) (a : Request) (good : Sendable f a) (words : List ℕ) (di
           simp (u, eq-eqb (word (s * j + t)) fillWord filled))
 
     -- all tests of the words hold
-    pub near-meets : Meets f word
-    near-meets =
+    pub near-passes : Passes f word
+    near-passes =
         record {
           timing =
               at-place s has-streams n (holds21 s word)

@@ -22,7 +22,8 @@ use Rattle.window.specs.Encoded.{charsOf, Encodes, wordIn, Meets, Distur
 use Rattle.window.specs.Read.{pictureOf, readSpan, repairsOf}
 use Rattle.window.specs.Tests.{sumOf}
 use Rattle.window.specs.Inside.Encoded.{Sendable}
-use Rattle.window.proofs.Repaired.{near-meets}
+use Rattle.window.proofs.Repaired.{near-passes}
+use Rattle.window.proofs.Rules.{passes-meets}
 use Rattle.window.proofs.Sent.{sent-twelve-bits}
 use Rattle.window.proofs.TimingWords.{disturbed-encodes, repaired-delivered}
 
@@ -62,9 +63,10 @@ module _ (f : Format) (a : Request) where
   as-sent : Sendable f a → Disturbed f a words
   as-sent good = record { long = length-words f a; small = λ k _. sent-twelve-bits f a good k; same = λ k h x y. refl }
 
-  -- a span that is sent meets tests 21 to 26
+  -- a span that is sent meets rules 21 to 26
   pub sent-meets : Sendable f a → Meets f (wordIn words)
-  sent-meets good = near-meets f a good words (as-sent good) (λ k h x. omega (arith, right-at k))
+  sent-meets good =
+      passes-meets f (good .known) (wordIn words) (near-passes f a good words (as-sent good) (λ k h x. omega (arith, right-at k)))
 
   module _ (good : Sendable f a) (d : Disparity) where
     -- its symbols encode its words and content bytes

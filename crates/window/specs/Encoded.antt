@@ -1,14 +1,17 @@
 -- A window as the encoding of words and content bytes: what a sender puts on the link, whatever its words say. A span that is sent is one
 -- (law `sent-encodes`), and so is every window that is read (law `accepted-encodes`).
 -- Assumes nothing.
-use Prim.Native.Nat.{ℕ, _*_, _/_, _<_}
+use Prim.Native.Nat.{ℕ, _+_, _*_, _/_, _%_, _≤_, _<_}
 use mathlib.Core.Path.{_≡_}
-use mathlib.Core.Bool.{true}
-use mathlib.Core.List.{List, _++_}
+use mathlib.Core.Bool.{cond, _&&_}
+use mathlib.Core.List.{List, _++_, map}
 use mathlib.Core.Logic.{_⊎_}
+use lib.Dec.{eqb}
 use lib.ListN.{length, getD, take, drop}
+use Rattle.line.specs.Stream.{isActive}
 use Rattle.symbol.specs.declared.disparity.Disparity.{Disparity}
 use Rattle.symbol.specs.declared.special.Special.the-variants.{«K28_5», «K29_7»}
+use Rattle.span.specs.declared.content.Content.the-variants.{Named}
 use Rattle.span.specs.declared.content.ContentBytes.{ContentBytes}
 use Rattle.span.specs.declared.format.Format.{Format}
 use Rattle.span.specs.declared.format.Shape.{Shape}
@@ -18,8 +21,8 @@ use Rattle.span.specs.Layout.{eavStart, savXyz, eavXyz}
 use Rattle.span.specs.Span.{bytes, synchronised, spanWords}
 use Rattle.span.specs.Stream.{Request}
 use Rattle.word.specs.Repair.{distance}
-use Rattle.window.specs.Read.{placed}
-use Rattle.window.specs.Tests.{holds21, holds22, holds23, holds24, holds25, holds26}
+use Rattle.window.specs.declared.delivery.Delivery.{Delivery}
+use Rattle.window.specs.Rules.{Rule21, Rule22, Rule23, Rule24, Rule25, Rule26}
 
 -- the characters of a span's words, with the special characters and the content bytes put in
 unfoldable pub charsOf : Shape → ContentBytes → List ℕ → List ℕ
@@ -44,14 +47,22 @@ pub record Encodes (f : Format) (w : List ℕ) (d : Disparity) (c : ContentBytes
 abbrev pub wordIn : List ℕ → ℕ → ℕ
 wordIn words k = getD words k 0
 
--- words that pass tests 21 to 26: a window is read if and only if it is the encoding of such words (laws `exact-if`, `exact-only-if`)
+-- a rule at every interleaved place k: word k / s of stream k % s
+abbrev pub Everywhere : Format → (ℕ → ℕ → Type 0) → Type 0
+Everywhere f rule = (k : ℕ) → k < 2 * pairsIn (shapeOf f) → rule (k / streams (shapeOf f)) (k % streams (shapeOf f))
+
+-- word j of stream t of a span's words
+abbrev pub wordsOf : Format → (ℕ → ℕ) → ℕ → ℕ → ℕ
+wordsOf f word j t = word (streams (shapeOf f) * j + t)
+
+-- words that meet rules 21 to 26: a window is read if and only if it is the encoding of such words (laws `exactIf`, `exactOnlyIf`)
 pub record Meets (f : Format) (word : ℕ → ℕ) : Type 0 where
-  pub timing : (k : ℕ) → k < 2 * pairsIn (shapeOf f) → placed (streams (shapeOf f)) (holds21 (streams (shapeOf f)) word) k ≡ true
-  pub lineNumber : (k : ℕ) → k < 2 * pairsIn (shapeOf f) → placed (streams (shapeOf f)) (holds22 (streams (shapeOf f)) word) k ≡ true
-  pub v : (k : ℕ) → k < 2 * pairsIn (shapeOf f) → placed (streams (shapeOf f)) (holds23 (streams (shapeOf f)) word) k ≡ true
-  pub crcc : (k : ℕ) → k < 2 * pairsIn (shapeOf f) → placed (streams (shapeOf f)) (holds24 (streams (shapeOf f)) word) k ≡ true
-  pub picture : (k : ℕ) → k < 2 * pairsIn (shapeOf f) → placed (streams (shapeOf f)) (holds25 (streams (shapeOf f)) word f) k ≡ true
-  pub fill : (k : ℕ) → k < 2 * pairsIn (shapeOf f) → placed (streams (shapeOf f)) (holds26 (streams (shapeOf f)) word f) k ≡ true
+  pub timing : Everywhere f (Rule21 (wordsOf f word))
+  pub lineNumber : Everywhere f (Rule22 (wordsOf f word))
+  pub v : Everywhere f (Rule23 (wordsOf f word))
+  pub crcc : Everywhere f (Rule24 (wordsOf f word))
+  pub picture : Everywhere f (Rule25 f (wordsOf f word))
+  pub fill : Everywhere f (Rule26 f (wordsOf f word))
 
 -- ---- what is sent, and what arrives
 
@@ -73,3 +84,29 @@ pub record Disturbed (f : Format) (a : Request) (words : List ℕ) : Type 0 wher
 -- in how many bits the word at place k differs from the one sent
 abbrev pub wrongAt : Format → Request → List ℕ → ℕ → ℕ
 wrongAt f a words k = distance (wordIn words k) (wordIn (spanWords f a) k)
+
+-- words that are those of a sent span before place k, apart from its XYZ, each of which has at most one wrong bit; whatever stands behind k
+pub record DisturbedBefore (f : Format) (a : Request) (words : List ℕ) (k : ℕ) : Type 0 where
+  pub same : (i : ℕ) → i < k → (IsXyz (i / streams (shapeOf f)) → ⊥) → wordIn words i ≡ wordIn (spanWords f a) i
+  pub near : (i : ℕ) → i < k → IsXyz (i / streams (shapeOf f)) → wrongAt f a words i ≤ 1
+
+-- ---- what is read, sent again
+
+-- the sample that a word of line n carries: on an active line at ten bits the word without its two low bits, else the word
+abbrev pub sampleOf : Format → ℕ → ℕ → ℕ
+sampleOf f n x = cond (isActive n && eqb (f .depth) 10) (x / 4) x
+
+-- the answer for a span and its picture words, as a request
+abbrev pub requestOf : Format → Delivery → List ℕ → Request
+requestOf f r words = record { line = r .line .0; content = Named (r .content); samples = map (sampleOf f (r .line .0)) words }
+
+-- the words of a sent span, but for XYZ, which have at most one wrong bit, and for the ancillary area
+pub record SentBut (f : Format) (a : Request) (word : ℕ → ℕ) : Type 0 where
+  pub same :
+      (k : ℕ)
+      → k < 2 * pairsIn (shapeOf f)
+      → (IsXyz (k / streams (shapeOf f)) → ⊥)
+      → (1932 ≤ k / streams (shapeOf f) → k / streams (shapeOf f) < 1932 + shapeOf f .ancillary → ⊥)
+      → word k ≡ wordIn (spanWords f a) k
+  pub near :
+      (k : ℕ) → k < 2 * pairsIn (shapeOf f) → IsXyz (k / streams (shapeOf f)) → distance (word k) (wordIn (spanWords f a) k) ≤ 1

@@ -1,7 +1,7 @@
 -- Laws of reading a window, for a reader of the papers; `proofs/Laws` proves each. Words and streams count from 0, so the paper's
 -- stream 1 is stream 0.
 -- Assumes nothing.
-use Prim.Native.Nat.{ℕ, _+_, _*_, _≤_, _<_}
+use Prim.Native.Nat.{ℕ, _+_, _*_, _/_, _%_, _≤_, _<_}
 use mathlib.Core.Path.{_≡_}
 use mathlib.Core.Bool.{Bool, true, false, not}
 use mathlib.Core.List.{List}
@@ -10,7 +10,7 @@ use mathlib.Core.Option.{none}
 use lib.ListN.{length, getD, set, replicate}
 use Rattle.ground.specs.Answer.{refused, given}
 use Rattle.ground.specs.Bit.{inverted}
-use Rattle.ground.specs.Written.{table}
+use Rattle.ground.specs.Written.{upto, table}
 use Rattle.line.specs.Stream.{isActive, lineBefore}
 use Rattle.symbol.specs.declared.disparity.Disparity.{Disparity}
 use Rattle.symbol.specs.declared.special.Special.the-variants.{«K28_5», «K29_7»}
@@ -19,21 +19,23 @@ use Rattle.symbol.specs.Code.{symbolOf}
 use Rattle.word.specs.LineNumber.{ln0, ln1, lineOf}
 use Rattle.word.specs.Repair.{distance, nearest}
 use Rattle.word.specs.Timing.{timing, timingCode}
+use Rattle.span.specs.declared.content.ContentBytes.{ContentBytes}
 use Rattle.span.specs.declared.format.Format.{Format}
-use Rattle.span.specs.Encoding.{symbolsFrom}
+use Rattle.span.specs.Encoding.{symbolsFrom, afterRun}
 use Rattle.span.specs.Format.{shapeOf, streams, pairsIn, symbolsIn, eavAt}
 use Rattle.span.specs.Numbers.{IsFormat, Symbols, Samples}
 use Rattle.span.specs.Sample.{blankWord}
 use Rattle.span.specs.Span.{interleaved, bytes, spanWords, spanSymbols}
 use Rattle.span.specs.Stream.{Request}
 use Rattle.window.specs.declared.delivery.Delivery.{Delivery}
-use Rattle.window.specs.Encoded.{charsOf, wordIn, Meets}
-use Rattle.window.specs.Read.{placed, contentIn, deliveryOf, pictureOf, readSpan, judgeOf, readOf, rowsRead}
+use Rattle.window.specs.Encoded.{charsOf, Encodes, wordIn, Everywhere, wordsOf, Meets, IsXyz, wrongAt, DisturbedBefore, requestOf, SentBut}
+use Rattle.window.specs.Read.{placed, contentIn, repairsOf, deliveryOf, pictureOf, readSpan, judgeOf, readOf, rowsRead}
+use Rattle.window.specs.Rules.{Reflects, Rule20, Rule21, Names, Follows, Rule22, Rule23, Rule24, Rule25, Rule26}
 use Rattle.window.specs.Scan.{symbolAt, startOf, runningAt, holds20}
-use Rattle.window.specs.Tests.{wordOf, holds21, holds22, holds23, holds24, holds25, holds26, lineRead, repairCount}
-use Rattle.word.specs.Received.{hasH}
+use Rattle.window.specs.Tests.{sumOf, wordOf, holds21, holds22, holds23, holds24, holds25, holds26, lineRead, repairCount}
+use Rattle.word.specs.Received.{hasH, repaired, wrongBits}
 use Rattle.window.specs.Words.{fixedByte, wordAt}
-use Rattle.window.specs.Inside.Encoded.{Sendable, requestAgain}
+use Rattle.window.specs.Inside.Encoded.{Sendable}
 
 -- a test holds at all of n places
 abbrev pub Holds : ℕ → (ℕ → Bool) → Type 0
@@ -189,6 +191,70 @@ pub record WindowRefusals : Type 0 where
   -- an XYZ with at most one wrong bit does not pass for one with the other H (004, 6.2)
   pub otherH : (w : ℕ) (v h : Bool) → distance w (timing v h) ≤ 1 → hasH (not h) (nearest w) ≡ false
 
+-- Tests 20 to 26 are document 01's rules (specs/Rules). Each test is asked where those before it hold, and is the rule there; so the place
+-- that a refusal gives is the lowest at which the rule is not met.
+pub record WindowRules : Type 0 where
+  -- the symbols: where the rule is met at symbol k it is met, and the test holds, at those before it too
+  pub scan :
+      (f : Format) (w : List ℕ) (k : ℕ)
+      → IsFormat f
+      → k < length w
+      → ((i : ℕ) → i < k → test20 f w i ≡ true)
+      → Reflects (test20 f w k) (Rule20 (streams (shapeOf f)) w k)
+  pub scanBefore :
+      (f : Format) (w : List ℕ) (i k : ℕ)
+      → IsFormat f
+      → i ≤ k
+      → Rule20 (streams (shapeOf f)) w k
+      → Rule20 (streams (shapeOf f)) w i
+  pub scanHolds :
+      (f : Format) (w : List ℕ) (i k : ℕ)
+      → IsFormat f
+      → i ≤ k
+      → Rule20 (streams (shapeOf f)) w k
+      → test20 f w i ≡ true
+  -- any words, the place being word k / s of stream k % s
+  pub timing :
+      (f : Format) (word : ℕ → ℕ)
+      → IsFormat f
+      → (k : ℕ)
+      → let s = streams (shapeOf f) in
+      Reflects (placed s (holds21 s word) k) (Rule21 (wordsOf f word) (k / s) (k % s))
+  pub lineNumber :
+      (f : Format) (word : ℕ → ℕ)
+      → IsFormat f
+      → (k : ℕ)
+      → let s = streams (shapeOf f) in
+      Reflects (placed s (holds22 s word) k) (Rule22 (wordsOf f word) (k / s) (k % s))
+  pub v :
+      (f : Format) (word : ℕ → ℕ)
+      → IsFormat f
+      → Everywhere f (Rule21 (wordsOf f word))
+      → Everywhere f (Rule22 (wordsOf f word))
+      → (k : ℕ)
+      → let s = streams (shapeOf f) in
+      Reflects (placed s (holds23 s word) k) (Rule23 (wordsOf f word) (k / s) (k % s))
+  pub crcc :
+      (f : Format) (word : ℕ → ℕ)
+      → IsFormat f
+      → Everywhere f (Rule21 (wordsOf f word))
+      → (k : ℕ)
+      → let s = streams (shapeOf f) in
+      Reflects (placed s (holds24 s word) k) (Rule24 (wordsOf f word) (k / s) (k % s))
+  pub picture :
+      (f : Format) (word : ℕ → ℕ)
+      → IsFormat f
+      → Everywhere f (Rule22 (wordsOf f word))
+      → (k : ℕ)
+      → let s = streams (shapeOf f) in
+      Reflects (placed s (holds25 s word f) k) (Rule25 f (wordsOf f word) (k / s) (k % s))
+  pub fill :
+      (f : Format) (word : ℕ → ℕ)
+      → IsFormat f
+      → (k : ℕ)
+      → let s = streams (shapeOf f) in
+      Reflects (placed s (holds26 s word f) k) (Rule26 f (wordsOf f word) (k / s) (k % s))
+
 -- What holds for a window that is read, and how a sent span is read.
 pub record WindowLaws : Type 0 where
   -- there is one answer for a window
@@ -259,6 +325,63 @@ pub record WindowLaws : Type 0 where
       → getD (bytes (interleaved (2 * half) 4 (λ _. timingCode v h))) i 0 ≡ fixedByte (2 * half) i
   -- a sent span passes tests 21 to 26
   pub sentMeets : (f : Format) (a : Request) → Sendable f a → Meets f (wordIn (spanWords f a))
+  -- words that meet the rules name a line, which comes after one line,
+  pub lineNamed :
+      (f : Format) (word : ℕ → ℕ)
+      → IsFormat f
+      → Meets f word
+      → (m : ℕ) × (n : ℕ) × Names (wordsOf f word) m × Follows n m
+  -- and the encoding of such words, whoever made it, is read: as line n, with its content bytes and disparities, the wrong bits of all XYZ
+  -- together, and its picture words; no other window is read
+  pub exactIf :
+      (f : Format) (w : List ℕ) (d : Disparity) (c : ContentBytes) (words : List ℕ)
+      → IsFormat f
+      → Encodes f w d c words
+      → Meets f (wordIn words)
+      → (m n : ℕ)
+      → Names (wordsOf f (wordIn words)) m
+      → Follows n m
+      → let s = streams (shapeOf f) in
+      let word = wordsOf f (wordIn words) in
+      (readSpan f w
+      ≡ given (record {
+        line = record { 0 = n };
+        content = c;
+        before = d;
+        after = afterRun d (charsOf (shapeOf f) c words);
+        repairs = repairsOf (sumOf s (λ t. wrongBits (word 3 t) + wrongBits (word 1927 t)));
+      }))
+      × (pictureOf f w ≡ upto s (λ t. table 1920 (λ i. word (4 + i) t)))
+  pub exactOnlyIf :
+      (f : Format) (w : List ℕ) (r : Delivery)
+      → IsFormat f
+      → Symbols f (length w)
+      → readSpan f w ≡ given r
+      → (d : Disparity) × (c : ContentBytes) × (words : List ℕ) × Encodes f w d c words × Meets f (wordIn words)
+  -- the words read from such an encoding are the words encoded
+  pub wordsEncoded :
+      (f : Format) (w : List ℕ) (d : Disparity) (c : ContentBytes) (words : List ℕ)
+      → IsFormat f
+      → Encodes f w d c words
+      → Meets f (wordIn words)
+      → (k : ℕ)
+      → wordAt (shapeOf f) w k ≡ wordIn words k
+  -- the encoding of words that begin as a sent span does is refused at the first XYZ with two wrong bits, whatever stands behind it
+  pub beyondRepair :
+      (f : Format) (a : Request) (w : List ℕ) (d : Disparity) (c : ContentBytes) (words : List ℕ) (k : ℕ)
+      → IsFormat f
+      → Encodes f w d c words
+      → k < 2 * pairsIn (shapeOf f)
+      → IsXyz (k / streams (shapeOf f))
+      → DisturbedBefore f a words k
+      → wrongAt f a words k ≡ 2
+      → readSpan f w ≡ refused 21 k
+  -- a word that is near a legal timing word is repaired to it, and its wrong bits are those in which it differs
+  pub nearLegal :
+      (w x : ℕ)
+      → (x ≡ 0x800) ⊎ ((x ≡ 0x9D0) ⊎ ((x ≡ 0xAB0) ⊎ (x ≡ 0xB60)))
+      → distance w x ≤ 1
+      → (repaired w ≡ x) × (wrongBits w ≡ distance w x)
   -- a sent span with one of the ten bits of one symbol inverted is refused
   pub invertedRefused :
       (f : Format) (a : Request) (d : Disparity) (i k : ℕ)
@@ -276,6 +399,12 @@ pub record WindowLaws : Type 0 where
       → w
       ≡ symbolsFrom (startOf w)
       (charsOf (shapeOf f) (contentIn (shapeOf f) w) (table (2 * pairsIn (shapeOf f)) (wordAt (shapeOf f) w)))
+  -- a window that is read has the words of the span sent for its answer, but for XYZ, each with at most one wrong bit, and the ancillary area
+  pub strict :
+      (f : Format) (w : List ℕ) (r : Delivery)
+      → IsFormat f
+      → readSpan f w ≡ given r
+      → SentBut f (requestOf f r (pictureOf f w)) (wordAt (shapeOf f) w)
   -- if nothing was repaired, and the ancillary area and any blanking line are blank, the answer may be sent, and is sent as the same window
   pub sentAgain :
       (f : Format) (w : List ℕ) (r : Delivery)
@@ -287,4 +416,4 @@ pub record WindowLaws : Type 0 where
       repairCount s (wordAt (shapeOf f) w) ≡ 0
       → ((j t : ℕ) → 1932 ≤ j → j < 1932 + shapeOf f .ancillary → t < s → word f w j t ≡ blankWord f)
       → (isActive n ≡ false → (j t : ℕ) → 4 ≤ j → j < 1924 → t < s → word f w j t ≡ 0x100)
-      → Sendable f (requestAgain f w) × (w ≡ spanSymbols (startOf w) f (requestAgain f w))
+      → Sendable f (requestOf f r (pictureOf f w)) × (w ≡ spanSymbols (startOf w) f (requestOf f r (pictureOf f w)))
