@@ -46,7 +46,7 @@ module _ (c : ℕ) (h : c < 512) (n p : Bool) where
   entry-look d = rw (entry-legal d, entry-character)
 
 -- what an entry e says of a character, or of none, at disparity d
-pub record Reflects (d : Disparity) (e : ℕ) (o : Option ℕ) : Type 0 where
+pub record EntrySays (d : Disparity) (e : ℕ) (o : Option ℕ) : Type 0 where
   pub looked : look d e ≡ o
   pub flipped : (c : ℕ) → o ≡ some c → e / 2048 % 4 ≡ 3 * bit (flips c)
 
@@ -55,20 +55,20 @@ given-is true b c e = Option·some-injective b c e
 given-is false b c e = absurd (Option·none-ne-some c e)
 
 says-some : (c : ℕ) → c < 512 → (n p : Bool) (d : Disparity) (o : Option ℕ) → cond (side d n p) (some c) none ≡ o
-    → Reflects d (entryFrom (some c) n p) o
+    → EntrySays d (entryFrom (some c) n p) o
 says-some c h n p d o e =
     record {
       looked = entry-look c h n p d ∙ e;
       flipped = λ b q. entry-flips c h n p ∙ ap (λ (x : ℕ). 3 * bit (flips x)) (given-is (side d n p) c b (e ∙ q));
     }
 
-says-none : (d : Disparity) → Reflects d 0 none
+says-none : (d : Disparity) → EntrySays d 0 none
 says-none Negative = record { looked = refl; flipped = λ c q. absurd (Option·none-ne-some c q) }
 says-none Positive = record { looked = refl; flipped = λ c q. absurd (Option·none-ne-some c q) }
 
 -- an entry made of two characters that agree gives each at its disparity
 says-giving : (n p : Option ℕ) → ((c : ℕ) → n ≡ some c → c < 512) → ((c : ℕ) → p ≡ some c → c < 512)
-    → ((b c : ℕ) → n ≡ some b → p ≡ some c → b ≡ c) → (d : Disparity) → Reflects d (entryGiving n p) (side d n p)
+    → ((b c : ℕ) → n ≡ some b → p ≡ some c → b ≡ c) → (d : Disparity) → EntrySays d (entryGiving n p) (side d n p)
 says-giving none none f g h Negative = says-none Negative
 says-giving none none f g h Positive = says-none Positive
 says-giving (some b) none f g h Negative = says-some b (f b refl) true false Negative (some b) refl
@@ -79,7 +79,7 @@ says-giving (some b) (some c) f g h Negative = says-some b (f b refl) true true 
 says-giving (some b) (some c) f g h Positive =
     says-some b (f b refl) true true Positive (some c) (ap {B = Option ℕ} some (h b c refl refl))
 
-entry-says : (d : Disparity) (s : ℕ) → Reflects d (entryOf s) (charOf d s)
+entry-says : (d : Disparity) (s : ℕ) → EntrySays d (entryOf s) (charOf d s)
 unfolding entryOf
 entry-says d s =
     let below : (e : Disparity) (c : ℕ) → charOf e s ≡ some c → c < 512 =

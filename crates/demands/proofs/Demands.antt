@@ -35,9 +35,9 @@ use Rattle.span.specs.Numbers.{IsFormat, Symbols}
 use Rattle.window.specs.Encoded.{AreContent}
 use Rattle.window.specs.Read.{pictureOf, readOf}
 use Rattle.window.proofs.Accepting.{row-passed}
-use Rattle.window.proofs.Exact.{exact-if, exact-only-if}
+use Rattle.window.proofs.Paper.{window-paper}
 use Rattle.window.proofs.RoundTrip.{round-trip, picture-back}
-use Rattle.window.proofs.TimingWords.{repaired-delivered, two-wrong as two-in-a-span}
+use Rattle.window.proofs.TimingWords.{repaired-delivered}
 use Rattle.delivery.specs.Delivery.{Found}
 use Rattle.delivery.proofs.Finding.{untold, not-at-the-end, found-at, found-told, found-nowhere, nowhere-told, literally, stands-whole}
 use Rattle.recording.specs.Call.{findRows, findOf}
@@ -51,10 +51,11 @@ use Rattle.request.specs.Laws.{GoodCall}
 use Rattle.request.proofs.GoodCalls.{good-is-sent}
 use Rattle.demands.specs.Form.{Sending, WasSent, readingOf, DeliveredFrom, Delivered}
 use Rattle.demands.specs.Demands.{Demand1, Delivers, Demand2, Demand3, Beyond}
+use Rattle.demands.proofs.Again.{again}
 use Rattle.demands.proofs.Delivering.{steps-are, delivered, accepted, anywhere, alone, damaged, nothing, fewer, one-inverted, beginning, found-none, found-and-read}
 use Rattle.demands.proofs.PictureBack.{images-two, images-four, two-good, two-back, four-good, four-back}
 use Rattle.recording.proofs.Steps.{refused-stays, end-stays, steps-deliver}
-use Rattle.demands.proofs.Refusing.{known-says, symbols-say, samples-say, meaning-tried, decode-tried, repair-tried, line-words-tried, read-line-words-tried, crcc-tried, pack-tried, place-tried, lent, split-tried, join-tried, lengths-tried, fill-tried, send-tried, judge-tried, read-tried, rows-left, find-tried, next-tried, next-some}
+use Rattle.demands.proofs.Refusing.{known-says, samples-say, meaning-tried, decode-tried, repair-tried, line-words-tried, read-line-words-tried, crcc-tried, pack-tried, place-tried, lent, split-tried, join-tried, lengths-tried, fill-tried, send-tried, judge-tried, read-tried, rows-left, find-tried, next-tried, next-some}
 use Rattle.demands.proofs.Sendings.{row-holds, sendable}
 
 -- ==== 1 ====
@@ -158,16 +159,13 @@ demand-2 = record {
   back = λ f x sent.
       let good = sendable f x sent in
       (round-trip f (x .asked) good (x .before), picture-back f (x .asked) good (x .before));
-  exactIf = λ f w d c words known e m. exact-if f w (known-says f .holds known) e m;
-  exactOnlyIf = λ f w v known long e.
-      exact-only-if f w (known-says f .holds known) (eqb-true _ _ (symbols-say f known (length w) .holds long)) e;
+  windows = window-paper;
+  sentAgain = again;
   oneWrong = λ v h k l.
       timed (λ x. repairOf (inverted k x) ≡ given (record { word = x; distance = 1 })) (λ vh m. one-wrong vh m k l) v h;
   twoWrong = λ v h j k i l. timed (λ x. repairOf (inverted j (inverted k x)) ≡ refused 8 0) (λ vh m. two-wrong vh m j k i l) v h;
   repaired = λ f x sent words disturbed near w d c e.
       repaired-delivered f (x .asked) (sendable f x sent) words disturbed w d c e near;
-  beyondRepair = λ f x sent words disturbed k h y two others w d c e.
-      two-in-a-span f (x .asked) (sendable f x sent) words disturbed w d c e k h y two others;
   joinSplit = λ whole e. join-split 1920 whole e;
   splitJoin = λ first second p q. (split-join 1920 first second 0 (omega arith) p, split-join 1920 first second 1 (omega arith) q);
   places = λ whole u l j p q r s t.

@@ -1,3 +1,4 @@
+pub mod Again
 pub mod Delivering
 pub mod Demands
 pub mod Examples

@@ -44,6 +44,10 @@ use Rattle.window.specs.Read.{placed, spanTests as testsOf, pictureOf, judgeOf,
 use Rattle.window.specs.Scan.{holds20}
 use Rattle.window.specs.Tests.{holds21, holds22, holds23, holds24, holds25, holds26}
 use Rattle.window.specs.Words.{wordAt}
+use Rattle.ground.specs.Inside.Test.{Reflects}
+use Rattle.span.proofs.Lengths.{known-has-streams}
+use Rattle.window.proofs.Rules.{says-21, says-22, says-23, says-24, says-25, says-26}
+use Rattle.window.proofs.Scanning.{says-20, holds-before}
 use Rattle.window.proofs.Accepting.{all-hold, none-fails}
 use Rattle.window.proofs.Calls.{is-of, of-is}
 use Rattle.delivery.specs.Delivery.{nextBy as nextBy, findBy as findBy, readFrom, foundAt}
@@ -77,11 +81,6 @@ tried a (then one more) = (
 )
 
 -- ---- tests
-
--- a test holds where the call is good, and nowhere else
-pub record Reflects (b : Bool) (good : Type 0) : Type 0 where
-  pub told : b ≡ true → good
-  pub holds : good → b ≡ true
 
 -- such a test is a rule without a place
 pub plain : (n : ℕ) {b : Bool} {good : Type 0} → Reflects b good → Agrees (unless n b) (rule n good)
@@ -131,28 +130,35 @@ some-below n p {Good} says = record { told = λ t. told (firstBelow n p) refl t;
     holds none e (k, h, g) = absurd (true≢false (sym (says k .holds g) ∙ miss p n e .never k (omega arith) h))
     holds (some k) e g = refl
 
--- a test of n places is a rule with the first place at which it does not hold
-pub at-places : (number n : ℕ) (holds : ℕ → Bool) {Good : ℕ → Type 0} → ((k : ℕ) → Reflects (holds k) (Good k))
+-- a test of n places is a rule with the first place at which it does not hold. What the rule says of a place may take those before it.
+pub at-places : (number n : ℕ) (holds : ℕ → Bool) {Good : ℕ → Type 0}
+    → ((k : ℕ) → k < n → ((i : ℕ) → i ≤ k → holds i ≡ true) → Good k)
+    → ((k : ℕ) → k < n → Good k → holds k ≡ true)
     → Agrees (record { number = number; fails = firstBelow n (λ k. not (holds k)) }) (ruleAt number n Good)
-at-places number n holds {Good} says = record {
+at-places number n holds {Good} told back = record {
   same = refl;
-  passed = λ g. none-fails n holds (λ k h. says k .holds (g k h));
+  passed = λ g. none-fails n holds (λ k h. back k h (g k h));
   met = met (firstBelow n (λ k. not (holds k))) refl;
 }
   where
     met : (o : Option ℕ) → firstBelow n (λ k. not (holds k)) ≡ o → (((k : ℕ) → k < n → Good k) → ⊥)
         → (k : ℕ) × ((k < n) × (Good k → ⊥) × ((j : ℕ) → j < k → Good j)) × (o ≡ some k)
-    met none e bad = absurd (bad (λ k h. says k .told (all-hold n holds e k h)))
+    met none e bad = absurd (bad (λ k h. told k h (λ i l. all-hold n holds e i (omega arith))))
     met (some k) e bad =
         let l = hit (λ k. not (holds k)) n k e in (
           k,
           (
             l .below,
-            λ g. true≢false (sym (l .holds) ∙ ap not (says k .holds g)),
-            λ j h. says j .told (not-false (holds j) (l .least j (omega arith) h)),
+            λ g. true≢false (sym (l .holds) ∙ ap not (back k (l .below) g)),
+            λ j h. told j (omega (arith, l .below)) (λ i q. not-false (holds i) (l .least i (omega arith) (omega arith))),
           ),
           refl,
         )
+
+-- where the rule says of each place what the test does there
+pub at-each : (number n : ℕ) (holds : ℕ → Bool) {Good : ℕ → Type 0} → ((k : ℕ) → Reflects (holds k) (Good k))
+    → Agrees (record { number = number; fails = firstBelow n (λ k. not (holds k)) }) (ruleAt number n Good)
+at-each number n holds says = at-places number n holds (λ k h all. says k .told (all k (omega arith))) (λ k h g. says k .holds g)
 
 -- ---- single calls
 
@@ -338,37 +344,44 @@ send-tried d f a room =
     then (plain 3 (samples-say f known (length xs))) (λ _.
     then (plain 4 (symbols-say f known room)) (λ _.
     then
-    (at-places 6 (length xs) (λ i. allowed f (a .line) (i / 1920) (getD xs i 0))
+    (at-each 6 (length xs) (λ i. allowed f (a .line) (i / 1920) (getD xs i 0))
     (λ i. may-send f known (getD xs i 0) (a .line) (i / 1920)))
     (λ _. end))))))
 
 -- tests 20 to 26 of a window
-tests-agree : (f : Format) (w : List ℕ) → Agree (testsOf f w) (spanRules f w)
-tests-agree f w =
+tests-agree : (f : Format) (w : List ℕ) → IsFormat f → Symbols f (length w) → Agree (testsOf f w) (spanRules f w)
+tests-agree f w known long =
+    let k = known-says f .holds known in
     let s = streams (shapeOf f) in
     let n = 2 * pairsIn (shapeOf f) in
     let word = wordAt (shapeOf f) w in
-    then (at-places 20 (symbolsIn (shapeOf f)) (holds20 (shapeOf f) w) (λ k. as-is _)) (λ _.
-    then (at-places 21 n (placed s (holds21 s word)) (λ k. as-is _)) (λ _.
-    then (at-places 22 n (placed s (holds22 s word)) (λ k. as-is _)) (λ _.
-    then (at-places 23 n (placed s (holds23 s word)) (λ k. as-is _)) (λ _.
-    then (at-places 24 n (placed s (holds24 s word)) (λ k. as-is _)) (λ _.
-    then (at-places 25 n (placed s (holds25 s word f)) (λ k. as-is _)) (λ _.
-    then (at-places 26 n (placed s (holds26 s word f)) (λ k. as-is _)) (λ _. end)))))))
+    let some = known-has-streams f k in
+    let size : length w ≡ symbolsIn (shapeOf f) = eqb-true _ _ (symbols-say f known (length w) .holds long) in
+    then
+    (at-places 20 (symbolsIn (shapeOf f)) (holds20 (shapeOf f) w)
+    (λ i h all. says-20 (shapeOf f) some w i (omega (arith, size)) (λ j l. all j (omega arith)) .told (all i (omega arith)))
+    (λ i h g. holds-before (shapeOf f) some w i g i (omega arith)))
+    (λ _.
+    then (at-each 21 n (placed s (holds21 s word)) (says-21 f k word)) (λ timings.
+    then (at-each 22 n (placed s (holds22 s word)) (says-22 f k word)) (λ numbers.
+    then (at-each 23 n (placed s (holds23 s word)) (says-23 f k word numbers timings)) (λ _.
+    then (at-each 24 n (placed s (holds24 s word)) (says-24 f k word timings)) (λ _.
+    then (at-each 25 n (placed s (holds25 s word f)) (says-25 f k word numbers)) (λ _.
+    then (at-each 26 n (placed s (holds26 s word f)) (says-26 f k word)) (λ _. end)))))))
 
 -- judging a span
 pub judge-tried : (f : Format) (w : List ℕ) → Tried (judgeOf f w) (judgeRules f w)
 judge-tried f w =
     tried _
-    (then (plain 1 (known-says f)) (λ known. then (plain 3 (symbols-say f known (length w))) (λ _. tests-agree f w)))
+    (then (plain 1 (known-says f)) (λ known. then (plain 3 (symbols-say f known (length w))) (λ long. tests-agree f w known long)))
 
 -- reading it
 pub read-tried : (f : Format) (w : List ℕ) (room : ℕ) → Tried (readOf f w room) (readRules f w room)
 read-tried f w room =
     tried _
     (then (plain 1 (known-says f)) (λ known.
-    then (plain 3 (symbols-say f known (length w))) (λ _.
-    then (plain 4 (samples-say f known room)) (λ _. tests-agree f w))))
+    then (plain 3 (symbols-say f known (length w))) (λ long.
+    then (plain 4 (samples-say f known room)) (λ _. tests-agree f w known long))))
 
 -- the rows afterwards: as they were, zeros, or the picture
 pub rows-left : {A : Type 0} (r : Answer A) (entry makes : List ℕ) → Rows r entry makes (rowsLeft r entry makes)

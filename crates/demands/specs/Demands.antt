@@ -39,7 +39,8 @@ use Rattle.span.specs.Span.{spanSymbols, spanAfter}
 use Rattle.span.specs.Stream.{Request}
 use Rattle.span.specs.Numbers.{IsFormat, Symbols, Samples}
 use Rattle.window.specs.declared.delivery.Delivery.{Delivery}
-use Rattle.window.specs.Encoded.{charsOf, AreContent, Encodes, wordIn, Meets, IsXyz, Disturbed, wrongAt}
+use Rattle.window.specs.Paper.{wordOfWindow, WindowPaper}
+use Rattle.window.specs.Encoded.{requestOf, charsOf, AreContent, Encodes, IsXyz, Disturbed, wrongAt}
 use Rattle.window.specs.Read.{repairsOf, pictureOf, readSpan, judgeOf, readOf, rowsRead}
 use Rattle.window.specs.Tests.{sumOf}
 use Rattle.delivery.specs.Delivery.{Found, foundFrom, movedBy, concatenated, placedFrom, Each}
@@ -180,20 +181,22 @@ pub record Demand2 : Type 0 where
       → WasSent f x
       → (readSpan f (sentSymbols f x) ≡ given (readingOf f x .values))
       × (pictureOf f (sentSymbols f x) ≡ readingOf f x .words)
-  -- and exactly the encodings of words that meet the tests are read
-  pub exactIf :
-      (f : Format) (w : List ℕ) (d : Disparity) (c : ContentBytes) (words : List ℕ)
-      → IsFormat f
-      → Encodes f w d c words
-      → Meets f (wordIn words)
-      → (v : Delivery) × (readSpan f w ≡ given v)
-  pub exactOnlyIf :
-      (f : Format) (w : List ℕ) (v : Delivery)
+  -- what is read are exactly the encodings of words that meet rules 21 to 26, whoever made them, and how; every window that is read has the
+  -- words of the span sent for its answer, but for one wrong bit in an XYZ and the ancillary area
+  pub windows : WindowPaper
+  -- and where its XYZ and its ancillary and blanking areas are as we send them, the answer may be sent, and is sent as the same window
+  pub sentAgain :
+      (f : Format) (w : List ℕ) (r : Delivery)
       → IsFormat f
       → Symbols f (length w)
-      → readSpan f w ≡ given v
-      → (d : Disparity) × (c : ContentBytes) × (words : List ℕ) × Encodes f w d c words × Meets f (wordIn words)
-  -- one wrong bit of a timing word is repaired, two are refused: by the single call,
+      → readSpan f w ≡ given r
+      → let word = wordOfWindow f w in
+      r .repairs ≡ repairsOf 0
+      → ((j t : ℕ) → 1932 ≤ j → j < 1932 + shapeOf f .ancillary → t < streams (shapeOf f) → word j t ≡ 0x100)
+      → ((42 ≤ r .line .0 → r .line .0 ≤ 1121 → ⊥) → (j t : ℕ) → 4 ≤ j → j < 1924 → t < streams (shapeOf f) → word j t ≡ 0x100)
+      → let a = requestOf f r (pictureOf f w) in
+      (sendOf (r .before) f a (length w) ≡ given (r .after)) × (w ≡ spanSymbols (r .before) f a)
+  -- one wrong bit of a timing word is repaired, two are refused: by the single call, and in a span at the first such word (`windows`);
   pub oneWrong :
       (v h : Bool) (k : ℕ) → k < 12 → repairOf (inverted k (timing v h)) ≡ given (record { word = timing v h; distance = 1 })
   pub twoWrong : (v h : Bool) (j k : ℕ) → j < k → k < 12 → repairOf (inverted j (inverted k (timing v h))) ≡ refused 8 0
@@ -216,20 +219,6 @@ pub record Demand2 : Type 0 where
         repairs = repairsOf (sumOf s (λ t. wrongAt f (x .asked) words (s * 3 + t) + wrongAt f (x .asked) words (s * 1927 + t)));
       }))
       × (pictureOf f w ≡ readingOf f x .words)
-  -- and where two bits of one are wrong: it is refused there
-  pub beyondRepair :
-      (f : Format) (x : Sending)
-      → WasSent f x
-      → (words : List ℕ)
-      → Disturbed f (x .asked) words
-      → (k : ℕ)
-      → k < 2 * pairsIn (shapeOf f)
-      → IsXyz (k / streams (shapeOf f))
-      → wrongAt f (x .asked) words k ≡ 2
-      → ((i : ℕ) → i < 2 * pairsIn (shapeOf f) → IsXyz (i / streams (shapeOf f)) → (i ≡ k → ⊥) → wrongAt f (x .asked) words i ≤ 1)
-      → (w : List ℕ) (d : Disparity) (c : ContentBytes)
-      → Encodes f w d c words
-      → readSpan f w ≡ refused 21 k
   -- joining what was divided gives the row, and dividing what was joined gives the two rows
   pub joinSplit : (whole : List ℕ) → length whole ≡ 3840 → joined 1920 (divided 0 1920 whole) (divided 1 1920 whole) ≡ whole
   pub splitJoin :

@@ -1,9 +1,8 @@
 -- The rows of the table of refusals for each call, in the order tried (document 01, "Refusal numbers, in the order tried"): the number, and
 -- what a good call has, in document 01's own numbers.
 -- Assumes nothing.
-use Prim.Native.Nat.{ℕ, _*_, _≤_, _<_}
+use Prim.Native.Nat.{_/_, _%_, ℕ, _*_, _≤_, _<_}
 use mathlib.Core.Path.{_≡_}
-use mathlib.Core.Bool.{true}
 use mathlib.Core.List.{List, [], _∷_}
 use mathlib.Core.Logic.{_⊎_}
 use lib.ListN.{length, getD}
@@ -16,11 +15,9 @@ use Rattle.span.specs.declared.format.Format.{Format}
 use Rattle.span.specs.Format.{shapeOf, streams, pairsIn, symbolsIn}
 use Rattle.span.specs.Stream.{Request}
 use Rattle.span.specs.Numbers.{IsFormat, Symbols, Samples}
-use Rattle.window.specs.Read.{placed}
-use Rattle.window.specs.Scan.{holds20}
-use Rattle.window.specs.Tests.{holds21, holds22, holds23, holds24, holds25, holds26}
-use Rattle.window.specs.Words.{wordAt}
 use Rattle.recording.specs.Recording.{reading}
+use Rattle.window.specs.Paper.{wordOfWindow}
+use Rattle.window.specs.Rules.{Rule20, Rule21, Rule22, Rule23, Rule24, Rule25, Rule26}
 use Rattle.demands.specs.Form.{MaySend, Refusal, rule, ruleAt}
 
 -- ---- single calls
@@ -94,19 +91,19 @@ sendRules f a room =
     ∷ ruleAt 6 (length (a .samples)) (λ i. MaySend f (a .line) (getD (a .samples) i 0))
     ∷ []
 
--- tests 20 to 26 of the reader, each over the whole span
+-- a span: 20 with the first symbol, 21 to 26 with the first interleaved word, each over the whole of it; `window/specs/Rules` says what each is
 abbrev pub spanRules : Format → List ℕ → List Refusal
 spanRules f w =
     let s = streams (shapeOf f) in
     let n = 2 * pairsIn (shapeOf f) in
-    let word = wordAt (shapeOf f) w in
-    ruleAt 20 (symbolsIn (shapeOf f)) (λ i. holds20 (shapeOf f) w i ≡ true)
-    ∷ ruleAt 21 n (λ k. placed s (holds21 s word) k ≡ true)
-    ∷ ruleAt 22 n (λ k. placed s (holds22 s word) k ≡ true)
-    ∷ ruleAt 23 n (λ k. placed s (holds23 s word) k ≡ true)
-    ∷ ruleAt 24 n (λ k. placed s (holds24 s word) k ≡ true)
-    ∷ ruleAt 25 n (λ k. placed s (holds25 s word f) k ≡ true)
-    ∷ ruleAt 26 n (λ k. placed s (holds26 s word f) k ≡ true)
+    let word = wordOfWindow f w in
+    ruleAt 20 (symbolsIn (shapeOf f)) (Rule20 s w)
+    ∷ ruleAt 21 n (λ k. Rule21 word (k / s) (k % s))
+    ∷ ruleAt 22 n (λ k. Rule22 word (k / s) (k % s))
+    ∷ ruleAt 23 n (λ k. Rule23 word (k / s) (k % s))
+    ∷ ruleAt 24 n (λ k. Rule24 word (k / s) (k % s))
+    ∷ ruleAt 25 n (λ k. Rule25 f word (k / s) (k % s))
+    ∷ ruleAt 26 n (λ k. Rule26 f word (k / s) (k % s))
     ∷ []
 
 -- judging a span: 1, 3, 20 to 26

@@ -1,47 +1,21 @@
 -- What holds of reading a window, proved: each field cites the law that says it.
 -- Assumes nothing.
-use mathlib.Core.Path.{_≡_}
-use mathlib.Core.Bool.{true}
-use mathlib.Core.List.{List}
-use Prim.Native.Nat.{ℕ}
-use lib.ListN.{length}
-use Rattle.line.specs.Stream.{lineBefore}
-use Rattle.span.specs.declared.format.Format.{Format}
-use Rattle.span.specs.Format.{isKnown, numbered, shapeOf, symbolsIn}
-use Rattle.span.specs.Numbers.{IsFormat, Symbols}
-use Rattle.span.proofs.Formats.{Known, is-known}
+use Rattle.span.specs.Format.{shapeOf}
 use Rattle.span.proofs.Lengths.{known-has-streams}
 use Rattle.window.specs.Laws.{WindowRefusals, WindowRules, WindowLaws}
+use Rattle.window.proofs.Numbers.{known, is-format, no-format, is-long}
 use Rattle.window.proofs.Accepting.{accepted-told, delivers}
 use Rattle.window.proofs.Areas.{judged-21, judged-22, judged-23, judged-24, judged-25, judged-26, nameless, asked-once}
-use Rattle.window.proofs.Calls.{is-of, judge-meets-1, judge-meets-3, judged, read-as-judged, rows-after-1, rows-after-3, rows-after-4, rows-after-refusal, rows-delivered}
-use Rattle.window.proofs.Encoded.{fixed-bytes}
-use Rattle.window.proofs.Exact.{encoded-again, exact-read, exact-word, exact-only-if}
+use Rattle.window.proofs.Calls.{judge-meets-1, judge-meets-3, judged, read-as-judged, rows-after-1, rows-after-3, rows-after-4, rows-after-refusal, rows-delivered}
+use Rattle.window.proofs.Exact.{encoded-again}
 use Rattle.window.proofs.Inverted.{inverted-is-refused}
-use Rattle.window.proofs.Line.{line-answered, all-streams, recital}
-use Rattle.window.proofs.Nearest.{other-h, near-legal}
+use Rattle.window.proofs.Nearest.{other-h}
 use Rattle.window.proofs.Refusals.{meets-20, meets-21, meets-22, meets-23, meets-24, meets-25, meets-26, numbers}
 use Rattle.window.proofs.RoundTrip.{sent-meets}
-use Rattle.window.proofs.Rules.{follows-before, some-line, says-21, says-22, says-23, says-24, says-25, says-26}
+use Rattle.window.proofs.Rules.{says-21, says-22, says-23, says-24, says-25, says-26}
 use Rattle.window.proofs.Scanning.{holds-before, says-20, rule-before}
-use Rattle.window.proofs.SentAgain.{strict, sendable-again, sent-again}
+use Rattle.window.proofs.SentAgain.{sendable-again, sent-again}
 use Rattle.window.proofs.Specials.{k28-5-at, only-k28-5, k29-7-at, only-k29-7}
-use Rattle.window.proofs.TimingWords.{two-wrong}
-
--- document 01's numbers, as the definitions have them
-known : (f : Format) → IsFormat f → Known f
-known f k = record { from = k .0; to = k .1; bits = k .2 }
-
-is-format : (f : Format) → IsFormat f → isKnown f ≡ true
-is-format f k = is-known f (known f k)
-
--- what is no format there is none here
-no-format : (f : Format) → (IsFormat f → ⊥) → Known f → ⊥
-no-format f x k = x (k .from, k .to, k .bits)
-
-is-long : (f : Format) (w : List ℕ) → Symbols f (length w) → length w ≡ symbolsIn (shapeOf f)
-unfolding shapeOf
-is-long f w h = is-of (λ n. symbolsIn (numbered n)) (f .number) (length w) h
 
 pub window-refusals : WindowRefusals
 window-refusals = record {
@@ -89,27 +63,13 @@ window-rules = record {
 pub window-laws : WindowLaws
 window-laws = record {
   delivered = delivers;
-  lineAnswered = λ f w r k e. line-answered f w (is-format f k) (accepted-told f w r e);
-  allStreams = λ f w r k e. all-streams f w (is-format f k) (accepted-told f w r e);
-  recital = λ f w r k e. recital f w (is-format f k) (accepted-told f w r e);
   k28At = λ f w r k e. k28-5-at f w (is-format f k) (accepted-told f w r e);
   onlyK28 = λ f w r k e. only-k28-5 f w (is-format f k) (accepted-told f w r e);
   k29At = λ f w r k e. k29-7-at f w (is-format f k) (accepted-told f w r e);
   onlyK29 = λ f w r k e. only-k29-7 f w (is-format f k) (accepted-told f w r e);
-  fixedBytes = fixed-bytes;
   sentMeets = sent-meets;
-  lineNamed =
-      λ f word k meets.
-      let (m, names) = some-line f (is-format f k) word (meets .lineNumber) in
-      (m, lineBefore m, names, follows-before m (names .first) (names .last));
-  exactIf = λ f w d c words k. exact-read f w (is-format f k) d c words;
-  exactOnlyIf = λ f w r k long. exact-only-if f w (is-format f k) (is-long f w long);
-  wordsEncoded = λ f w d c words k. exact-word f w (is-format f k) d c words;
-  beyondRepair = λ f a w d c words k known e h x before. two-wrong f a (is-format f known) words w d c e k x before h;
-  nearLegal = near-legal;
   invertedRefused = λ f a d i k good h l. inverted-is-refused f a good d i k h l;
   encodedAgain = λ f w r k long e. encoded-again f w (is-format f k) (is-long f w long) (accepted-told f w r e);
-  strict = λ f w r k e. strict f w (is-format f k) r e;
   sentAgain =
       λ f w r k long e none-wrong blank-ancillary blank-line. (
         sendable-again f w (is-format f k) r e (is-long f w long) none-wrong blank-ancillary blank-line,

@@ -32,7 +32,8 @@ use Rattle.span.proofs.Formats.{known-told}
 use Rattle.span.proofs.Lengths.{known-has-streams}
 use Rattle.window.specs.Encoded.{Everywhere, wordsOf, Meets}
 use Rattle.window.specs.Read.{placed}
-use Rattle.window.specs.Rules.{Reflects, Near, Rule21, Names, Follows, Rule22, FitsLine, Rule23, covered, IsEav, Rule24, Rule25, Rule26}
+use Rattle.window.specs.Rules.{Near, Rule21, Names, Follows, Rule22, FitsLine, Rule23, covered, IsEav, Rule24, Rule25, Rule26}
+use Rattle.ground.specs.Inside.Test.{Reflects}
 use Rattle.window.specs.Tests.{same, wordOf, column, holds21, nextLine, lineRead, holds22, holds23, registerOf, holds24, holds25, holds26}
 use Rattle.window.specs.Inside.Encoded.{Passes}
 use Rattle.window.proofs.Calls.{is-of, of-is}

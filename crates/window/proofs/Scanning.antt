@@ -26,7 +26,8 @@ use Rattle.span.specs.declared.format.Shape.{Shape}
 use Rattle.span.specs.Encoding.{symbolsFrom, afterRun}
 use Rattle.span.specs.Format.{streams, eavAt}
 use Rattle.span.proofs.Encoding.{length-symbols, symbol-at}
-use Rattle.window.specs.Rules.{Reflects, Kind, Rule20}
+use Rattle.window.specs.Rules.{Kind, Rule20}
+use Rattle.ground.specs.Inside.Test.{Reflects}
 use Rattle.window.specs.Scan.{meant, symbolAt, startOf, runningAt, fits, holds20}
 use Rattle.window.proofs.Symbols.{meant-of, fits-sav, fits-eav, fits-byte, legal-told, fits-told, is-legal, starts, running-chars}
 

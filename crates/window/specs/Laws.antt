@@ -10,31 +10,31 @@ use mathlib.Core.Option.{none}
 use lib.ListN.{length, getD, set, replicate}
 use Rattle.ground.specs.Answer.{refused, given}
 use Rattle.ground.specs.Bit.{inverted}
-use Rattle.ground.specs.Written.{upto, table}
-use Rattle.line.specs.Stream.{isActive, lineBefore}
+use Rattle.ground.specs.Written.{table}
+use Rattle.line.specs.Stream.{isActive}
 use Rattle.symbol.specs.declared.disparity.Disparity.{Disparity}
 use Rattle.symbol.specs.declared.special.Special.the-variants.{«K28_5», «K29_7»}
 use Rattle.symbol.specs.Character.{numberOf}
 use Rattle.symbol.specs.Code.{symbolOf}
-use Rattle.word.specs.LineNumber.{ln0, ln1, lineOf}
+use Rattle.word.specs.LineNumber.{lineOf}
 use Rattle.word.specs.Repair.{distance, nearest}
-use Rattle.word.specs.Timing.{timing, timingCode}
-use Rattle.span.specs.declared.content.ContentBytes.{ContentBytes}
+use Rattle.word.specs.Timing.{timing}
 use Rattle.span.specs.declared.format.Format.{Format}
-use Rattle.span.specs.Encoding.{symbolsFrom, afterRun}
+use Rattle.span.specs.Encoding.{symbolsFrom}
 use Rattle.span.specs.Format.{shapeOf, streams, pairsIn, symbolsIn, eavAt}
 use Rattle.span.specs.Numbers.{IsFormat, Symbols, Samples}
 use Rattle.span.specs.Sample.{blankWord}
-use Rattle.span.specs.Span.{interleaved, bytes, spanWords, spanSymbols}
+use Rattle.span.specs.Span.{bytes, spanWords, spanSymbols}
 use Rattle.span.specs.Stream.{Request}
 use Rattle.window.specs.declared.delivery.Delivery.{Delivery}
-use Rattle.window.specs.Encoded.{charsOf, Encodes, wordIn, Everywhere, wordsOf, Meets, IsXyz, wrongAt, DisturbedBefore, requestOf, SentBut}
-use Rattle.window.specs.Read.{placed, contentIn, repairsOf, deliveryOf, pictureOf, readSpan, judgeOf, readOf, rowsRead}
-use Rattle.window.specs.Rules.{Reflects, Rule20, Rule21, Names, Follows, Rule22, Rule23, Rule24, Rule25, Rule26}
+use Rattle.window.specs.Encoded.{charsOf, wordIn, Everywhere, wordsOf, Meets, requestOf}
+use Rattle.window.specs.Read.{placed, contentIn, deliveryOf, pictureOf, readSpan, judgeOf, readOf, rowsRead}
+use Rattle.window.specs.Rules.{Rule20, Rule21, Rule22, Rule23, Rule24, Rule25, Rule26}
+use Rattle.ground.specs.Inside.Test.{Reflects}
 use Rattle.window.specs.Scan.{symbolAt, startOf, runningAt, holds20}
-use Rattle.window.specs.Tests.{sumOf, wordOf, holds21, holds22, holds23, holds24, holds25, holds26, lineRead, repairCount}
-use Rattle.word.specs.Received.{hasH, repaired, wrongBits}
-use Rattle.window.specs.Words.{fixedByte, wordAt}
+use Rattle.window.specs.Tests.{wordOf, holds21, holds22, holds23, holds24, holds25, holds26, lineRead, repairCount}
+use Rattle.word.specs.Received.{hasH, repaired}
+use Rattle.window.specs.Words.{wordAt}
 use Rattle.window.specs.Inside.Encoded.{Sendable}
 
 -- a test holds at all of n places
@@ -259,32 +259,6 @@ pub record WindowRules : Type 0 where
 pub record WindowLaws : Type 0 where
   -- there is one answer for a window
   pub delivered : (f : Format) (w : List ℕ) (r : Delivery) → readSpan f w ≡ given r → r ≡ deliveryOf f w
-  -- stream 1 has the words of a line m, and the line before m is answered (document 01, "A span"); all other streams have the same words
-  pub lineAnswered :
-      (f : Format) (w : List ℕ) (r : Delivery)
-      → IsFormat f
-      → readSpan f w ≡ given r
-      → (m : ℕ)
-      × (1 ≤ m)
-      × (m ≤ 1125)
-      × (word f w 1928 0 ≡ ln0 m)
-      × (word f w 1929 0 ≡ ln1 m)
-      × (deliveryOf f w .line .0 ≡ lineBefore m)
-  pub allStreams :
-      (f : Format) (w : List ℕ) (r : Delivery)
-      → IsFormat f
-      → readSpan f w ≡ given r
-      → (t : ℕ)
-      → t < streams (shapeOf f)
-      → (word f w 1928 t ≡ word f w 1928 0) × (word f w 1929 t ≡ word f w 1929 0)
-  -- the lost recital: a window with LN0 of line 128 and LN1 of line 127 is not read
-  pub recital :
-      (f : Format) (w : List ℕ) (r : Delivery)
-      → IsFormat f
-      → readSpan f w ≡ given r
-      → word f w 1928 0 ≡ ln0 128
-      → word f w 1929 0 ≡ ln1 127
-      → ⊥
   -- K28.5 is at its first two symbols and K29.7 at the first two of its EAV, and neither is anywhere else (004, 7.1)
   pub k28At :
       (f : Format) (w : List ℕ) (r : Delivery)
@@ -316,72 +290,8 @@ pub record WindowLaws : Type 0 where
       → (e : Disparity)
       → symbolAt w i ≡ symbolOf e (numberOf «K29_7»)
       → (eavAt (shapeOf f) ≤ i) × (i ≤ eavAt (shapeOf f) + 1)
-  -- the four bytes that are replaced in SAV and EAV are the same in every timing code, whatever V and H (7.1, figures 14 and 16)
-  pub fixedBytes :
-      (half : ℕ)
-      → 1 ≤ half
-      → (v h : Bool) (i : ℕ)
-      → i < 4
-      → getD (bytes (interleaved (2 * half) 4 (λ _. timingCode v h))) i 0 ≡ fixedByte (2 * half) i
   -- a sent span passes tests 21 to 26
   pub sentMeets : (f : Format) (a : Request) → Sendable f a → Meets f (wordIn (spanWords f a))
-  -- words that meet the rules name a line, which comes after one line,
-  pub lineNamed :
-      (f : Format) (word : ℕ → ℕ)
-      → IsFormat f
-      → Meets f word
-      → (m : ℕ) × (n : ℕ) × Names (wordsOf f word) m × Follows n m
-  -- and the encoding of such words, whoever made it, is read: as line n, with its content bytes and disparities, the wrong bits of all XYZ
-  -- together, and its picture words; no other window is read
-  pub exactIf :
-      (f : Format) (w : List ℕ) (d : Disparity) (c : ContentBytes) (words : List ℕ)
-      → IsFormat f
-      → Encodes f w d c words
-      → Meets f (wordIn words)
-      → (m n : ℕ)
-      → Names (wordsOf f (wordIn words)) m
-      → Follows n m
-      → let s = streams (shapeOf f) in
-      let word = wordsOf f (wordIn words) in
-      (readSpan f w
-      ≡ given (record {
-        line = record { 0 = n };
-        content = c;
-        before = d;
-        after = afterRun d (charsOf (shapeOf f) c words);
-        repairs = repairsOf (sumOf s (λ t. wrongBits (word 3 t) + wrongBits (word 1927 t)));
-      }))
-      × (pictureOf f w ≡ upto s (λ t. table 1920 (λ i. word (4 + i) t)))
-  pub exactOnlyIf :
-      (f : Format) (w : List ℕ) (r : Delivery)
-      → IsFormat f
-      → Symbols f (length w)
-      → readSpan f w ≡ given r
-      → (d : Disparity) × (c : ContentBytes) × (words : List ℕ) × Encodes f w d c words × Meets f (wordIn words)
-  -- the words read from such an encoding are the words encoded
-  pub wordsEncoded :
-      (f : Format) (w : List ℕ) (d : Disparity) (c : ContentBytes) (words : List ℕ)
-      → IsFormat f
-      → Encodes f w d c words
-      → Meets f (wordIn words)
-      → (k : ℕ)
-      → wordAt (shapeOf f) w k ≡ wordIn words k
-  -- the encoding of words that begin as a sent span does is refused at the first XYZ with two wrong bits, whatever stands behind it
-  pub beyondRepair :
-      (f : Format) (a : Request) (w : List ℕ) (d : Disparity) (c : ContentBytes) (words : List ℕ) (k : ℕ)
-      → IsFormat f
-      → Encodes f w d c words
-      → k < 2 * pairsIn (shapeOf f)
-      → IsXyz (k / streams (shapeOf f))
-      → DisturbedBefore f a words k
-      → wrongAt f a words k ≡ 2
-      → readSpan f w ≡ refused 21 k
-  -- a word that is near a legal timing word is repaired to it, and its wrong bits are those in which it differs
-  pub nearLegal :
-      (w x : ℕ)
-      → (x ≡ 0x800) ⊎ ((x ≡ 0x9D0) ⊎ ((x ≡ 0xAB0) ⊎ (x ≡ 0xB60)))
-      → distance w x ≤ 1
-      → (repaired w ≡ x) × (wrongBits w ≡ distance w x)
   -- a sent span with one of the ten bits of one symbol inverted is refused
   pub invertedRefused :
       (f : Format) (a : Request) (d : Disparity) (i k : ℕ)
@@ -399,12 +309,6 @@ pub record WindowLaws : Type 0 where
       → w
       ≡ symbolsFrom (startOf w)
       (charsOf (shapeOf f) (contentIn (shapeOf f) w) (table (2 * pairsIn (shapeOf f)) (wordAt (shapeOf f) w)))
-  -- a window that is read has the words of the span sent for its answer, but for XYZ, each with at most one wrong bit, and the ancillary area
-  pub strict :
-      (f : Format) (w : List ℕ) (r : Delivery)
-      → IsFormat f
-      → readSpan f w ≡ given r
-      → SentBut f (requestOf f r (pictureOf f w)) (wordAt (shapeOf f) w)
   -- if nothing was repaired, and the ancillary area and any blanking line are blank, the answer may be sent, and is sent as the same window
   pub sentAgain :
       (f : Format) (w : List ℕ) (r : Delivery)

@@ -1,6 +1,7 @@
 pub mod Encoded
 pub mod Inside
 pub mod Laws
+pub mod Paper
 pub mod Read
 pub mod Rules
 pub mod Scan

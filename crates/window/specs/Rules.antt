@@ -19,11 +19,6 @@ use Rattle.span.specs.declared.format.Format.{Format}
 use Rattle.span.specs.Encoding.{symbolsFrom}
 use Rattle.span.specs.Numbers.{Ancillary}
 
--- a test holds where a rule is met, and nowhere else
-pub record Reflects (test : Bool) (rule : Type 0) : Type 0 where
-  pub told : test ≡ true → rule
-  pub holds : rule → test ≡ true
-
 -- ---- the symbols
 
 -- the kind of character c at symbol i of a span of s streams: K28.5 at the first two, K29.7 at the first two of the EAV, else a byte

@@ -1,0 +1,56 @@
+-- Reading a span in document 01's own numbers, proved: each field cites the law that says it.
+-- Assumes nothing.
+use mathlib.Core.Path.{_≡_, sym, ap, _∙_, subst}
+use mathlib.Core.List.{List}
+use Prim.Native.Nat.{ℕ}
+use Rattle.line.specs.Stream.{lineBefore}
+use Rattle.span.specs.declared.format.Format.{Format}
+use Rattle.span.specs.Numbers.{IsFormat}
+use Rattle.window.proofs.Accepting.{accepted-told, delivers}
+use Rattle.window.proofs.Encoded.{fixed-bytes}
+use Rattle.window.proofs.Exact.{exact-read, exact-word, exact-only-if}
+use Rattle.window.proofs.Line.{line-answered, all-streams, recital}
+use Rattle.window.proofs.Nearest.{near-legal}
+use Rattle.window.proofs.Rules.{follows-before, some-line}
+use Rattle.window.proofs.SentAgain.{strict}
+use Rattle.window.proofs.TimingWords.{two-wrong}
+use Rattle.ground.specs.Answer.{given}
+use Rattle.word.specs.LineNumber.{ln0, ln1}
+use Rattle.word.specs.Word.{guarded}
+use Rattle.window.specs.declared.delivery.Delivery.{Delivery}
+use Rattle.window.specs.Read.{readSpan}
+use Rattle.window.specs.Rules.{Names, Follows}
+use Rattle.window.specs.Paper.{wordOfWindow, WindowPaper}
+use Rattle.window.proofs.Numbers.{is-format, is-long}
+
+-- the answer's line is the one before the line that stream 1 names
+answered-line : (f : Format) (w : List ℕ) (r : Delivery) → IsFormat f → readSpan f w ≡ given r
+    → (m : ℕ) × Names (wordOfWindow f w) m × Follows (r .line .0) m
+answered-line f w r k e =
+    let (m, from, to, low, high, line) = line-answered f w (is-format f k) (accepted-told f w r e) in
+    let same : r .line .0 ≡ lineBefore m = ap (λ (d : Delivery). d .line .0) (delivers f w r e) ∙ line in
+    (m, record { first = from; last = to; low = low; high = high }, subst (λ (n : ℕ). Follows n m) (sym same) (follows-before m from to))
+
+-- 800 and 800 are LN0 of line 128 and LN1 of line 127
+not-800 : (f : Format) (w : List ℕ) (r : Delivery) → IsFormat f → readSpan f w ≡ given r → wordOfWindow f w 1928 0 ≡ 0x800
+    → wordOfWindow f w 1929 0 ≡ 0x800 → ⊥
+unfolding ln0 ln1 guarded
+not-800 f w r k e = recital f w (is-format f k) (accepted-told f w r e)
+
+pub window-paper : WindowPaper
+window-paper = record {
+  lineAnswered = answered-line;
+  allStreams = λ f w r k e. all-streams f w (is-format f k) (accepted-told f w r e);
+  recital = not-800;
+  fixedBytes = fixed-bytes;
+  lineNamed =
+      λ f word k meets.
+      let (m, names) = some-line f (is-format f k) word (meets .lineNumber) in
+      (m, lineBefore m, names, follows-before m (names .first) (names .last));
+  exactIf = λ f w d c words k. exact-read f w (is-format f k) d c words;
+  exactOnlyIf = λ f w r k long. exact-only-if f w (is-format f k) (is-long f w long);
+  wordsEncoded = λ f w d c words k. exact-word f w (is-format f k) d c words;
+  beyondRepair = λ f a w d c words k known e h x before. two-wrong f a (is-format f known) words w d c e k x before h;
+  nearLegal = near-legal;
+  strict = λ f w r k e. strict f w (is-format f k) r e;
+}
