@@ -1,3 +1,4 @@
 pub mod Delivery
 pub mod Inside
 pub mod Marked
+pub mod Paper

@@ -39,6 +39,7 @@ use Rattle.window.proofs.Paper.{window-paper}
 use Rattle.window.proofs.RoundTrip.{round-trip, picture-back}
 use Rattle.window.proofs.TimingWords.{repaired-delivered}
 use Rattle.delivery.specs.Delivery.{Found}
+use Rattle.delivery.proofs.Paper.{delivery-paper}
 use Rattle.delivery.proofs.Finding.{untold, not-at-the-end, found-at, found-told, found-nowhere, nowhere-told, literally, stands-whole}
 use Rattle.recording.specs.Call.{findRows, findOf}
 use Rattle.recording.specs.Recording.{accepts, limit, Reading, reading, findFrom, deliveryFrom}
@@ -226,6 +227,7 @@ demand-3 = record {
   stepping = λ f r rows k p known short room inside enough.
       steps-are f (known-says f .holds known) r short k p rows (eqb-true _ _ (samples-say f known (length rows) .holds room)) inside enough;
   recordings = recording-paper;
+  deliveries = delivery-paper Sending Reading;
   anywhere = λ f x before behind sent short.
       let known = sendable f x sent .known in
       by-calls f (known-says f .told known) _ short _ (anywhere f known x sent before behind);

@@ -41,6 +41,7 @@ use Rattle.demands.proofs.Refusing.{known-says, symbols-say, samples-sa
 use Rattle.demands.proofs.Delivering.{nothing}
 use Rattle.demands.proofs.PictureBack.{length-picture}
 use Rattle.demands.proofs.Sendings.{sent-long}
+use Rattle.demands.proofs.WrongBits.{one-wrong, two-wrong}
 
 -- what a step that is not refused adds to the spans
 record Added (o : Option Spanned) (words : List ℕ) (more : List (Found Reading)) (e : Found Reading) (list : List (Found Reading)) : Type 0 where
@@ -364,6 +365,8 @@ module _ (f : Format) (n m : ℕ) (known : IsFormat f) (symbols : Symbols f n) (
     amongNoise = among-noise;
     oneOfThree = one-of-three;
     refused6 = refused-6;
+    repaired = λ d b h. one-wrong f m known d (sent-42 d) b h;
+    refused21 = λ d b c h l. two-wrong f m known d (sent-42 d) b c h l;
   }
 
 pub examples : Examples

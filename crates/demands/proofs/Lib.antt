@@ -5,3 +5,4 @@ pub mod Examples
 pub mod PictureBack
 pub mod Refusing
 pub mod Sendings
+pub mod WrongBits

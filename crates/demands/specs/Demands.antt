@@ -44,6 +44,7 @@ use Rattle.window.specs.Encoded.{requestOf, charsOf, AreContent, Encodes, IsXyz
 use Rattle.window.specs.Read.{repairsOf, pictureOf, readSpan, judgeOf, readOf, rowsRead}
 use Rattle.window.specs.Tests.{sumOf}
 use Rattle.delivery.specs.Delivery.{Found, foundFrom, movedBy, concatenated, placedFrom, Each}
+use Rattle.delivery.specs.Paper.{DeliveryPaper}
 use Rattle.delivery.specs.Marked.{AllAfter}
 use Rattle.recording.specs.declared.answer.Spanned.{Spanned}
 use Rattle.recording.specs.Call.{findOf, nextOf, afterNext, rowsNext}
@@ -284,7 +285,7 @@ pub record Demand2 : Type 0 where
 -- One format and depth at both ends, the recording within the finder's limit: a sent span that stands whole anywhere in it is delivered
 -- with its line number and exactly its picture words, whatever stands around it. In a recording of sent spans alone with one bit inverted,
 -- exactly the other spans are delivered, and nothing else is.
-pub record Demand3 : Type 0 where
+pub record Demand3 : Type 1 where
   -- the finder answers q if and only if q is at or after the start, the reader accepts there, and accepts at no place between
   pub foundIf :
       (f : Format) (r : List ℕ) (start q : ℕ)
@@ -345,6 +346,8 @@ pub record Demand3 : Type 0 where
       → stepsFrom k f r p rows ≡ deliveryFrom f r p
   -- a recording is as long as document 01 says, and what is read of a window is what the reader answers
   pub recordings : RecordingPaper
+  -- windows stand one after the other as one would say
+  pub deliveries : DeliveryPaper Sending Reading
   -- a sent span anywhere
   pub anywhere :
       (f : Format) (x : Sending) (before after : List ℕ)

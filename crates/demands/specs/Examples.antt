@@ -15,7 +15,12 @@ use Rattle.symbol.specs.declared.disparity.Disparity.{Disparity}
 use Rattle.symbol.specs.declared.disparity.Disparity.the-variants.{Negative}
 use Rattle.span.specs.declared.content.Content.the-variants.{NoneNamed}
 use Rattle.span.specs.declared.format.Format.{Format}
-use Rattle.span.specs.Format.{formatFrom}
+use Rattle.span.specs.Content.{contentOf}
+use Rattle.span.specs.Encoding.{symbolsFrom}
+use Rattle.span.specs.Format.{formatFrom, shapeOf, streams}
+use Rattle.span.specs.Span.{spanWords}
+use Rattle.window.specs.Encoded.{charsOf}
+use Rattle.window.specs.Read.{readSpan}
 use Rattle.span.specs.Length.{lengthsOf}
 use Rattle.span.specs.Numbers.{IsFormat, Symbols, Samples}
 use Rattle.window.specs.declared.delivery.Delivery.{Delivery}
@@ -47,6 +52,12 @@ pub record IsNext (f : Format) (r : List ℕ) (start room place line : ℕ) : Ty
   pub answer : nextOf f r start room ≡ given (some (record { place = place; delivery = delivery }))
   pub names : delivery .line .0 ≡ line
 
+-- the symbols of line 42 with another word for the XYZ of stream 1's SAV, no content bytes named
+abbrev pub withXyz : Format → ℕ → Disparity → ℕ → List ℕ
+withXyz f m d x =
+    let words = spanWords f (onLine42 f m d .asked) in
+    symbolsFrom d (charsOf (shapeOf f) (contentOf f NoneNamed) (set words (streams (shapeOf f) * 3 + 0) x))
+
 -- at format f, where a span has n symbols and m samples
 pub record At (f : Format) (n m : ℕ) : Type 0 where
   -- a row of the picture, and calls that were sent
@@ -72,6 +83,20 @@ pub record At (f : Format) (n m : ℕ) : Type 0 where
       → IsNext f (threeLines f m i k) 0 m 0 1
       × IsNext f (threeLines f m i k) n m (2 * n) 3
       × (nextOf f (threeLines f m i k) (3 * n) m ≡ given none)
+  -- XYZ of line 42's SAV is 800. With one bit inverted the span is read, with one repair, and with two it is refused with 21 there: word 3 of
+  -- stream 1, the seventh interleaved word of two streams and the thirteenth of four
+  pub repaired :
+      (d : Disparity) (b : ℕ)
+      → b < 12
+      → (v : Delivery)
+      × (readSpan f (withXyz f m d (inverted b 0x800)) ≡ given v)
+      × (v .line .0 ≡ 42)
+      × (v .repairs .count ≡ 1)
+  pub refused21 :
+      (d : Disparity) (b c : ℕ)
+      → b < c
+      → c < 12
+      → readSpan f (withXyz f m d (inverted b (inverted c 0x800))) ≡ refused 21 (streams (shapeOf f) * 3)
   -- sample 3, which may be sent at neither depth, is refused with 6 at its index, and the buffer stays as it was
   pub refused6 :
       (d : Disparity) (i : ℕ) (entry : List ℕ)

@@ -22,17 +22,17 @@ use Rattle.span.proofs.Encoding.{length-symbols, symbol-at}
 use Rattle.span.proofs.Lengths.{known-has-streams}
 use Rattle.window.specs.declared.delivery.Delivery.{Delivery}
 use Rattle.window.specs.Encoded.{charsOf, Encodes, wordIn, wordsOf, Meets}
-use Rattle.window.specs.Read.{contentIn, repairsOf, deliveryOf, pictureOf, readSpan}
+use Rattle.window.specs.Read.{contentIn, repairsOf, pictureOf, readSpan}
 use Rattle.window.specs.Rules.{Names, Follows}
 use Rattle.window.specs.Scan.{meant, byteOf, symbolAt, startOf}
 use Rattle.window.specs.Tests.{sumOf, repairCount, rows}
 use Rattle.window.specs.Words.{wordAt}
 use Rattle.word.specs.Received.{wrongBits}
 use Rattle.window.specs.Inside.Encoded.{Restored, Passes, answered}
-use Rattle.window.proofs.Accepting.{Accepted, is-accepted, accepted-told, passes-given}
+use Rattle.window.proofs.Accepting.{Accepted, accepted-told, passes-given}
 use Rattle.window.proofs.Bytes.{byte-sav, byte-eav, byte-else, word-below, byte-again}
 use Rattle.window.proofs.Characters.{replacing, length-chars, char-sav, char-eav, char-byte}
-use Rattle.window.proofs.Encoded.{encoded-word, restored-told, encoded-read, encoded-picture, passes-accepted}
+use Rattle.window.proofs.Encoded.{encoded-word, restored-told, encoded-read, encoded-picture}
 use Rattle.window.proofs.Placing.{four, each-place}
 use Rattle.window.proofs.Rules.{line-is, passes-meets, meets-passes}
 use Rattle.window.proofs.Specials.{symbol-read, k28-5-read, k29-7-read, byte-read}
@@ -145,10 +145,6 @@ module _ (f : Format) (w : List ℕ) (known : isKnown f ≡ true) (long : length
 -- ---- exactly the encodings of words that meet the rules are read
 
 module _ (f : Format) (w : List ℕ) (known : isKnown f ≡ true) where
-  pub exact-if : {d : Disparity} {c : ContentBytes} {words : List ℕ} → Encodes f w d c words → Meets f (wordIn words)
-      → (r : Delivery) × (readSpan f w ≡ given r)
-  exact-if {d} {c} {words} e m = (deliveryOf f w, is-accepted f w (passes-accepted f known w d c words e (meets-passes f known (wordIn words) m)))
-
   -- what is answered: the line before the one that stream 1 names, the content bytes and disparities of the encoding, the wrong bits of all
   -- XYZ together; and the picture words
   pub exact-read : (d : Disparity) (c : ContentBytes) (words : List ℕ) → Encodes f w d c words → Meets f (wordIn words)

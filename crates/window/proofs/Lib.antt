@@ -3,6 +3,7 @@ pub mod Areas
 pub mod Bytes
 pub mod Calls
 pub mod Characters
+pub mod Disturbing
 pub mod Encoded
 pub mod Exact
 pub mod Filling

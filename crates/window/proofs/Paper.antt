@@ -7,6 +7,9 @@ use Rattle.line.specs.Stream.{lineBefore}
 use Rattle.span.specs.declared.format.Format.{Format}
 use Rattle.span.specs.Numbers.{IsFormat}
 use Rattle.window.proofs.Accepting.{accepted-told, delivers}
+use native.Mathlib.Omega.{arith}
+use Rattle.span.proofs.Lengths.{known-has-streams}
+use Rattle.window.proofs.Disturbing.{one-other}
 use Rattle.window.proofs.Encoded.{fixed-bytes}
 use Rattle.window.proofs.Exact.{exact-read, exact-word, exact-only-if}
 use Rattle.window.proofs.Line.{line-answered, all-streams, recital}
@@ -39,6 +42,7 @@ not-800 f w r k e = recital f w (is-format f k) (accepted-told f w r e)
 
 pub window-paper : WindowPaper
 window-paper = record {
+  disturbed = λ f a t x k. one-other f a t x (omega (arith, known-has-streams f (is-format f k)));
   lineAnswered = answered-line;
   allStreams = λ f w r k e. all-streams f w (is-format f k) (accepted-told f w r e);
   recital = not-800;

@@ -6,7 +6,7 @@ use mathlib.Core.Path.{_≡_}
 use mathlib.Core.Bool.{Bool, not}
 use mathlib.Core.List.{List}
 use mathlib.Core.Logic.{_⊎_}
-use lib.ListN.{length, getD}
+use lib.ListN.{length, getD, set}
 use Rattle.ground.specs.Answer.{refused, given}
 use Rattle.ground.specs.Written.{upto, table}
 use Rattle.symbol.specs.declared.disparity.Disparity.{Disparity}
@@ -17,10 +17,10 @@ use Rattle.span.specs.declared.format.Format.{Format}
 use Rattle.span.specs.Encoding.{afterRun}
 use Rattle.span.specs.Format.{shapeOf, streams, pairsIn}
 use Rattle.span.specs.Numbers.{IsFormat, Symbols}
-use Rattle.span.specs.Span.{interleaved, bytes}
+use Rattle.span.specs.Span.{interleaved, bytes, spanWords}
 use Rattle.span.specs.Stream.{Request}
 use Rattle.window.specs.declared.delivery.Delivery.{Delivery}
-use Rattle.window.specs.Encoded.{charsOf, Encodes, wordIn, wordsOf, Meets, IsXyz, wrongAt, DisturbedBefore, requestOf, SentBut}
+use Rattle.window.specs.Encoded.{charsOf, Encodes, wordIn, wordsOf, Meets, IsXyz, Disturbed, wrongAt, DisturbedBefore, requestOf, SentBut}
 use Rattle.window.specs.Read.{repairsOf, pictureOf, readSpan}
 use Rattle.window.specs.Rules.{Names, Follows}
 use Rattle.window.specs.Tests.{sumOf}
@@ -91,6 +91,15 @@ pub record WindowPaper : Type 0 where
       → (x ≡ 0x800) ⊎ ((x ≡ 0x9D0) ⊎ ((x ≡ 0xAB0) ⊎ (x ≡ 0xB60)))
       → distance w x ≤ 1
       → (repaired w ≡ x) × (wrongBits w ≡ distance w x)
+  -- a sent span's words with another twelve-bit word for one XYZ of the SAV are such words, at every place and before every place
+  pub disturbed :
+      (f : Format) (a : Request) (t x : ℕ)
+      → IsFormat f
+      → ((k : ℕ) → k < 2 * pairsIn (shapeOf f) → wordIn (spanWords f a) k < 4096)
+      → t < streams (shapeOf f)
+      → x < 4096
+      → let words = set (spanWords f a) (streams (shapeOf f) * 3 + t) x in
+      Disturbed f a words × DisturbedBefore f a words (streams (shapeOf f) * 3 + t)
   -- ---- what a window has that is read
 
   -- stream 1 has the words of the line after the one that is answered, and every other stream has the same

@@ -167,13 +167,13 @@ nearest-none w vh h e = is-miss (near w) 4 (record { never = λ i _ l. lt-leb (d
 -- ---- wrong bits (004, 6.2)
 
 -- the distance says how many bits are wrong
-one-off : (k w : ℕ) → k < 12 → distance (inverted k w) w ≡ 1
+pub one-off : (k w : ℕ) → k < 12 → distance (inverted k w) w ≡ 1
 unfolding distance
 one-off k w l =
     ap (onesIn 12) (one-inverted k w)
     ∙ eqb-true (onesIn 12 (2 ^ k)) 1 (at-number 12 (λ k. eqb (onesIn 12 (2 ^ k)) 1) refl k l)
 
-two-off : (j k w : ℕ) → j < 12 → k < 12 → distance (inverted j (inverted k w)) w ≡ cond (eqb j k) 0 2
+pub two-off : (j k w : ℕ) → j < 12 → k < 12 → distance (inverted j (inverted k w)) w ≡ cond (eqb j k) 0 2
 unfolding distance _⊕_
 two-off j k w p q =
     let test : ℕ → ℕ → Bool = λ j k. eqb (onesIn 12 (2 ^ j ⊕ 2 ^ k)) (cond (eqb j k) 0 2) in

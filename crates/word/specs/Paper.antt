@@ -1,10 +1,12 @@
 -- The words of a stream in the papers' own numerals; `proofs/Paper` proves each.
 -- Assumes nothing.
-use Prim.Native.Nat.{ℕ, _-_, _*_, _/_, _%_, _≤_}
+use Prim.Native.Nat.{ℕ, _-_, _*_, _/_, _%_, _≤_, _<_}
 use mathlib.Core.Path.{_≡_}
 use mathlib.Core.List.{map}
 use Rattle.ground.specs.Answer.{refused}
+use Rattle.ground.specs.Bit.{inverted}
 use Rattle.word.specs.LineNumber.{ln0, ln1, namedOf}
+use Rattle.word.specs.Repair.{distance}
 use Rattle.word.specs.Values.{Value, values}
 
 pub record WordPaper : Type 0 where
@@ -15,3 +17,7 @@ pub record WordPaper : Type 0 where
   pub ln1Bits : (n : ℕ) → n ≤ 1125 → (ln1 n % 2048 ≡ n / 128 * 16) × (ln1 n / 2048 ≡ 1 - ln1 n / 1024 % 2)
   -- the lost recital: LN0 of line 128 is 800, LN1 of line 127 is 800, and 800 800 names no line
   pub recital : (ln0 128 ≡ 0x800) × (ln1 127 ≡ 0x800) × (namedOf 0x800 0x800 ≡ refused 22 0)
+  -- the distance is the number of bits in which two words differ: none, one inverted, two inverted
+  pub distanceNone : (w : ℕ) → distance w w ≡ 0
+  pub distanceOne : (k w : ℕ) → k < 12 → distance (inverted k w) w ≡ 1
+  pub distanceTwo : (j k w : ℕ) → j < k → k < 12 → distance (inverted j (inverted k w)) w ≡ 2
