@@ -5,9 +5,10 @@ use mathlib.Core.Bool.{Bool, true, false, cond, _&&_}
 use lib.Dec.{eqb}
 use Rattle.ground.specs.Range.{within}
 
--- the samples that may be sent at a depth, in bits
+-- the samples that may be sent at a depth, in bits. Every call refuses a depth that is neither 10 nor 12 before it asks; here, and in the two
+-- definitions below, such a depth is as twelve bits.
 abbrev pub allowedAtDepth : ℕ → ℕ → Bool
-allowedAtDepth depth x = cond (eqb depth 10) (within 4 1019 x) (cond (eqb depth 12) (within 16 4079 x) false)
+allowedAtDepth depth x = cond (eqb depth 10) (within 4 1019 x) (within 16 4079 x)
 
 -- 004, 6.1: at ten bits a sample is shifted left by two, the low bits zero; at twelve it is the word itself. A word has twelve bits, so
 -- only the low twelve count of a larger number, which may not be sent anyway
