@@ -159,7 +159,8 @@ typedef struct {
     brazulint_delivery delivery;
 } brazulint_next_answer;
 
-/* Finds a span and reads it into `rows` at once. Unless one is delivered the rows stay as they were. */
+/* Finds a span and reads it into `rows` at once. Look at `found` before you look at the rows: unless a span is delivered they stay as they
+ * were, so what an earlier call left there is still there and looks like a good row. */
 brazulint_next_answer brazulint_next(uint32_t format, uint32_t depth, const uint16_t *symbols, size_t symbol_count, uint64_t start,
                                      uint16_t *rows, size_t row_room);
 

@@ -1,4 +1,4 @@
--- One step of division (004, 5.3 and figure 7; document 01, "Dividing a picture"): an image is divided into four of half its lines and half
+-- One step of division (004, 5.3; document 01, "Dividing a picture"): an image is divided into four of half its lines and half
 -- its samples. Lines count from 1, samples from 0. The step does not depend on size, so it can be repeated.
 -- Assumes nothing.
 use Prim.Native.Nat.{ℕ, _+_, _-_, _*_, _/_, _%_}

@@ -43,7 +43,7 @@ wordsFromEav f a =
 unfoldable pub spanWords : Format → Request → List ℕ
 spanWords f a = wordsFromSav f a ++ wordsFromEav f a
 
--- 7.1, figure 13: two words give three bytes
+-- 7.1.1 and 7.1.2: two words give three bytes (figure 13, which gives the order, is missing from our copy: document 01, "A span")
 abbrev pub bytesListed : ThreeBytes → List ℕ
 bytesListed t = t .first ∷ t .second ∷ t .third ∷ []
 
@@ -52,7 +52,7 @@ bytes [] = []
 bytes (a ∷ []) = []
 bytes (a ∷ b ∷ words) = bytesListed (bytesOf a b) ++ bytes words
 
--- 7.1, figures 14 and 16: of the first four bytes of an interleaved timing code, two become special characters and two content bytes
+-- 7.1.1 and 7.1.2: of the first four bytes of an interleaved timing code, two become special characters and two content bytes
 abbrev pub synchronised : Special → ℕ → ℕ → List ℕ → List ℕ
 synchronised k content1 content2 code = numberOf k ∷ numberOf k ∷ content1 ∷ content2 ∷ drop 4 code
 

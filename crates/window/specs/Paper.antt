@@ -129,7 +129,7 @@ pub record WindowPaper : Type 0 where
       → IsFormat f
       → readSpan f w ≡ given r
       → SentBut f (requestOf f r (pictureOf f w)) (wordAt (shapeOf f) w)
-  -- the four bytes that are replaced in SAV and EAV are the same in every timing code, whatever V and H (7.1, figures 14 and 16)
+  -- the four bytes that are replaced in SAV and EAV are the same in every timing code, whatever V and H (7.1.1 and 7.1.2)
   pub fixedBytes :
       (half : ℕ)
       → 1 ≤ half

@@ -1,5 +1,5 @@
 -- The words of a window: bytes from its symbols, the replaced bytes of the timing codes at their fixed values, three bytes to two words
--- (document 01, "A span"; 004, 7.1, figures 13, 14 and 16).
+-- (document 01, "A span"; 004, 7.1.1 and 7.1.2).
 -- Assumes nothing.
 use Prim.Native.Nat.{ℕ, _+_, _-_, _*_, _/_, _%_}
 use mathlib.Core.Bool.{false, cond}

@@ -100,7 +100,8 @@ pub fn find(format: u32, depth: u32, symbols: &[u16], start: u64) -> FindAnswer 
     call!(brazulint_find(format, depth, symbols.as_ptr(), symbols.len(), start))
 }
 
-/// Finds a span and reads it into `rows` at once; continue from `resume`.
+/// Finds a span and reads it into `rows` at once; continue from `resume`. Look at `found` before you look at the rows: unless a span is
+/// delivered they stay as they were, so what an earlier call left there is still there and looks like a good row.
 pub fn next(format: u32, depth: u32, symbols: &[u16], start: u64, rows: &mut [u16]) -> NextAnswer {
     call!(brazulint_next(format, depth, symbols.as_ptr(), symbols.len(), start, rows.as_mut_ptr(), rows.len()))
 }
