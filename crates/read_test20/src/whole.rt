@@ -1,6 +1,7 @@
 // A window whose symbols are all valid (document 01, refusal 20): its rows, the CRC of each stream, and its disparities. Otherwise the
 // place of the first symbol that is not.
 use crcc::sums::Sums;
+use row_crc::sums::Summed;
 use span::format::Format;
 use span::format::Shape;
 use symbol::disparity::Disparity;
@@ -260,14 +261,17 @@ fn take_window(t: &[u16; 1024], p: Shape, symbols: &[u16], rows: &mut [u16]) -> 
         return fault_after(t, p, symbols, v.words, v.flips);
     }
     // Only for a valid window: nothing else pays for the CRCs.
-    let sums = row_crc::sums::sums_of_rows(rows);
-    Taken {
-        whole: e.whole,
-        place: symbols.len(),
-        filled: e.filled,
-        before: disparity_by(first),
-        after: disparity_by(e.flips),
-        sums,
+    match row_crc::sums::sums_of_rows(rows) {
+        Summed::Rows(sums) => Taken {
+            whole: e.whole,
+            place: symbols.len(),
+            filled: e.filled,
+            before: disparity_by(first),
+            after: disparity_by(e.flips),
+            sums,
+        },
+        // Not met: the rows have their format's length.
+        Summed::OtherLength => fault(0),
     }
 }
 

@@ -21,6 +21,7 @@ use Rattle.read_test20.proofs.whole.disparity_by.Reads as disparity-by-
 use Rattle.read_test20.proofs.whole.end_of.Reads as end-of-reads
 use Rattle.read_test20.proofs.whole.fault_after.Reads as fault-after-reads
 use Rattle.read_test20.proofs.whole.fault_somewhere.Reads as fault-somewhere-reads
+use Rattle.row_crc.proofs.Rows.{are-sums, no-other}
 use Rattle.row_crc.proofs.sums.sums_of_rows.Reads as sums-of-rows-reads
 use Rattle.read_test20.specs.Inside.Whole.{Tied}
 
@@ -154,36 +155,53 @@ returns-4 c =
 sums-of-rows-requires : tie.Need-sums-of-rows-requires
 sums-of-rows-requires c κs = search needs
 
+enum-known-sums : tie.Need-enum-known-sums
+enum-known-sums c = search needs
+
 disparity-by-requires : tie.Need-disparity-by-requires
 disparity-by-requires c κs = search needs
 
 disparity-by-requires-2 : tie.Need-disparity-by-requires-2
 disparity-by-requires-2 c κs = search needs
 
+enum-told : tie.Need-enum-told
+enum-told c = search needs
+
+fault-requires : tie.Need-fault-requires
+fault-requires c κs = search needs
+
 same-length-3 : tie.Need-same-length-3
 same-length-3 c = search needs
 
 returns-5 : tie.Need-returns-5
 returns-5 c =
-    let s = c .before .before .before .before .before .before .before .before .before .before .before .before .before .before .before .before .before .before .before .before .before in
+    let s = c .before .before .before .before .before .before .before .before .before .before .before .before .before .before .before .before .before .before .before .before .before .before .before .before in
     let w = s .args .symbols .now in
-    let right = sym (c .before .before .before .before .before .before .before .before .before .before .before .before .before .before .passes .ensures) ∙ not-false _ (c .before .before .before .before .before .before .before .before .before .before .before .before .before .if2 .left) in
-    let rights = sym (c .before .before .before .before .before .before .before .before .passes2 .ensures) ∙ not-false _ (c .before .before .before .before .before .before .before .if3 .left) in
-    let got = c .before .before .before .before .before .before .before .before .before .before .before .take-picture .ensures .1 .0 rights in
+    let right = sym (c .before .before .before .before .before .before .before .before .before .before .before .before .before .before .before .before .before .passes .ensures) ∙ not-false _ (c .before .before .before .before .before .before .before .before .before .before .before .before .before .before .before .before .if2 .left) in
+    let rights = sym (c .before .before .before .before .before .before .before .before .before .before .before .passes2 .ensures) ∙ not-false _ (c .before .before .before .before .before .before .before .before .before .before .if3 .left) in
+    let got = c .before .before .before .before .before .before .before .before .before .before .before .before .before .before .take-picture .ensures .1 .0 rights in
     let picture = picture-is (s .args .p) w (s .pre .0 .small .half) (s .pre .0 .half) (s .pre .1 .1) got in
-    let e = c .before .before .before .before .before .before .end-of .ensures in
-    let scanned = scanned-whole (s .args .p) w (c .before .before .before .before .before .before .before .before .before .before .before .before .before .before .before .before .before .before .after-sav .ensures .0 (c .before .before .before .before .before .before .before .before .before .before .before .before .before .before .before .before .before .if1 .left)) (c .before .before .before .before .before .before .before .before .before .before .before .before .before .before .before .see-run .ensures) right (got .clean) rights (e .0 (not-false _ (c .before .before .before .before .if4 .left))) in (
-      omega (arith, c .before .before .before .before .before .before .before .before .before .before .before .take-picture .ensures .0),
+    let e = c .before .before .before .before .before .before .before .before .before .end-of .ensures in
+    let scanned = scanned-whole (s .args .p) w (c .before .before .before .before .before .before .before .before .before .before .before .before .before .before .before .before .before .before .before .before .before .after-sav .ensures .0 (c .before .before .before .before .before .before .before .before .before .before .before .before .before .before .before .before .before .before .before .before .if1 .left)) (c .before .before .before .before .before .before .before .before .before .before .before .before .before .before .before .before .before .before .see-run .ensures) right (got .clean) rights (e .0 (not-false _ (c .before .before .before .before .before .before .before .if4 .left))) in (
+      omega (arith, c .before .before .before .before .before .before .before .before .before .before .before .before .before .before .take-picture .ensures .0),
       (
         λ t.
             record {
               scanned = rw (c .before .disparity-by .ensures, c .disparity-by2 .ensures) scanned;
-              sums = c .before .before .sums-of-rows .ensures ∙ sums-are (s .args .p) w picture (s .pre .0 .small .half) (s .pre .0 .half);
+              sums = are-sums _ (s .args .p .«stream_pairs») (s .pre .0 .half) (s .pre .0 .small .half) (sym (c .before .before .before .before .before .sums-of-rows .ensures) ∙ c .before .before .before .sums .given .1) (omega (arith, s .pre .1 .1, c .before .before .before .before .before .before .before .before .before .before .before .before .before .before .take-picture .ensures .0)) ∙ sums-are (s .args .p) w picture (s .pre .0 .small .half) (s .pre .0 .half);
               picture = picture;
             },
         (e .1 .0, (ap (λ (x : Scanned). x .place) scanned, e .1 .1)),
       ),
     )
+
+same-length-4 : tie.Need-same-length-4
+same-length-4 c = search needs
+
+returns-6 : tie.Need-returns-6
+returns-6 c =
+    let s = c .before .before .before .before .before .before .before .before .before .before .before .before .before .before .before .before .before .before .before .before .before .before in
+    no-other _ (s .args .p .«stream_pairs») (s .pre .0 .half) (s .pre .0 .small .half) (sym (c .before .before .before .sums-of-rows .ensures) ∙ c .before .enum-told .given .1) (omega (arith, s .pre .1 .1, c .before .before .before .before .before .before .before .before .before .before .before .before .take-picture .ensures .0))
 
 pub take-window-spec : {M : Type 1} → statement M
 take-window-spec =
@@ -207,7 +225,12 @@ take-window-spec =
     same-length-2
     returns-4
     sums-of-rows-requires
+    enum-known-sums
     disparity-by-requires
     disparity-by-requires-2
+    enum-told
+    fault-requires
     same-length-3
-    returns-5)
+    returns-5
+    same-length-4
+    returns-6)
