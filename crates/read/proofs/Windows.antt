@@ -8,9 +8,9 @@ use mathlib.Core.Option.{Option, none, some, Option·getD}
 use Prim.Native.Nat.{ℕ, _≤_, _<_}
 use native.Mathlib.Nat.{eq-or-lt-of-le}
 use native.Mathlib.Omega.{arith}
-use lib.ListN.{length, take, replicate}
+use lib.ListN.{length, replicate}
 use borrow.Author.Tests.{eq-eqb, lt-ltb, le-ltb}
-use Rattle.ground.specs.Answer.{Answer, refused, given}
+use Rattle.ground.specs.Answer.{Answer, Row, refused}
 use Rattle.ground.specs.Search.{firstBelow}
 use Rattle.ground.proofs.Searches.{hit}
 use Rattle.span.specs.declared.format.Format.{Format}
@@ -19,7 +19,10 @@ use Rattle.span.specs.Format.{shapeOf, streams, samplesIn, symbolsIn}
 use Rattle.span.proofs.Formats.{small}
 use Rattle.span.proofs.Lengths.{known-has-streams}
 use Rattle.read_test21_26.specs.declared.call.Service.{Service}
+use Rattle.read_test21_26.specs.declared.call.Judged.{Judged}
+use Rattle.read_test21_26.specs.declared.service.Fault.{Fault}
 use Rattle.read_test21_26.specs.declared.service.Verdict.{Verdict}
+use Rattle.read_test21_26.specs.declared.service.Verdict.the-variants.{AllHold, Fails}
 use Rattle.read_test20.specs.declared.place.Scanned.{Scanned}
 use Rattle.window.specs.declared.delivery.Delivery.{Delivery}
 use Rattle.crcc.specs.declared.sums.Sums.{Sums}
@@ -31,13 +34,14 @@ use Rattle.window.specs.Inside.Columns.{sumsOf}
 use Rattle.window.specs.Inside.Fill.{fillRight}
 use Rattle.read_test20.specs.Inside.Run.{place20, scannedOf}
 use Rattle.read_test20.specs.Inside.Whole.{wholeIf, placeIf20}
-use Rattle.read_test21_26.specs.Inside.Call.{place25, place26, serviceOf, serviceIf, placeIf}
+use Rattle.read_test21_26.specs.Inside.Call.{serviceOf, judgedBy, serviceIf, lowestOf, lowestIf}
 use Rattle.read_test21_26.specs.Inside.Fill.{fillIf}
-use Rattle.read_test21_26.specs.Inside.Verdict.{firstRow, serviceTests}
+use Rattle.read_test21_26.specs.Inside.Verdict.{firstRow}
 use Rattle.window.specs.Inside.Window.{IsWindow}
 use Rattle.window.proofs.Windows.{long, read-is}
+use Rattle.read.specs.Inside.Picture.{lineTests, pictureTests, wrongAt}
 use Rattle.read.proofs.Summing.{sums-right}
-use Rattle.read.proofs.Verdicts.{given-by, refused-by}
+use Rattle.read.proofs.Verdicts.{answerBy, checked-by, thenBy, then-by, in-range}
 
 -- the place of test 20 is no further than the end
 pub place-most : (p : Shape) (w : List ℕ) → place20 p w ≤ length w
@@ -58,20 +62,17 @@ module _ (f : Format) (w : List ℕ) (is : IsWindow f w) where
   unfolding pictureOf
   is-picture e = e
 
-  pub service-is : {r : Service} {c : Sums} → c ≡ sumsOf (shapeOf f) w → r ≡ serviceIf f w c
-      → r ≡ serviceOf (shapeOf f) w (sumsOf (shapeOf f) w)
-  service-is sums answer = answer ∙ rw (sums, is .known, long)
-
-  pub tests-are : firstRow (serviceTests (shapeOf f) w (sumsOf (shapeOf f) w)) ≡ firstRow (take 4 (wordTests f word))
-  tests-are =
+  pub judged-is : {r : Judged} {c : Sums} → c ≡ sumsOf (shapeOf f) w → r ≡ serviceIf f w c
+      → r ≡ judgedBy (firstRow (lineTests f w)) (serviceOf (shapeOf f) w)
+  judged-is sums answer =
       let p = shapeOf f in
-      ap firstRow (sums-right p w (known-has-streams f (is .known)) (small f refl .half) f refl)
+      answer
+      ∙ rw (sums, is .known, long)
+      (ap (λ (rs : List Row). judgedBy (firstRow rs) (serviceOf p w))
+      (sums-right p w (known-has-streams f (is .known)) (small f refl .half) f refl))
 
-  pub place-25 : placeIf 25 f w ≡ place25 f w
-  place-25 = rw (is .known, long)
-
-  pub place-26 : placeIf 26 f w ≡ place26 f w
-  place-26 = rw (is .known, long)
+  pub lowest-is : (number : ℕ) → lowestIf number f w ≡ lowestOf (wrongAt number f w)
+  lowest-is number = rw (is .known, long)
 
   pub fill-is : fillIf f w ≡ fillRight (shapeOf f) w
   fill-is = rw (is .known, long)
@@ -115,14 +116,21 @@ module _ (f : Format) (w : List ℕ) (is : IsWindow f w) where
   unfolding readSpan
   read-20 h = rw (some-20 h)
 
-  module _ {v : Verdict} (all : place20 (shapeOf f) w ≡ length w) (e : v ≡ firstRow (wordTests f word)) where
-    pub read-refused : (v .number ≡ 0 → ⊥) → readSpan f w ≡ refused (v .number) (v .place)
-    unfolding readSpan
-    read-refused x = rw (none-20 all, e) (refused-by (deliveryOf f w) (wordTests f word) (rw e at x))
+  pub read-by : {v : Verdict} → place20 (shapeOf f) w ≡ length w → firstRow (wordTests f word) ≡ v → readSpan f w ≡ answerBy v (deliveryOf f w)
+  unfolding readSpan
+  read-by all e =
+      rw (none-20 all) (checked-by (deliveryOf f w) (wordTests f word) ∙ ap (λ (v : Verdict). answerBy v (deliveryOf f w)) e)
 
-    pub read-given : v .number ≡ 0 → readSpan f w ≡ given (deliveryOf f w)
-    unfolding readSpan
-    read-given q = rw (none-20 all) (given-by 21 26 (deliveryOf f w) (wordTests f word) (omega arith) refl (rw e at q))
+  -- tests 21 to 24, and then the others
+  pub first-fails : {x : Fault} → firstRow (lineTests f w) ≡ Fails x → firstRow (wordTests f word) ≡ Fails x
+  first-fails e = then-by (lineTests f w) (pictureTests f w) ∙ ap (λ (v : Verdict). thenBy v (firstRow (pictureTests f w))) e
+
+  pub first-hold : firstRow (lineTests f w) ≡ AllHold → firstRow (wordTests f word) ≡ firstRow (pictureTests f w)
+  first-hold e = then-by (lineTests f w) (pictureTests f w) ∙ ap (λ (v : Verdict). thenBy v (firstRow (pictureTests f w))) e
+
+  -- the number of one that fails
+  pub met-range : {x : Fault} → firstRow (wordTests f word) ≡ Fails x → (20 ≤ x .number) × (x .number ≤ 26)
+  met-range e = let b = in-range 21 26 (wordTests f word) refl e in (omega (arith, b .0), b .1)
 
 -- ---- the rows afterwards
 module _ {number place : ℕ} (f : Format) (w entry made : List ℕ) (e : readSpan f w ≡ refused number place) where
@@ -135,7 +143,7 @@ module _ (f : Format) (w : List ℕ) (is : IsWindow f w) (scanned : Scanned) (do
   pub held-20 : place20 (shapeOf f) w ≡ length w
   held-20 = sym (ap (λ (s : Scanned). s .place) done) ∙ all
 
-  pub delivery-is : (service : Service) (c : Sums) → service ≡ serviceOf (shapeOf f) w c
+  pub delivery-is : (service : Service) → service ≡ serviceOf (shapeOf f) w
       → record {
         line = service .line;
         content = service .content;
@@ -145,7 +153,7 @@ module _ (f : Format) (w : List ℕ) (is : IsWindow f w) (scanned : Scanned) (do
       }
       ≡ deliveryOf f w
   unfolding deliveryOf
-  delivery-is service c e =
+  delivery-is service e =
       let before : scanned .before ≡ startOf w = ap (λ (s : Scanned). s .before) done in
       let after : scanned .after ≡ runningAt w (symbolsIn (shapeOf f)) =
       ap (λ (s : Scanned). s .after) done ∙ ap (runningAt w) (held-20 ∙ is .long) in

@@ -1,5 +1,7 @@
 // Tests 25 and 26. The lowest place is searched for only if there is one.
 use line::stream::StreamLine;
+use read_test21_26::call::Lowest;
+use read_test21_26::service::Fault;
 use read_test21_26::service::Verdict;
 use span::format::Format;
 ghost use mathlib.Core.Path.{_≡_};
@@ -9,9 +11,10 @@ ghost use Rattle.window.specs.Read.{pictureOf};
 ghost use Rattle.window.specs.Tests.{lineRead};
 ghost use Rattle.window.specs.Words.{wordAt};
 ghost use Rattle.window.specs.Inside.Fill.{fillRight};
-ghost use Rattle.read_test21_26.specs.Inside.Verdict.{firstRow};
+ghost use Rattle.read_test21_26.specs.declared.service.Verdict.the-variants.{AllHold};
+ghost use Rattle.read_test21_26.specs.Inside.Verdict.{verdictOf, firstRow};
 ghost use Rattle.window.specs.Inside.Window.{IsWindow};
-ghost use Rattle.read.specs.Inside.Picture.{pictureTests, rightPicture};
+ghost use Rattle.read.specs.Inside.Picture.{pictureTests, wrongAt, rightPicture};
 
 // Whether every word of the picture may be a sample's; on a blanking line any word may.
 fn picture_is_right(f: Format, line: StreamLine, rows: &[u16]) -> bool
@@ -35,6 +38,18 @@ fn fill_is_right(f: Format, symbols: &[u16], filled: bool) -> bool
     read_test21_26::fill::fill_is_right(f, symbols)
 }
 
+// A test whose lowest place is searched for. The lengths were judged before, so it is a window.
+fn verdict_at(number: u8, f: Format, symbols: &[u16]) -> Verdict
+    requires { ⌜ IsWindow f (now symbols) ⌝ }
+    ensures { λ r. ⌜ r ≡ verdictOf number (wrongAt number f (now (symbols .entry))) AllHold ⌝ }
+{
+    match read_test21_26::call::lowest_place(number, f, symbols) {
+        Lowest::Place(place) => Verdict::Fails(Fault { number, place }),
+        Lowest::NoneWrong => Verdict::AllHold,
+        Lowest::NoWindow => Verdict::AllHold,
+    }
+}
+
 // The first of the two that does not hold.
 pub(crate) fn judge_picture(
     f: Format,
@@ -51,18 +66,9 @@ pub(crate) fn judge_picture(
 {
     if picture_is_right(f, line, rows) {
         if fill_is_right(f, symbols, filled) {
-            return Verdict {
-                number: 0,
-                place: 0,
-            };
+            return Verdict::AllHold;
         }
-        return Verdict {
-            number: 26,
-            place: read_test21_26::call::lowest_place(26, f, symbols),
-        };
+        return verdict_at(26, f, symbols);
     }
-    Verdict {
-        number: 25,
-        place: read_test21_26::call::lowest_place(25, f, symbols),
-    }
+    verdict_at(25, f, symbols)
 }

@@ -2,6 +2,7 @@
 use crate::answer::Read;
 use crcc::sums::Sums;
 use read_test20::place::Scanned;
+use read_test21_26::call::Judged;
 use read_test21_26::call::Service;
 use read_test21_26::service::Verdict;
 use span::format::Format;
@@ -12,14 +13,15 @@ ghost use mathlib.Core.List.{List};
 ghost use lib.ListN.{length, replicate};
 ghost use Rattle.ground.specs.Answer.{refused};
 ghost use Rattle.span.specs.Format.{shapeOf, samplesIn};
-ghost use Rattle.window.specs.Read.{wordTests, pictureOf, readSpan, judgeOf, readOf, rowsLeft, rowsRead};
-ghost use Rattle.window.specs.Words.{wordAt};
+ghost use Rattle.window.specs.Read.{pictureOf, readSpan, judgeOf, readOf, rowsLeft, rowsRead};
 ghost use Rattle.window.specs.Inside.Columns.{sumsOf};
 ghost use Rattle.window.specs.Inside.Fill.{fillRight};
 ghost use Rattle.read_test20.specs.Inside.Run.{scannedOf};
+ghost use Rattle.read_test21_26.specs.declared.service.Verdict.the-variants.{AllHold};
 ghost use Rattle.read_test21_26.specs.Inside.Call.{serviceOf};
 ghost use Rattle.read_test21_26.specs.Inside.Verdict.{firstRow};
 ghost use Rattle.read.specs.Call.{paperRead};
+ghost use Rattle.read.specs.Inside.Picture.{lineTests};
 ghost use Rattle.window.specs.Inside.Window.{IsWindow};
 
 // A refused span: its rows are all zero.
@@ -33,22 +35,32 @@ fn refuse(number: u8, place: usize, rows: &mut [u16]) -> Read
     crate::answer::refusal(number, place)
 }
 
-// Tests 21 to 26 of a window, with its picture in rows.
-fn judge_words(f: Format, symbols: &[u16], service: Service, filled: bool, rows: &[u16]) -> Verdict
+// A window for which tests 20 to 24 hold, with its picture in rows: what it delivers, and its rows, which are zero if 25 or 26 does not hold.
+fn read_picture(
+    f: Format,
+    symbols: &[u16],
+    scanned: Scanned,
+    service: Service,
+    filled: bool,
+    rows: &mut [u16],
+) -> Read
     requires { ⌜ IsWindow f (now symbols) ⌝ }
-    requires { ⌜ service ≡ serviceOf (shapeOf f) (now symbols) (sumsOf (shapeOf f) (now symbols)) ⌝ }
+    requires { ⌜ scanned ≡ scannedOf (shapeOf f) (now symbols) ⌝ }
+    requires { ⌜ scanned .place ≡ length (now symbols) ⌝ }
+    requires { ⌜ service ≡ serviceOf (shapeOf f) (now symbols) ⌝ }
+    requires { ⌜ firstRow (lineTests f (now symbols)) ≡ AllHold ⌝ }
     requires { ⌜ (filled ≡ true → fillRight (shapeOf f) (now symbols) ≡ true) ⌝ }
     requires { ⌜ now rows ≡ pictureOf f (now symbols) ⌝ }
-    ensures { λ r. ⌜ r ≡ firstRow (wordTests f (wordAt (shapeOf f) (now (symbols .entry)))) ⌝ }
+    ensures answer { λ r. ⌜ paperRead r ≡ readSpan f (now (symbols .entry)) ⌝ }
+    ensures rows { λ _. ⌜ ((room : List ℕ) → length room ≡ length (now (rows .entry)) → now (rows .exit) ≡ rowsLeft (readSpan f (now (symbols .entry))) room (pictureOf f (now (symbols .entry)))) ⌝ }
 {
-    let first = service.verdict;
-    if first.number != 0 {
-        return first;
+    match crate::picture::judge_picture(f, symbols, service.line, filled, rows) {
+        Verdict::AllHold => Read::Delivered(crate::delivery::delivery(scanned, service)),
+        Verdict::Fails(x) => refuse(x.number, x.place, rows),
     }
-    crate::picture::judge_picture(f, symbols, service.line, filled, rows)
 }
 
-// A window for which test 20 holds, with its picture in rows: what it delivers, and its rows, which are zero if another test does not hold.
+// The same for a window for which test 20 holds.
 fn read_words(
     f: Format,
     symbols: &[u16],
@@ -66,12 +78,12 @@ fn read_words(
     ensures answer { λ r. ⌜ paperRead r ≡ readSpan f (now (symbols .entry)) ⌝ }
     ensures rows { λ _. ⌜ ((room : List ℕ) → length room ≡ length (now (rows .entry)) → now (rows .exit) ≡ rowsLeft (readSpan f (now (symbols .entry))) room (pictureOf f (now (symbols .entry)))) ⌝ }
 {
-    let service = read_test21_26::call::service_of(f, symbols, c);
-    let verdict = judge_words(f, symbols, service, filled, rows);
-    if verdict.number != 0 {
-        return refuse(verdict.number, verdict.place, rows);
+    match read_test21_26::call::service_of(f, symbols, c) {
+        Judged::Serves(service) => read_picture(f, symbols, scanned, service, filled, rows),
+        Judged::Refused(x) => refuse(x.number, x.place, rows),
+        // Not met: the lengths were judged before.
+        Judged::NoWindow => Read::WrongInput,
     }
-    Read::Delivered(crate::delivery::delivery(scanned, service))
 }
 
 // A window, into rows of its format's length.
