@@ -1,11 +1,10 @@
-// Tests 25 and 26. The lowest place is searched for only if there is one.
+// Tests 25 and 26. The lowest place is searched for only if there is one; whether the fill is right is known from test 20's pass.
 use line::stream::StreamLine;
 use read_test21_26::call::Lowest;
 use read_test21_26::service::Fault;
 use read_test21_26::service::Verdict;
 use span::format::Format;
 ghost use mathlib.Core.Path.{_≡_};
-ghost use mathlib.Core.Bool.{true};
 ghost use Rattle.span.specs.Format.{shapeOf, streams};
 ghost use Rattle.window.specs.Read.{pictureOf};
 ghost use Rattle.window.specs.Tests.{lineRead};
@@ -24,18 +23,6 @@ fn picture_is_right(f: Format, line: StreamLine, rows: &[u16]) -> bool
         return read_test21_26::picture::all_allowed(span::format::depth_of(f), rows);
     }
     true
-}
-
-// Whether every fill word is 100, which may already be known.
-fn fill_is_right(f: Format, symbols: &[u16], filled: bool) -> bool
-    requires { ⌜ IsWindow f (now symbols) ⌝ }
-    requires { ⌜ (filled ≡ true → fillRight (shapeOf f) (now symbols) ≡ true) ⌝ }
-    ensures { λ r. ⌜ r ≡ fillRight (shapeOf f) (now (symbols .entry)) ⌝ }
-{
-    if filled {
-        return true;
-    }
-    read_test21_26::fill::fill_is_right(f, symbols)
 }
 
 // A test whose lowest place is searched for. The lengths were judged before, so it is a window.
@@ -60,12 +47,12 @@ pub(crate) fn judge_picture(
 ) -> Verdict
     requires { ⌜ IsWindow f (now symbols) ⌝ }
     requires { ⌜ line .0 ≡ lineRead (streams (shapeOf f)) (wordAt (shapeOf f) (now symbols)) ⌝ }
-    requires { ⌜ (filled ≡ true → fillRight (shapeOf f) (now symbols) ≡ true) ⌝ }
+    requires { ⌜ filled ≡ fillRight (shapeOf f) (now symbols) ⌝ }
     requires { ⌜ now rows ≡ pictureOf f (now symbols) ⌝ }
     ensures { λ r. ⌜ r ≡ firstRow (pictureTests f (now (symbols .entry))) ⌝ }
 {
     if picture_is_right(f, line, rows) {
-        if fill_is_right(f, symbols, filled) {
+        if filled {
             return Verdict::AllHold;
         }
         return verdict_at(26, f, symbols);

@@ -10,34 +10,30 @@ use Rattle.read.proofs.picture.judge_picture.Statement.{statement}
 use Rattle.read.proofs.picture.judge_picture.Tie as tie
 use Rattle.read.proofs.picture.judge_picture.Reads as reads
 use Rattle.read.proofs.picture.judge_picture.Lts as lts
-use Rattle.read.proofs.picture.fill_is_right.Reads as fill-is-right-reads
 use Rattle.read.proofs.picture.picture_is_right.Reads as picture-is-right-reads
 
 picture-is-right-requires : tie.Need-picture-is-right-requires
 picture-is-right-requires c κs = search needs
 
-fill-is-right-requires : tie.Need-fill-is-right-requires
-fill-is-right-requires c κs = search needs
-
 returns : tie.Need-returns
 returns c =
-    let s = c .before .before .before .before .before .before in
+    let s = c .before .before .before .before .before in
     let a = s .args in
     let right =
     sym (ap₂ (λ (n : ℕ) (l : List ℕ). rightPicture (a .f) n l) (s .pre .1 .0) (s .pre .1 .1 .1))
-    ∙ sym (c .before .before .before .picture-is-right .ensures) ∙ c .before .before .if1 .taken in
-    both-hold (a .f) (a .symbols .now) (s .pre .0) right (sym (c .before .fill-is-right .ensures) ∙ c .if2 .taken)
+    ∙ sym (c .before .before .picture-is-right .ensures) ∙ c .before .if1 .taken in
+    both-hold (a .f) (a .symbols .now) (s .pre .0) right (sym (s .pre .1 .1 .0) ∙ c .if2 .taken)
 
 verdict-at-requires : tie.Need-verdict-at-requires
 verdict-at-requires c κs = search needs
 
 returns-2 : tie.Need-returns-2
 returns-2 c =
-    let s = c .before .before .before .before .before .before .before in
+    let s = c .before .before .before .before .before .before in
     let a = s .args in
     let right =
     sym (ap₂ (λ (n : ℕ) (l : List ℕ). rightPicture (a .f) n l) (s .pre .1 .0) (s .pre .1 .1 .1))
-    ∙ sym (c .before .before .before .before .picture-is-right .ensures) ∙ c .before .before .before .if1 .taken in
+    ∙ sym (c .before .before .before .picture-is-right .ensures) ∙ c .before .before .if1 .taken in
     fill-fails (a .f) (a .symbols .now) (s .pre .0) right (c .verdict-at .ensures)
 
 verdict-at-requires-2 : tie.Need-verdict-at-requires-2
@@ -57,7 +53,6 @@ judge-picture-spec =
     tie.close
     (tie.spec
     picture-is-right-requires
-    fill-is-right-requires
     returns
     verdict-at-requires
     returns-2
