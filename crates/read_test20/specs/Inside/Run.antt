@@ -43,10 +43,10 @@ unfoldable pub place20 : Shape → List ℕ → ℕ
 place20 p w = Option·getD (firstBelow (length w) (λ i. not (holds20 p w i))) (length w)
 
 -- it, and the disparities before the window and there
-pub record Scanned : Type 0 where
+pub record Walked : Type 0 where
   pub place : ℕ
   pub before : Disparity
   pub after : Disparity
 
-abbrev pub scannedOf : Shape → List ℕ → Scanned
-scannedOf p w = record { place = place20 p w; before = startOf w; after = runningAt w (place20 p w) }
+abbrev pub walkedOf : Shape → List ℕ → Walked
+walkedOf p w = record { place = place20 p w; before = startOf w; after = runningAt w (place20 p w) }

@@ -24,7 +24,7 @@ use Rattle.read_test20.proofs.whole.fault_after.Reads as fault-after-re
 use Rattle.read_test20.proofs.whole.fault_somewhere.Reads as fault-somewhere-reads
 use Rattle.row_crc.proofs.Rows.{are-sums, no-other}
 use Rattle.row_crc.proofs.sums.sums_of_rows.Reads as sums-of-rows-reads
-use Rattle.read_test20.specs.Inside.Run.{Scanned}
+use Rattle.read_test20.specs.Inside.Run.{Walked}
 use Rattle.read_test20.specs.Inside.Whole.{AllHold, Tied}
 
 after-sav-requires : tie.Need-after-sav-requires
@@ -165,10 +165,10 @@ returns-5 c =
     let picture = picture-is (s .args .p) w (s .pre .0 .small .half) (s .pre .0 .half) (s .pre .1 .1) got in
     let e = c .before .before .before .before .before .before .before .before .before .end-of .ensures in
     let scanned = scanned-whole (s .args .p) w (c .before .before .before .before .before .before .before .before .before .before .before .before .before .before .before .before .before .before .before .before .before .after-sav .ensures .0 (c .before .before .before .before .before .before .before .before .before .before .before .before .before .before .before .before .before .before .before .before .if1 .left)) (c .before .before .before .before .before .before .before .before .before .before .before .before .before .before .before .before .before .before .see-run .ensures) right (got .clean) rights (e .0 (not-false _ (c .before .before .before .before .before .before .before .if4 .left))) in
-    let all = sym (ap (λ (x : Scanned). x .place) scanned) in
+    let all = sym (ap (λ (x : Walked). x .place) scanned) in
     let filled = e .1 .0 (not-false _ (c .before .before .before .before .before .before .before .if4 .left)) in
-    let before = c .before .disparity-by .ensures ∙ ap (λ (x : Scanned). x .before) scanned in
-    let after = c .disparity-by2 .ensures ∙ ap (λ (x : Scanned). x .after) scanned in
+    let before = c .before .disparity-by .ensures ∙ ap (λ (x : Walked). x .before) scanned in
+    let after = c .disparity-by2 .ensures ∙ ap (λ (x : Walked). x .after) scanned in
     let sums =
     are-sums _ (s .args .p .«stream_pairs») (s .pre .0 .half) (s .pre .0 .small .half) (sym (c .before .before .before .before .before .sums-of-rows .ensures) ∙ c .before .before .before .sums .given .1) (omega (arith, s .pre .1 .1, c .before .before .before .before .before .before .before .before .before .before .before .before .before .before .take-picture .ensures .0))
     ∙ sums-are (s .args .p) w picture (s .pre .0 .small .half) (s .pre .0 .half) in
