@@ -3,7 +3,7 @@
 use mathlib.Core.Path.{_≡_, refl, sym, ap, _∙_, fun-ext}
 use mathlib.Core.Bool.{Bool, true, false, true≢false, not}
 use mathlib.Core.List.{List, [], _∷_}
-use mathlib.Core.Option.{Option, none, some, Option·getD}
+use mathlib.Core.Option.{Option, none, some}
 use Prim.Native.Nat.{ℕ, zero, suc, _+_, _-_, _*_, _/_, _%_, _≤_, _<_}
 use native.Mathlib.Nat.{le-of-suc-le-suc, not-suc-le-zero, mul-le-mul-left, div-add-mod}
 use native.Mathlib.Omega.{arith}
@@ -31,10 +31,12 @@ use Rattle.window.specs.Words.{wordAt}
 use Rattle.window.specs.Inside.Fill.{fillRight}
 use Rattle.window.proofs.Accepting.{none-fails, fails-at}
 use Rattle.window.proofs.Placing.{place-again, stream-below, placed-at}
-use Rattle.read_test21_26.specs.Inside.Call.{place25, place26}
+use Rattle.read_test21_26.specs.Inside.Call.{wrong25, wrong26}
 use Rattle.read_test21_26.specs.Inside.Holds.{picture25, fill26, wrongIn}
 use Rattle.read_test21_26.specs.Inside.Picture.{allAllowed}
-use Rattle.read_test21_26.specs.Inside.Verdict.{firstRow}
+use Rattle.read_test21_26.specs.declared.service.Verdict.{Verdict}
+use Rattle.read_test21_26.specs.declared.service.Verdict.the-variants.{AllHold}
+use Rattle.read_test21_26.specs.Inside.Verdict.{verdictOf, firstRow}
 use Rattle.window.specs.Inside.Window.{IsWindow}
 use Rattle.window.proofs.Windows.{length-rows}
 use Rattle.read.specs.Inside.Picture.{pictureTests, rightPicture}
@@ -157,10 +159,10 @@ module _ (f : Format) (w : List ℕ) (is : IsWindow f w) where
       high-place i t l b =
           let m : s * (5 + i) ≤ s * eavStart = mul-le-mul-left s (let h : 5 + i ≤ eavStart = omega arith in h) in omega (arith, m)
 
-  -- what a search that finds something answers
-  found-some : (o : Option ℕ) (to : ℕ) → (o ≡ none → ⊥) → o ≡ some (Option·getD o to)
-  found-some none to x = absurd (x refl)
-  found-some (some k) to x = refl
+  -- the verdict of a search that finds something, whatever follows
+  found-some : (number : ℕ) (rest : Verdict) (o : Option ℕ) → (o ≡ none → ⊥) → verdictOf number o AllHold ≡ verdictOf number o rest
+  found-some number rest none x = absurd (x refl)
+  found-some number rest (some k) x = refl
 
   -- a word of the picture stands among its places, and the other way round
   outside-25 : (k : ℕ) → (pictureStart * s ≤ k → eavStart * s ≤ k) → placed s (holds25 s word f) k ≡ true
@@ -192,13 +194,14 @@ module _ (f : Format) (w : List ℕ) (is : IsWindow f w) where
   unfolding pictureOf
   right-25 t = on-test (isActive (lineRead s word)) (λ a. active-25 a ∙ words-allowed (rw a at t)) blank-25
 
-  pub wrong-25 : rightPicture f (lineRead s word) (pictureOf f w) ≡ false → fails25 ≡ some (place25 f w)
-  unfolding pictureOf place25
-  wrong-25 t =
+  pub wrong-25 : (rest : Verdict) → rightPicture f (lineRead s word) (pictureOf f w) ≡ false
+      → verdictOf 25 (wrong25 f w) AllHold ≡ verdictOf 25 fails25 rest
+  unfolding pictureOf wrong25
+  wrong-25 rest t =
       on-test (isActive (lineRead s word))
       (λ a.
-      active-25 a
-      ∙ found-some (wrongIn asked25 (pictureStart * s) (eavStart * s)) (eavStart * s) (λ e. true≢false (sym (none-wrong e) ∙ rw a at t)))
+      found-some 25 rest (wrongIn asked25 (pictureStart * s) (eavStart * s)) (λ e. true≢false (sym (none-wrong e) ∙ rw a at t))
+      ∙ ap (λ (o : Option ℕ). verdictOf 25 o rest) (sym (active-25 a)))
       (λ a. absurd (true≢false (rw a at t)))
 
   -- ---- 26
@@ -241,22 +244,18 @@ module _ (f : Format) (w : List ℕ) (is : IsWindow f w) where
   pub right-26 : fillRight (shapeOf f) w ≡ true → fails26 ≡ none
   right-26 t = fill-26 ∙ is-none _ (sym looked-26 ∙ t)
 
-  pub wrong-26 : fillRight (shapeOf f) w ≡ false → fails26 ≡ some (place26 f w)
-  unfolding place26
-  wrong-26 t =
-      fill-26
-      ∙ found-some (wrongIn asked26 from (from + 2 * shapeOf f .«fill_pairs»)) (from + 2 * shapeOf f .«fill_pairs»)
-      (λ e. true≢false (sym (looked-26 ∙ rw e) ∙ t))
+  pub wrong-26 : verdictOf 26 (wrong26 f w) AllHold ≡ verdictOf 26 fails26 AllHold
+  unfolding wrong26
+  wrong-26 = ap (λ (o : Option ℕ). verdictOf 26 o AllHold) (sym fill-26)
 
   -- ---- the verdict over both
-  pub both-hold : rightPicture f (lineRead s word) (pictureOf f w) ≡ true → fillRight (shapeOf f) w ≡ true
-      → record { number = 0; place = 0 } ≡ firstRow (pictureTests f w)
+  pub both-hold : rightPicture f (lineRead s word) (pictureOf f w) ≡ true → fillRight (shapeOf f) w ≡ true → AllHold ≡ firstRow (pictureTests f w)
   both-hold t u = rw (right-25 t, right-26 u)
 
-  pub fill-fails : {k : ℕ} → rightPicture f (lineRead s word) (pictureOf f w) ≡ true → fillRight (shapeOf f) w ≡ false → k ≡ place26 f w
-      → record { number = 26; place = k } ≡ firstRow (pictureTests f w)
-  fill-fails t u e = rw (right-25 t, wrong-26 u, e)
+  pub fill-fails : {v : Verdict} → rightPicture f (lineRead s word) (pictureOf f w) ≡ true → v ≡ verdictOf 26 (wrong26 f w) AllHold
+      → v ≡ firstRow (pictureTests f w)
+  fill-fails t e = e ∙ wrong-26 ∙ ap (λ (o : Option ℕ). verdictOf 25 o (verdictOf 26 fails26 AllHold)) (sym (right-25 t))
 
-  pub picture-fails : {k : ℕ} → rightPicture f (lineRead s word) (pictureOf f w) ≡ false → k ≡ place25 f w
-      → record { number = 25; place = k } ≡ firstRow (pictureTests f w)
-  picture-fails t e = rw (wrong-25 t, e)
+  pub picture-fails : {v : Verdict} → rightPicture f (lineRead s word) (pictureOf f w) ≡ false → v ≡ verdictOf 25 (wrong25 f w) AllHold
+      → v ≡ firstRow (pictureTests f w)
+  picture-fails t e = e ∙ wrong-25 (verdictOf 26 fails26 AllHold) t

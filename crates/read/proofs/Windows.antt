@@ -1,16 +1,18 @@
 -- What the parts answer of a window, and what its reading answers.
 -- Assumes nothing.
 use mathlib.Core.Path.{_≡_, refl, sym, ap, _∙_}
-use mathlib.Core.Bool.{Bool, true, false, not, true≢false}
+use mathlib.Core.Bool.{Bool, cond, not}
 use mathlib.Core.Logic.{⊎-elim}
 use mathlib.Core.List.{List}
 use mathlib.Core.Option.{Option, none, some, Option·getD}
 use Prim.Native.Nat.{ℕ, _≤_, _<_}
 use native.Mathlib.Nat.{eq-or-lt-of-le}
 use native.Mathlib.Omega.{arith}
-use lib.ListN.{length, take, replicate}
-use borrow.Author.Tests.{eq-eqb, lt-ltb, le-ltb}
-use Rattle.ground.specs.Answer.{Answer, refused, given}
+use lib.ListN.{length, replicate}
+use lib.Dec.{eqb}
+use borrow.Author.Tests.{eq-eqb, ne-eqb, eqb-true, eqb-false, lt-ltb, le-ltb}
+use Rattle.ground.proofs.Cases.{on-test}
+use Rattle.ground.specs.Answer.{Answer, Row, refused}
 use Rattle.ground.specs.Search.{firstBelow}
 use Rattle.ground.proofs.Searches.{hit}
 use Rattle.span.specs.declared.format.Format.{Format}
@@ -19,8 +21,13 @@ use Rattle.span.specs.Format.{shapeOf, streams, samplesIn, symbolsIn}
 use Rattle.span.proofs.Formats.{small}
 use Rattle.span.proofs.Lengths.{known-has-streams}
 use Rattle.read_test21_26.specs.declared.call.Service.{Service}
+use Rattle.read_test21_26.specs.declared.call.Judged.{Judged}
+use Rattle.read_test21_26.specs.declared.service.Fault.{Fault}
 use Rattle.read_test21_26.specs.declared.service.Verdict.{Verdict}
-use Rattle.read_test20.specs.declared.place.Scanned.{Scanned}
+use Rattle.read_test21_26.specs.declared.service.Verdict.the-variants.{AllHold, Fails}
+use Rattle.read_test20.specs.declared.whole.Taken.{Taken}
+use Rattle.read_test20.specs.declared.whole.Taken.the-variants.{Whole, Invalid, NotExamined}
+use Rattle.read_test20.specs.declared.whole.Valid.{Valid}
 use Rattle.window.specs.declared.delivery.Delivery.{Delivery}
 use Rattle.crcc.specs.declared.sums.Sums.{Sums}
 use Rattle.window.specs.Read.{wordTests, deliveryOf, pictureOf, readSpan, readOf, rowsLeft, rowsRead}
@@ -28,16 +35,15 @@ use Rattle.window.specs.Scan.{startOf, runningAt, holds20}
 use Rattle.window.specs.Tests.{rows as rowsOf}
 use Rattle.window.specs.Words.{wordAt}
 use Rattle.window.specs.Inside.Columns.{sumsOf}
-use Rattle.window.specs.Inside.Fill.{fillRight}
-use Rattle.read_test20.specs.Inside.Run.{place20, scannedOf}
-use Rattle.read_test20.specs.Inside.Whole.{wholeIf, placeIf20}
-use Rattle.read_test21_26.specs.Inside.Call.{place25, place26, serviceOf, serviceIf, placeIf}
-use Rattle.read_test21_26.specs.Inside.Fill.{fillIf}
-use Rattle.read_test21_26.specs.Inside.Verdict.{firstRow, serviceTests}
+use Rattle.read_test20.specs.Inside.Run.{place20}
+use Rattle.read_test20.specs.Inside.Whole.{validOf, takenOf, takenIf, rowsIf}
+use Rattle.read_test21_26.specs.Inside.Call.{serviceOf, judgedBy, serviceIf, lowestOf, lowestIf}
+use Rattle.read_test21_26.specs.Inside.Verdict.{firstRow}
 use Rattle.window.specs.Inside.Window.{IsWindow}
 use Rattle.window.proofs.Windows.{long, read-is}
+use Rattle.read.specs.Inside.Picture.{lineTests, pictureTests, wrongAt}
 use Rattle.read.proofs.Summing.{sums-right}
-use Rattle.read.proofs.Verdicts.{given-by, refused-by}
+use Rattle.read.proofs.Verdicts.{answerBy, checked-by, thenBy, then-by, in-range}
 
 -- the place of test 20 is no further than the end
 pub place-most : (p : Shape) (w : List ℕ) → place20 p w ≤ length w
@@ -54,27 +60,17 @@ module _ (f : Format) (w : List ℕ) (is : IsWindow f w) where
   word = wordAt (shapeOf f) w
 
   -- ---- the parts
-  pub is-picture : {l : List ℕ} → l ≡ rowsOf (streams (shapeOf f)) word → l ≡ pictureOf f w
-  unfolding pictureOf
-  is-picture e = e
-
-  pub service-is : {r : Service} {c : Sums} → c ≡ sumsOf (shapeOf f) w → r ≡ serviceIf f w c
-      → r ≡ serviceOf (shapeOf f) w (sumsOf (shapeOf f) w)
-  service-is sums answer = answer ∙ rw (sums, is .known, long)
-
-  pub tests-are : firstRow (serviceTests (shapeOf f) w (sumsOf (shapeOf f) w)) ≡ firstRow (take 4 (wordTests f word))
-  tests-are =
+  pub judged-is : {r : Judged} {c : Sums} → c ≡ sumsOf (shapeOf f) w → r ≡ serviceIf f w c
+      → r ≡ judgedBy (firstRow (lineTests f w)) (serviceOf (shapeOf f) w)
+  judged-is sums answer =
       let p = shapeOf f in
-      ap firstRow (sums-right p w (known-has-streams f (is .known)) (small f refl .half) f refl)
+      answer
+      ∙ rw (sums, is .known, long)
+      (ap (λ (rs : List Row). judgedBy (firstRow rs) (serviceOf p w))
+      (sums-right p w (known-has-streams f (is .known)) (small f refl .half) f refl))
 
-  pub place-25 : placeIf 25 f w ≡ place25 f w
-  place-25 = rw (is .known, long)
-
-  pub place-26 : placeIf 26 f w ≡ place26 f w
-  place-26 = rw (is .known, long)
-
-  pub fill-is : fillIf f w ≡ fillRight (shapeOf f) w
-  fill-is = rw (is .known, long)
+  pub lowest-is : (number : ℕ) → lowestIf number f w ≡ lowestOf (wrongAt number f w)
+  lowest-is number = rw (is .known, long)
 
   -- ---- test 20
   abbrev wrong20 : ℕ → Bool
@@ -100,29 +96,83 @@ module _ (f : Format) (w : List ℕ) (is : IsWindow f w) where
       go none q = let z : length w < length w = rw q at h in absurd (omega arith)
       go (some k) q = rw q
 
-  -- one pass says that it does not hold at all, and where
-  pub fails-20 : (room : ℕ) → room ≡ samplesIn (shapeOf f) → wholeIf f w room ≡ false → place20 (shapeOf f) w < length w
-  fails-20 room e t =
-      let other : place20 (shapeOf f) w ≡ length w → ⊥ =
-      λ q. true≢false (sym (rw (is .known, long, eq-eqb room (samplesIn (shapeOf f)) e, eq-eqb (place20 (shapeOf f) w) (length w) q) refl) ∙ t) in
-      ⊎-elim (λ q. absurd (other q)) (λ q. q) (eq-or-lt-of-le (place-most (shapeOf f) w))
+  -- what the pass answers, and the rows after it
+  module _ (rows : List ℕ) (room : length rows ≡ samplesIn (shapeOf f)) where
+    pub taken-is : takenIf f w rows ≡ takenOf (shapeOf f) w
+    taken-is = rw (is .known, long, eq-eqb (length rows) (samplesIn (shapeOf f)) room)
 
-  pub place-20 : (room : ℕ) → room ≡ samplesIn (shapeOf f) → placeIf20 f w room ≡ place20 (shapeOf f) w
-  place-20 room e = rw (is .known, long, eq-eqb room (samplesIn (shapeOf f)) e)
+    abbrev left : Bool → List ℕ
+    left whole = cond whole (rowsOf (streams (shapeOf f)) word) (replicate (length rows) 0)
+
+    rows-are : rowsIf f w rows ≡ left (eqb (place20 (shapeOf f) w) (length w))
+    rows-are = rw (is .known, long, eq-eqb (length rows) (samplesIn (shapeOf f)) room)
+
+    pub rows-whole : place20 (shapeOf f) w ≡ length w → rowsIf f w rows ≡ pictureOf f w
+    unfolding pictureOf
+    rows-whole all = rows-are ∙ ap left (eq-eqb (place20 (shapeOf f) w) (length w) all)
+
+    pub rows-invalid : place20 (shapeOf f) w < length w → rowsIf f w rows ≡ replicate (length rows) 0
+    rows-invalid h = rows-are ∙ ap left (ne-eqb (place20 (shapeOf f) w) (length w) (λ e. absurd (omega arith)))
+
+  -- each of its answers tells which it was
+  module _ where
+    abbrev answer : Bool → Taken
+    answer whole = cond whole (Whole (validOf (shapeOf f) w)) (Invalid (place20 (shapeOf f) w))
+
+    pub whole-told : {v : Valid} → Whole v ≡ takenOf (shapeOf f) w → (place20 (shapeOf f) w ≡ length w) × (v ≡ validOf (shapeOf f) w)
+    whole-told {v} e =
+        on-test (eqb (place20 (shapeOf f) w) (length w))
+        (λ t. (eqb-true _ _ t, let q : Whole v ≡ Whole (validOf (shapeOf f) w) = e ∙ ap answer t in cc))
+        (λ t.
+        let q : Whole v ≡ Invalid (place20 (shapeOf f) w) = e ∙ ap answer t in
+        let z : _≡_ {A = ℕ} 0 1 = cc in
+        absurd (omega arith))
+
+    pub invalid-told : {k : ℕ} → Invalid k ≡ takenOf (shapeOf f) w → (place20 (shapeOf f) w < length w) × (k ≡ place20 (shapeOf f) w)
+    invalid-told {k} e =
+        on-test (eqb (place20 (shapeOf f) w) (length w))
+        (λ t.
+        let q : Invalid k ≡ Whole (validOf (shapeOf f) w) = e ∙ ap answer t in
+        let z : _≡_ {A = ℕ} 0 1 = cc in
+        absurd (omega arith))
+        (λ t.
+        let q : Invalid k ≡ Invalid (place20 (shapeOf f) w) = e ∙ ap answer t in (
+          ⊎-elim (λ x. absurd (eqb-false _ _ t x)) (λ x. x) (eq-or-lt-of-le (place-most (shapeOf f) w)),
+          cc,
+        ))
+
+    pub always-examined : {A : Type 0} → NotExamined ≡ takenOf (shapeOf f) w → A
+    always-examined e =
+        on-test (eqb (place20 (shapeOf f) w) (length w))
+        (λ t.
+        let q : NotExamined ≡ Whole (validOf (shapeOf f) w) = e ∙ ap answer t in
+        let z : _≡_ {A = ℕ} 0 1 = cc in
+        absurd (omega arith))
+        (λ t.
+        let q : NotExamined ≡ Invalid (place20 (shapeOf f) w) = e ∙ ap answer t in
+        let z : _≡_ {A = ℕ} 0 1 = cc in
+        absurd (omega arith))
 
   -- ---- the reading
   pub read-20 : place20 (shapeOf f) w < length w → readSpan f w ≡ refused 20 (place20 (shapeOf f) w)
   unfolding readSpan
   read-20 h = rw (some-20 h)
 
-  module _ {v : Verdict} (all : place20 (shapeOf f) w ≡ length w) (e : v ≡ firstRow (wordTests f word)) where
-    pub read-refused : (v .number ≡ 0 → ⊥) → readSpan f w ≡ refused (v .number) (v .place)
-    unfolding readSpan
-    read-refused x = rw (none-20 all, e) (refused-by (deliveryOf f w) (wordTests f word) (rw e at x))
+  pub read-by : {v : Verdict} → place20 (shapeOf f) w ≡ length w → firstRow (wordTests f word) ≡ v → readSpan f w ≡ answerBy v (deliveryOf f w)
+  unfolding readSpan
+  read-by all e =
+      rw (none-20 all) (checked-by (deliveryOf f w) (wordTests f word) ∙ ap (λ (v : Verdict). answerBy v (deliveryOf f w)) e)
 
-    pub read-given : v .number ≡ 0 → readSpan f w ≡ given (deliveryOf f w)
-    unfolding readSpan
-    read-given q = rw (none-20 all) (given-by 21 26 (deliveryOf f w) (wordTests f word) (omega arith) refl (rw e at q))
+  -- tests 21 to 24, and then the others
+  pub first-fails : {x : Fault} → firstRow (lineTests f w) ≡ Fails x → firstRow (wordTests f word) ≡ Fails x
+  first-fails e = then-by (lineTests f w) (pictureTests f w) ∙ ap (λ (v : Verdict). thenBy v (firstRow (pictureTests f w))) e
+
+  pub first-hold : firstRow (lineTests f w) ≡ AllHold → firstRow (wordTests f word) ≡ firstRow (pictureTests f w)
+  first-hold e = then-by (lineTests f w) (pictureTests f w) ∙ ap (λ (v : Verdict). thenBy v (firstRow (pictureTests f w))) e
+
+  -- the number of one that fails
+  pub met-range : {x : Fault} → firstRow (wordTests f word) ≡ Fails x → (21 ≤ x .number) × (x .number ≤ 26)
+  met-range e = in-range 21 26 (wordTests f word) refl e
 
 -- ---- the rows afterwards
 module _ {number place : ℕ} (f : Format) (w entry made : List ℕ) (e : readSpan f w ≡ refused number place) where
@@ -130,26 +180,21 @@ module _ {number place : ℕ} (f : Format) (w entry made : List ℕ) (e : readSp
   rows-zero n h q zero = zero ∙ rw (e, le-ltb number 20 h, q)
 
 -- ---- the values of a delivery
-module _ (f : Format) (w : List ℕ) (is : IsWindow f w) (scanned : Scanned) (done : scanned ≡ scannedOf (shapeOf f) w)
-    (all : scanned .place ≡ length w) where
-  pub held-20 : place20 (shapeOf f) w ≡ length w
-  held-20 = sym (ap (λ (s : Scanned). s .place) done) ∙ all
-
-  pub delivery-is : (service : Service) (c : Sums) → service ≡ serviceOf (shapeOf f) w c
-      → record {
-        line = service .line;
-        content = service .content;
-        before = scanned .before;
-        after = scanned .after;
-        repairs = service .repairs;
-      }
-      ≡ deliveryOf f w
-  unfolding deliveryOf
-  delivery-is service c e =
-      let before : scanned .before ≡ startOf w = ap (λ (s : Scanned). s .before) done in
-      let after : scanned .after ≡ runningAt w (symbolsIn (shapeOf f)) =
-      ap (λ (s : Scanned). s .after) done ∙ ap (runningAt w) (held-20 ∙ is .long) in
-      rw (before, after, e)
+pub delivery-is : (f : Format) (w : List ℕ) → IsWindow f w → {v : Valid} {service : Service} → v ≡ validOf (shapeOf f) w
+    → service ≡ serviceOf (shapeOf f) w
+    → record {
+      line = service .line;
+      content = service .content;
+      before = v .before;
+      after = v .after;
+      repairs = service .repairs;
+    }
+    ≡ deliveryOf f w
+unfolding deliveryOf
+delivery-is f w is {v} {service} valid served =
+    let before : v .before ≡ startOf w = ap (λ (x : Valid). x .before) valid in
+    let after : v .after ≡ runningAt w (symbolsIn (shapeOf f)) = ap (λ (x : Valid). x .after) valid ∙ ap (runningAt w) (is .long) in
+    rw (before, after, served)
 
 -- a call that is refused by a number below 20 leaves the rows as they were
 pub rows-kept : {number place : ℕ} (f : Format) (w entry : List ℕ) → readOf f w (length entry) ≡ refused number place → number < 20

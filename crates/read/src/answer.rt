@@ -23,15 +23,12 @@ pub enum Read {
     WrongFill(usize),
 }
 
-// The answer for a test that does not hold at a place.
+// The answer for one of tests 21 to 26 that does not hold at a place.
 pub(crate) fn refusal(number: u8, place: usize) -> Read
-    requires { ⌜ 20 ≤ number ⌝ }
+    requires { ⌜ 21 ≤ number ⌝ }
     requires { ⌜ number ≤ 26 ⌝ }
     ensures { λ r. ⌜ paperRead r ≡ refused number place ⌝ }
 {
-    if number == 20 {
-        return Read::WrongSymbol(place);
-    }
     if number == 21 {
         return Read::WrongTiming(place);
     }

@@ -1,17 +1,19 @@
-// Tests 25 and 26. The lowest place is searched for only if there is one.
+// Tests 25 and 26. The lowest place is searched for only if there is one; whether the fill is right is known from test 20's pass.
 use line::stream::StreamLine;
+use read_test21_26::call::Lowest;
+use read_test21_26::service::Fault;
 use read_test21_26::service::Verdict;
 use span::format::Format;
 ghost use mathlib.Core.Path.{_≡_};
-ghost use mathlib.Core.Bool.{true};
 ghost use Rattle.span.specs.Format.{shapeOf, streams};
 ghost use Rattle.window.specs.Read.{pictureOf};
 ghost use Rattle.window.specs.Tests.{lineRead};
 ghost use Rattle.window.specs.Words.{wordAt};
 ghost use Rattle.window.specs.Inside.Fill.{fillRight};
-ghost use Rattle.read_test21_26.specs.Inside.Verdict.{firstRow};
+ghost use Rattle.read_test21_26.specs.declared.service.Verdict.the-variants.{AllHold};
+ghost use Rattle.read_test21_26.specs.Inside.Verdict.{verdictOf, firstRow};
 ghost use Rattle.window.specs.Inside.Window.{IsWindow};
-ghost use Rattle.read.specs.Inside.Picture.{pictureTests, rightPicture};
+ghost use Rattle.read.specs.Inside.Picture.{pictureTests, wrongAt, rightPicture};
 
 // Whether every word of the picture may be a sample's; on a blanking line any word may.
 fn picture_is_right(f: Format, line: StreamLine, rows: &[u16]) -> bool
@@ -23,16 +25,16 @@ fn picture_is_right(f: Format, line: StreamLine, rows: &[u16]) -> bool
     true
 }
 
-// Whether every fill word is 100, which may already be known.
-fn fill_is_right(f: Format, symbols: &[u16], filled: bool) -> bool
+// A test whose lowest place is searched for. The lengths were judged before, so it is a window.
+fn verdict_at(number: u8, f: Format, symbols: &[u16]) -> Verdict
     requires { ⌜ IsWindow f (now symbols) ⌝ }
-    requires { ⌜ (filled ≡ true → fillRight (shapeOf f) (now symbols) ≡ true) ⌝ }
-    ensures { λ r. ⌜ r ≡ fillRight (shapeOf f) (now (symbols .entry)) ⌝ }
+    ensures { λ r. ⌜ r ≡ verdictOf number (wrongAt number f (now (symbols .entry))) AllHold ⌝ }
 {
-    if filled {
-        return true;
+    match read_test21_26::call::lowest_place(number, f, symbols) {
+        Lowest::Place(place) => Verdict::Fails(Fault { number, place }),
+        Lowest::NoneWrong => Verdict::AllHold,
+        Lowest::NoWindow => Verdict::AllHold,
     }
-    read_test21_26::fill::fill_is_right(f, symbols)
 }
 
 // The first of the two that does not hold.
@@ -45,24 +47,15 @@ pub(crate) fn judge_picture(
 ) -> Verdict
     requires { ⌜ IsWindow f (now symbols) ⌝ }
     requires { ⌜ line .0 ≡ lineRead (streams (shapeOf f)) (wordAt (shapeOf f) (now symbols)) ⌝ }
-    requires { ⌜ (filled ≡ true → fillRight (shapeOf f) (now symbols) ≡ true) ⌝ }
+    requires { ⌜ filled ≡ fillRight (shapeOf f) (now symbols) ⌝ }
     requires { ⌜ now rows ≡ pictureOf f (now symbols) ⌝ }
     ensures { λ r. ⌜ r ≡ firstRow (pictureTests f (now (symbols .entry))) ⌝ }
 {
     if picture_is_right(f, line, rows) {
-        if fill_is_right(f, symbols, filled) {
-            return Verdict {
-                number: 0,
-                place: 0,
-            };
+        if filled {
+            return Verdict::AllHold;
         }
-        return Verdict {
-            number: 26,
-            place: read_test21_26::call::lowest_place(26, f, symbols),
-        };
+        return verdict_at(26, f, symbols);
     }
-    Verdict {
-        number: 25,
-        place: read_test21_26::call::lowest_place(25, f, symbols),
-    }
+    verdict_at(25, f, symbols)
 }

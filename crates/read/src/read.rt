@@ -1,30 +1,30 @@
 // The two calls (document 01, "Receiving and finding").
 use crate::answer::Read;
-use crcc::sums::Sums;
-use read_test20::place::Scanned;
+use read_test20::whole::Taken;
+use read_test20::whole::Valid;
+use read_test21_26::call::Judged;
 use read_test21_26::call::Service;
 use read_test21_26::service::Verdict;
 use span::format::Format;
 ghost use mathlib.Core.Path.{_≡_};
-ghost use mathlib.Core.Bool.{true};
 ghost use Prim.Native.Nat.{ℕ, _≤_};
 ghost use mathlib.Core.List.{List};
 ghost use lib.ListN.{length, replicate};
 ghost use Rattle.ground.specs.Answer.{refused};
 ghost use Rattle.span.specs.Format.{shapeOf, samplesIn};
-ghost use Rattle.window.specs.Read.{wordTests, pictureOf, readSpan, judgeOf, readOf, rowsLeft, rowsRead};
-ghost use Rattle.window.specs.Words.{wordAt};
-ghost use Rattle.window.specs.Inside.Columns.{sumsOf};
-ghost use Rattle.window.specs.Inside.Fill.{fillRight};
-ghost use Rattle.read_test20.specs.Inside.Run.{scannedOf};
+ghost use Rattle.window.specs.Read.{pictureOf, readSpan, judgeOf, readOf, rowsLeft, rowsRead};
+ghost use Rattle.read_test20.specs.Inside.Run.{place20};
+ghost use Rattle.read_test20.specs.Inside.Whole.{validOf};
+ghost use Rattle.read_test21_26.specs.declared.service.Verdict.the-variants.{AllHold};
 ghost use Rattle.read_test21_26.specs.Inside.Call.{serviceOf};
 ghost use Rattle.read_test21_26.specs.Inside.Verdict.{firstRow};
 ghost use Rattle.read.specs.Call.{paperRead};
+ghost use Rattle.read.specs.Inside.Picture.{lineTests};
 ghost use Rattle.window.specs.Inside.Window.{IsWindow};
 
 // A refused span: its rows are all zero.
 fn refuse(number: u8, place: usize, rows: &mut [u16]) -> Read
-    requires { ⌜ 20 ≤ number ⌝ }
+    requires { ⌜ 21 ≤ number ⌝ }
     requires { ⌜ number ≤ 26 ⌝ }
     ensures answer { λ r. ⌜ paperRead r ≡ refused number place ⌝ }
     ensures rows { λ _. ⌜ now (rows .exit) ≡ replicate (length (now (rows .entry))) 0 ⌝ }
@@ -33,45 +33,39 @@ fn refuse(number: u8, place: usize, rows: &mut [u16]) -> Read
     crate::answer::refusal(number, place)
 }
 
-// Tests 21 to 26 of a window, with its picture in rows.
-fn judge_words(f: Format, symbols: &[u16], service: Service, filled: bool, rows: &[u16]) -> Verdict
+// A window for which tests 20 to 24 hold, with its picture in rows: what it delivers, and its rows, which are zero if 25 or 26 does not hold.
+fn read_picture(f: Format, symbols: &[u16], v: Valid, service: Service, rows: &mut [u16]) -> Read
     requires { ⌜ IsWindow f (now symbols) ⌝ }
-    requires { ⌜ service ≡ serviceOf (shapeOf f) (now symbols) (sumsOf (shapeOf f) (now symbols)) ⌝ }
-    requires { ⌜ (filled ≡ true → fillRight (shapeOf f) (now symbols) ≡ true) ⌝ }
-    requires { ⌜ now rows ≡ pictureOf f (now symbols) ⌝ }
-    ensures { λ r. ⌜ r ≡ firstRow (wordTests f (wordAt (shapeOf f) (now (symbols .entry)))) ⌝ }
-{
-    let first = service.verdict;
-    if first.number != 0 {
-        return first;
-    }
-    crate::picture::judge_picture(f, symbols, service.line, filled, rows)
-}
-
-// A window for which test 20 holds, with its picture in rows: what it delivers, and its rows, which are zero if another test does not hold.
-fn read_words(
-    f: Format,
-    symbols: &[u16],
-    scanned: Scanned,
-    c: Sums,
-    filled: bool,
-    rows: &mut [u16],
-) -> Read
-    requires { ⌜ IsWindow f (now symbols) ⌝ }
-    requires { ⌜ scanned ≡ scannedOf (shapeOf f) (now symbols) ⌝ }
-    requires { ⌜ scanned .place ≡ length (now symbols) ⌝ }
-    requires { ⌜ c ≡ sumsOf (shapeOf f) (now symbols) ⌝ }
-    requires { ⌜ (filled ≡ true → fillRight (shapeOf f) (now symbols) ≡ true) ⌝ }
+    requires { ⌜ place20 (shapeOf f) (now symbols) ≡ length (now symbols) ⌝ }
+    requires { ⌜ v ≡ validOf (shapeOf f) (now symbols) ⌝ }
+    requires { ⌜ service ≡ serviceOf (shapeOf f) (now symbols) ⌝ }
+    requires { ⌜ firstRow (lineTests f (now symbols)) ≡ AllHold ⌝ }
     requires { ⌜ now rows ≡ pictureOf f (now symbols) ⌝ }
     ensures answer { λ r. ⌜ paperRead r ≡ readSpan f (now (symbols .entry)) ⌝ }
     ensures rows { λ _. ⌜ ((room : List ℕ) → length room ≡ length (now (rows .entry)) → now (rows .exit) ≡ rowsLeft (readSpan f (now (symbols .entry))) room (pictureOf f (now (symbols .entry)))) ⌝ }
 {
-    let service = read_test21_26::call::service_of(f, symbols, c);
-    let verdict = judge_words(f, symbols, service, filled, rows);
-    if verdict.number != 0 {
-        return refuse(verdict.number, verdict.place, rows);
+    match crate::picture::judge_picture(f, symbols, service.line, v.filled, rows) {
+        Verdict::AllHold => Read::Delivered(crate::delivery::delivery(v, service)),
+        Verdict::Fails(x) => refuse(x.number, x.place, rows),
     }
-    Read::Delivered(crate::delivery::delivery(scanned, service))
+}
+
+// The same for a window for which test 20 holds.
+fn read_words(f: Format, symbols: &[u16], v: Valid, rows: &mut [u16]) -> Read
+    requires { ⌜ IsWindow f (now symbols) ⌝ }
+    requires { ⌜ place20 (shapeOf f) (now symbols) ≡ length (now symbols) ⌝ }
+    requires { ⌜ v ≡ validOf (shapeOf f) (now symbols) ⌝ }
+    requires { ⌜ now rows ≡ pictureOf f (now symbols) ⌝ }
+    ensures answer { λ r. ⌜ paperRead r ≡ readSpan f (now (symbols .entry)) ⌝ }
+    ensures rows { λ _. ⌜ ((room : List ℕ) → length room ≡ length (now (rows .entry)) → now (rows .exit) ≡ rowsLeft (readSpan f (now (symbols .entry))) room (pictureOf f (now (symbols .entry)))) ⌝ }
+{
+    let c = v.sums;
+    match read_test21_26::call::service_of(f, symbols, c) {
+        Judged::Serves(service) => read_picture(f, symbols, v, service, rows),
+        Judged::Refused(x) => refuse(x.number, x.place, rows),
+        // Not met: the lengths were judged before.
+        Judged::NoWindow => Read::WrongInput,
+    }
 }
 
 // A window, into rows of its format's length.
@@ -81,19 +75,12 @@ fn read_window(f: Format, symbols: &[u16], rows: &mut [u16]) -> Read
     ensures answer { λ r. ⌜ paperRead r ≡ readSpan f (now (symbols .entry)) ⌝ }
     ensures rows { λ _. ⌜ now (rows .exit) ≡ rowsLeft (readSpan f (now (symbols .entry))) (now (rows .entry)) (pictureOf f (now (symbols .entry))) ⌝ }
 {
-    let taken = read_test20::whole::take(f, symbols, rows);
-    if taken.whole {
-        let before = taken.before;
-        let after = taken.after;
-        let c = taken.sums;
-        let scanned = Scanned {
-            place: symbols.len(),
-            before,
-            after,
-        };
-        return read_words(f, symbols, scanned, c, taken.filled, rows);
+    match read_test20::whole::take(f, symbols, rows) {
+        Taken::Whole(v) => read_words(f, symbols, v, rows),
+        Taken::Invalid(place) => Read::WrongSymbol(place),
+        // Not met: the lengths were judged before.
+        Taken::NotExamined => Read::WrongInput,
     }
-    refuse(20, taken.place, rows)
 }
 
 // Reads exactly one span, into s x 1920 words stream by stream.

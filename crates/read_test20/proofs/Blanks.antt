@@ -1,31 +1,41 @@
 -- Symbols of blanking words: what the code names, that they repeat, that they are bytes where they stand, and that they are fill.
 -- Assumes nothing.
-use mathlib.Core.Path.{_≡_, refl, sym, ap, subst, _∙_}
-use mathlib.Core.Bool.{true}
+use mathlib.Core.Path.{_≡_, refl, sym, ap, ap₂, subst, _∙_}
+use mathlib.Core.Bool.{true, true≢false}
 use mathlib.Core.List.{List}
 use Prim.Native.Nat.{ℕ, zero, suc, _+_, _-_, _*_, _/_, _%_, _≤_, _<_}
 use native.Mathlib.Nat.{eq-or-lt-of-le}
 use native.Mathlib.Omega.{arith}
 use mathlib.Core.Logic.{_⊎_, inl, inr, ⊎-elim}
-use lib.Bits.{bitOr, bitXor}
+use lib.Bits.{bitOr, bitXor, or-zero-l, xor-self}
+use lib.Dec.{eqb}
 use lib.ListN.{length}
-use borrow.Author.Tests.{ne-eqb}
-use Rattle.symbol.specs.Code.{symbolOf}
-use Rattle.decoder.specs.Inside.Mask.{ofMask}
+use borrow.Author.Tests.{ne-eqb, eqb-true, eqb-false}
+use Rattle.ground.specs.Range.{within}
+use Rattle.ground.specs.Search.{isSome}
+use Rattle.ground.proofs.Cases.{on-test}
+use Rattle.ground.proofs.Ranges.{is-within, to-high}
+use Rattle.ground.proofs.Tests.{both-left, both-right}
+use Rattle.symbol.specs.declared.disparity.Disparity.{Disparity}
+use Rattle.symbol.specs.Code.{symbolOf, charOf}
+use Rattle.decoder.specs.Inside.Mask.{maskOf, ofMask}
+use Rattle.decoder.proofs.Masks.{mask-again}
+use Rattle.packing.specs.declared.bytes.ThreeBytes.{ThreeBytes}
 use Rattle.packing.specs.Bytes.{bytesOf, unpacked}
-use Rattle.packing.proofs.Packing.{unpack-pack}
-use Rattle.window.proofs.Filling.{Both, all-right}
+use Rattle.packing.proofs.Packing.{unpack-pack, pack-unpack}
+use Rattle.window.proofs.Filling.{Both, all-right, first-wrong, second-wrong}
 use Rattle.window.proofs.Plain.{pair-is}
-use Rattle.read_test20.proofs.Gathering.{or-left, or-right, xor-none, blank-step}
+use Rattle.read_test20.proofs.Kept.{its-symbol, its-after}
+use Rattle.read_test20.proofs.Gathering.{or-left, or-right, xor-none, blank-flat, blank-step}
 use Rattle.span.specs.declared.format.Shape.{Shape}
 use Rattle.span.specs.Format.{symbolsIn}
 use Rattle.span.specs.Layout.{ancillaryStart}
-use Rattle.window.specs.Scan.{byteOf, symbolAt}
+use Rattle.window.specs.Scan.{byteOf, meant, symbolAt, runningAt}
 use Rattle.window.specs.Inside.Fill.{fillRight}
 use Rattle.window.specs.Inside.Given.{plainPair}
 use Rattle.window.proofs.Symbols.{meant-of}
 use Rattle.read_test20.specs.Inside.Blank.{blankBy, Repeats, AreBlank}
-use Rattle.read_test20.specs.Inside.Run.{RunInv}
+use Rattle.read_test20.specs.Inside.Run.{suits, RunInv}
 use Rattle.read_test20.specs.Inside.See.{maskBy}
 
 -- what the code names are the symbols of the book
@@ -60,6 +70,20 @@ module _ (w : List ℕ) (from flips : ℕ) where
       let b = at-positive (maskBy flips) (λ e. n (omega arith)) in
       three-blank (x ∙ b .0) (y ∙ b .1) (z ∙ b .2)
 
+  pub negative-told : flips / 2048 % 4 ≡ 2 → AreBlank w from (from + 3) flips
+      → (symbolAt w from ≡ 0x0B9) × (symbolAt w (from + 1) ≡ 0x0AE) × (symbolAt w (from + 2) ≡ 0x0B6)
+  negative-told e s =
+      let b = at-negative (maskBy flips) (omega arith) in
+      let at : from + 3 * 0 ≡ from = omega arith in
+      (rw at at (s .first 0 (omega arith)) ∙ sym (b .0), rw at at (s .second 0 (omega arith)) ∙ sym (b .1), rw at at (s .third 0 (omega arith)) ∙ sym (b .2))
+
+  pub positive-told : (flips / 2048 % 4 ≡ 2 → ⊥) → AreBlank w from (from + 3) flips
+      → (symbolAt w from ≡ 0x346) × (symbolAt w (from + 1) ≡ 0x351) × (symbolAt w (from + 2) ≡ 0x349)
+  positive-told n s =
+      let b = at-positive (maskBy flips) (λ e. n (omega arith)) in
+      let at : from + 3 * 0 ≡ from = omega arith in
+      (rw at at (s .first 0 (omega arith)) ∙ sym (b .0), rw at at (s .second 0 (omega arith)) ∙ sym (b .1), rw at at (s .third 0 (omega arith)) ∙ sym (b .2))
+
   -- ---- and so on
   module _ (to : ℕ) (r : Repeats w from to) where
     again : (k q : ℕ) → from + k + 3 * q < to → symbolAt w (from + k + 3 * q) ≡ symbolAt w (from + k)
@@ -87,6 +111,47 @@ module _ (w : List ℕ) (from flips : ℕ) where
               let begin : from + 2 ≡ from + 3 * 0 + 2 = omega arith in
               ap (symbolAt w) at ∙ again 2 q (omega arith) ∙ ap (symbolAt w) begin ∙ b .third 0 (omega arith);
         }
+
+  -- of none there is nothing to say
+  pub none-blank : (to : ℕ) → from ≡ to → AreBlank w from to flips
+  none-blank to e =
+      record { first = λ q h. absurd (omega arith); second = λ q h. absurd (omega arith); third = λ q h. absurd (omega arith) }
+
+  module _ (to : ℕ) (b : AreBlank w from to flips) where
+    pub first-three : from + 3 ≤ to → AreBlank w from (from + 3) flips
+    first-three h =
+        record {
+          first = λ q l. b .first q (omega arith);
+          second = λ q l. b .second q (omega arith);
+          third = λ q l. b .third q (omega arith);
+        }
+
+    -- each equals the one three before it
+    pub blank-repeats : Repeats w from to
+    blank-repeats = record { again = λ i h l. go i h l }
+      where
+        go : (i : ℕ) → from ≤ i → i + 3 < to → symbolAt w (i + 3) ≡ symbolAt w i
+        go i h l =
+            let q = (i - from) / 3 in
+            on-test (eqb ((i - from) % 3) 0)
+            (λ t.
+            let z = eqb-true ((i - from) % 3) 0 t in
+            let here : from + 3 * q ≡ i = omega arith in
+            let there : from + 3 * (q + 1) ≡ i + 3 = omega arith in
+            rw there at (b .first (q + 1) (omega arith)) ∙ sym (rw here at (b .first q (omega arith))))
+            (λ t.
+            on-test (eqb ((i - from) % 3) 1)
+            (λ u.
+            let z = eqb-true ((i - from) % 3) 1 u in
+            let here : from + 3 * q + 1 ≡ i = omega arith in
+            let there : from + 3 * (q + 1) + 1 ≡ i + 3 = omega arith in
+            rw there at (b .second (q + 1) (omega arith)) ∙ sym (rw here at (b .second q (omega arith))))
+            (λ u.
+            let y = eqb-false ((i - from) % 3) 0 t in
+            let z = eqb-false ((i - from) % 3) 1 u in
+            let here : from + 3 * q + 2 ≡ i = omega arith in
+            let there : from + 3 * (q + 1) + 2 ≡ i + 3 = omega arith in
+            rw there at (b .third (q + 1) (omega arith)) ∙ sym (rw here at (b .third q (omega arith)))))
 
   -- ---- they are bytes where they stand
   module _ (to : ℕ) (b : AreBlank w from to flips) (start : ℕ) (g : RunInv w 0 255 start from (maskBy flips)) where
@@ -138,6 +203,105 @@ blank-fill p w from flips some long begins b =
           (rw at at (b .third q (omega arith)));
     })
 
+-- ---- and fill is nothing else
+module _ (w : List ℕ) (o : ℕ) (both : Both (plainPair w o)) where
+  abbrev three-bytes : ThreeBytes
+  three-bytes = record { first = byteOf (symbolAt w o); second = byteOf (symbolAt w (o + 1)); third = byteOf (symbolAt w (o + 2)) }
+
+  -- its bytes are 00 01 10 (hex)
+  pub fill-bytes : three-bytes ≡ record { first = 0x00; second = 0x01; third = 0x10 }
+  unfolding plainPair bytesOf
+  fill-bytes =
+      sym (pack-unpack three-bytes (record { first-below = omega arith; second-below = omega arith; third-below = omega arith }))
+      ∙ ap₂ bytesOf (both .first) (both .second)
+
+module _ (w : List ℕ) where
+  -- a byte that suits is the one that its symbol stands for
+  its-byte : (c j : ℕ) → c < 256 → suits w 0 255 j ≡ true → byteOf (symbolAt w j) ≡ c → suits w c c j ≡ true
+  unfolding suits
+  its-byte c j h t e =
+      let legal = both-left (isSome (charOf (runningAt w j) (symbolAt w j))) (within 0 255 (meant (symbolAt w j))) t in
+      let most = to-high 0 255 (meant (symbolAt w j)) (both-right (isSome (charOf (runningAt w j) (symbolAt w j))) (within 0 255 (meant (symbolAt w j))) t) in
+      rw (legal, is-within c c (meant (symbolAt w j)) (omega arith) (omega arith))
+
+  module _ (from to : ℕ) (bytes : (j : ℕ) → from ≤ j → j < to → suits w 0 255 j ≡ true)
+      (both : (q : ℕ) → from + 3 * q + 3 ≤ to → Both (plainPair w (from + 3 * q))) where
+    -- the three of a pair, by the running disparity there, which they leave as it is
+    module _ (q : ℕ) (h : from + 3 * q + 3 ≤ to) where
+      abbrev o : ℕ
+      o = from + 3 * q
+
+      third-place : o + 2 ≡ o + 1 + 1
+      third-place = omega arith
+
+      suit-first : suits w 0x00 0x00 o ≡ true
+      suit-first = its-byte 0x00 o (omega arith) (bytes o (omega arith) (omega arith)) (ap (λ (t : ThreeBytes). t .first) (fill-bytes w o (both q h)))
+
+      suit-second : suits w 0x01 0x01 (o + 1) ≡ true
+      suit-second =
+          its-byte 0x01 (o + 1) (omega arith) (bytes (o + 1) (omega arith) (omega arith)) (ap (λ (t : ThreeBytes). t .second) (fill-bytes w o (both q h)))
+
+      suit-third : suits w 0x10 0x10 (o + 1 + 1) ≡ true
+      suit-third =
+          rw (← third-place)
+          (its-byte 0x10 (o + 2) (omega arith) (bytes (o + 2) (omega arith) (omega arith)) (ap (λ (t : ThreeBytes). t .third) (fill-bytes w o (both q h))))
+
+      after-first : runningAt w (o + 1) ≡ runningAt w o
+      after-first = its-after w 0x00 o suit-first ∙ blank-flat w (runningAt w o) .0
+
+      after-second : runningAt w (o + 1 + 1) ≡ runningAt w o
+      after-second = its-after w 0x01 (o + 1) suit-second ∙ blank-flat w (runningAt w (o + 1)) .1 ∙ after-first
+
+      after-third : runningAt w (o + 1 + 1 + 1) ≡ runningAt w o
+      after-third = its-after w 0x10 (o + 1 + 1) suit-third ∙ blank-flat w (runningAt w (o + 1 + 1)) .2 ∙ after-second
+
+      first-is : symbolAt w o ≡ symbolOf (runningAt w o) 0x00
+      first-is = its-symbol w 0x00 o suit-first
+
+      second-is : symbolAt w (o + 1) ≡ symbolOf (runningAt w o) 0x01
+      second-is = its-symbol w 0x01 (o + 1) suit-second ∙ ap (λ (d : Disparity). symbolOf d 0x01) after-first
+
+      third-is : symbolAt w (o + 2) ≡ symbolOf (runningAt w o) 0x10
+      third-is =
+          ap (symbolAt w) third-place ∙ its-symbol w 0x10 (o + 1 + 1) suit-third ∙ ap (λ (d : Disparity). symbolOf d 0x10) after-second
+
+    stays : (q : ℕ) → from + 3 * q ≤ to → runningAt w (from + 3 * q) ≡ runningAt w from
+    stays zero h = let at : from + 3 * 0 ≡ from = omega arith in ap (runningAt w) at
+    stays (suc q) h =
+        let at : from + 3 * suc q ≡ from + 3 * q + 1 + 1 + 1 = omega arith in
+        ap (runningAt w) at ∙ after-third q (omega arith) ∙ stays q (omega arith)
+
+    are-blank : (flips : ℕ) → maskBy flips ≡ maskOf (runningAt w from) → (to - from) % 3 ≡ 0 → AreBlank w from to flips
+    are-blank flips bit even =
+        let by : (q : ℕ) → from + 3 * q ≤ to → runningAt w (from + 3 * q) ≡ ofMask (maskBy flips) =
+        λ q h. stays q h ∙ sym (mask-again (runningAt w from)) ∙ ap ofMask (sym bit) in
+        record {
+          first = λ q h. first-is q (omega arith) ∙ ap (λ (d : Disparity). symbolOf d 0x00) (by q (omega arith));
+          second = λ q h. second-is q (omega arith) ∙ ap (λ (d : Disparity). symbolOf d 0x01) (by q (omega arith));
+          third = λ q h. third-is q (omega arith) ∙ ap (λ (d : Disparity). symbolOf d 0x10) (by q (omega arith));
+        }
+
+pub fill-blank : (p : Shape) (w : List ℕ) (from flips : ℕ) → 1 ≤ p .«stream_pairs» → length w ≡ symbolsIn p → from ≡ length w - 3 * p .«fill_pairs»
+    → maskBy flips ≡ maskOf (runningAt w from) → ((j : ℕ) → from ≤ j → j < length w → suits w 0 255 j ≡ true) → fillRight p w ≡ true
+    → AreBlank w from (length w) flips
+fill-blank p w from flips some long begins bit bytes right =
+    are-blank w from (length w) bytes (λ q h. both q h) flips bit (omega arith)
+  where
+    both : (q : ℕ) → from + 3 * q + 3 ≤ length w → Both (plainPair w (from + 3 * q))
+    both q h =
+        let k = p .«stream_pairs» * (ancillaryStart + p .ancillary) + q in
+        let at : 3 * k ≡ from + 3 * q = omega arith in
+        let x = plainPair w (3 * k) in
+        rw (← at)
+        (record {
+          first =
+              on-test (eqb (x .a) 0x100) (λ t. eqb-true (x .a) 0x100 t)
+              (λ t. absurd (true≢false (sym right ∙ first-wrong p w some k refl (omega arith) (omega arith) (eqb-false (x .a) 0x100 t))));
+          second =
+              on-test (eqb (x .b) 0x100) (λ t. eqb-true (x .b) 0x100 t)
+              (λ t. absurd (true≢false (sym right ∙ second-wrong p w some k refl (omega arith) (omega arith) (eqb-false (x .b) 0x100 t))));
+        })
+
 -- one symbol more is as the one three before it
 pub repeats-step : (w : List ℕ) (other i : ℕ) {k : ℕ} → bitOr other (bitXor (symbolAt w (i + 3)) (symbolAt w i)) ≡ 0
     → (other ≡ 0 → k < i → symbolAt w (k + 3) ≡ symbolAt w k) → k < i + 1 → symbolAt w (k + 3) ≡ symbolAt w k
@@ -147,3 +311,8 @@ repeats-step w other i {k} z before l =
   where
     sooner : k < i + 1 → (k ≡ i) ⊎ (k < i)
     sooner h = ⊎-elim (λ q. inl q) (λ q. inr q) (eq-or-lt-of-le (let b : k ≤ i = omega arith in b))
+
+-- and adds nothing where it is
+pub repeats-kept : (w : List ℕ) (other i : ℕ) → other ≡ 0 → symbolAt w (i + 3) ≡ symbolAt w i
+    → bitOr other (bitXor (symbolAt w (i + 3)) (symbolAt w i)) ≡ 0
+repeats-kept w other i z e = rw (z, e) (or-zero-l (bitXor (symbolAt w i) (symbolAt w i)) ∙ xor-self (symbolAt w i))

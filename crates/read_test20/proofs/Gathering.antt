@@ -73,7 +73,7 @@ module _ (w : List ℕ) where
   -- ---- two blanking words
 
   -- none of the three does
-  blank-flat : (d : Disparity) → (afterOf d 0x00 ≡ d) × (afterOf d 0x01 ≡ d) × (afterOf d 0x10 ≡ d)
+  pub blank-flat : (d : Disparity) → (afterOf d 0x00 ≡ d) × (afterOf d 0x01 ≡ d) × (afterOf d 0x10 ≡ d)
   unfolding afterOf
   blank-flat Negative = (refl, refl, refl)
   blank-flat Positive = (refl, refl, refl)

@@ -6,7 +6,7 @@ use Prim.Native.Nat.{ℕ, _+_, _*_, _≤_, _<_}
 use native.Mathlib.Omega.{arith}
 use lib.Dec.{eqb}
 use lib.ListN.{length, getD, set}
-use borrow.Author.Tests.{eqb-true, eqb-false}
+use borrow.Author.Tests.{eqb-true, eqb-false, ne-eqb}
 use Rattle.ground.specs.Written.{table}
 use Rattle.ground.proofs.Cases.{on-test}
 use Rattle.ground.proofs.Writing.{length-upto, getD-upto, length-table, getD-table, table-same}
@@ -211,5 +211,5 @@ module _ (p : Shape) (w : List ℕ) where
         rw (two, t, row-is 0 (omega arith), row-is 1 (omega arith)))
         (λ t.
         let half : p .«stream_pairs» ≡ 2 = omega (arith, eqb-false (p .«stream_pairs») 1 t) in
-        let four : length rows ≡ 7680 = omega (arith, rows-long) in
-        rw (four, t, row-is 0 (omega arith), row-is 1 (omega arith), row-is 2 (omega arith), row-is 3 (omega arith)))
+        let other : length rows ≡ 3840 → ⊥ = λ e. omega (arith, rows-long) in
+        rw (ne-eqb (length rows) 3840 other, t, row-is 0 (omega arith), row-is 1 (omega arith), row-is 2 (omega arith), row-is 3 (omega arith)))

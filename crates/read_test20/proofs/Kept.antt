@@ -1,7 +1,7 @@
 -- Where test 20 holds at every symbol, one pass says so: what stands in each part of a window, and what is asked of it.
 -- Assumes nothing.
 use mathlib.Core.Path.{_≡_, refl, sym, ap, _∙_}
-use mathlib.Core.Bool.{Bool, true, false, not, true≢false}
+use mathlib.Core.Bool.{Bool, true, false, not}
 use mathlib.Core.List.{List}
 use mathlib.Core.Logic.{_⊎_, inl, inr}
 use mathlib.Core.Option.{Option, none, some}
@@ -9,11 +9,10 @@ use Prim.Native.Nat.{ℕ, _+_, _/_, _%_, _≤_, _<_}
 use native.Mathlib.Numerals.{add-one}
 use native.Mathlib.Omega.{arith}
 use lib.Dec.{eqb}
-use lib.ListN.{length}
-use borrow.Author.Tests.{eqb-true, eq-eqb, not-false}
+use lib.ListN.{length, replicate}
+use borrow.Author.Tests.{eq-eqb, ne-eqb, not-false}
 use Rattle.ground.specs.Range.{within}
 use Rattle.ground.specs.Search.{firstBelow, isSome}
-use Rattle.ground.proofs.Cases.{on-test}
 use Rattle.ground.proofs.Ranges.{from-low, to-high}
 use Rattle.ground.proofs.Searches.{hit, miss}
 use Rattle.ground.proofs.Tests.{both-left, both-right}
@@ -24,15 +23,21 @@ use Rattle.symbol.proofs.Inverse.{encode-decode, decoded-below}
 use Rattle.symbol.proofs.Ones.{symbol-below}
 use Rattle.decoder.specs.Inside.Mask.{maskOf}
 use Rattle.read_test20.proofs.Window.{same-test, kind-sav, kind-eav, kind-byte}
-use Rattle.span.specs.declared.format.Format.{Format}
 use Rattle.span.specs.declared.format.Shape.{Shape}
-use Rattle.span.specs.Format.{shapeOf, eavAt}
-use Rattle.span.specs.Inside.Fit.{ready}
-use Rattle.window.specs.Scan.{meant, symbolAt, runningAt, fits, holds20}
+use Rattle.span.specs.Format.{streams, eavAt}
+use Rattle.crcc.specs.declared.sums.Sums.{Sums}
+use Rattle.window.specs.Inside.Columns.{sumsOf}
+use Rattle.window.specs.Inside.Fill.{fillRight}
+use Rattle.window.specs.Tests.{rows as rowsOf}
+use Rattle.window.specs.Words.{wordAt}
+use Rattle.window.specs.Scan.{meant, symbolAt, startOf, runningAt, fits, holds20}
 use Rattle.window.proofs.Symbols.{some-meant, legal-told, running-on}
+use Rattle.read_test20.specs.declared.whole.Taken.{Taken}
+use Rattle.read_test20.specs.declared.whole.Taken.the-variants.{Whole, Invalid}
+use Rattle.read_test20.specs.declared.whole.Valid.{Valid}
 use Rattle.read_test20.specs.Inside.Run.{suits, place20}
 use Rattle.read_test20.specs.Inside.See.{TenBits, AreBytes, maskBy}
-use Rattle.read_test20.specs.Inside.Whole.{Twice, AllHold, wholeIf}
+use Rattle.read_test20.specs.Inside.Whole.{Twice, AllHold, validOf, takenOf, rowsTaken}
 
 -- ---- a special character
 
@@ -44,13 +49,13 @@ module _ (w : List ℕ) where
       let here = both-right (isSome (charOf (runningAt w j) (symbolAt w j))) (within c c (meant (symbolAt w j))) t in
       omega (arith, from-low c c (meant (symbolAt w j)) here, to-high c c (meant (symbolAt w j)) here)
 
-  its-symbol : (c j : ℕ) → suits w c c j ≡ true → symbolAt w j ≡ symbolOf (runningAt w j) c
+  pub its-symbol : (c j : ℕ) → suits w c c j ≡ true → symbolAt w j ≡ symbolOf (runningAt w j) c
   unfolding suits
   its-symbol c j t =
       let legal = some-meant (runningAt w j) (symbolAt w j) (both-left (isSome (charOf (runningAt w j) (symbolAt w j))) (within c c (meant (symbolAt w j))) t) in
       sym (encode-decode (runningAt w j) (symbolAt w j) c (legal ∙ ap {B = Option ℕ} some (its-meaning c j t)))
 
-  its-after : (c j : ℕ) → suits w c c j ≡ true → runningAt w (j + 1) ≡ afterOf (runningAt w j) c
+  pub its-after : (c j : ℕ) → suits w c c j ≡ true → runningAt w (j + 1) ≡ afterOf (runningAt w j) c
   its-after c j t = ap (runningAt w) (add-one j) ∙ running-on w j ∙ ap (afterOf (runningAt w j)) (its-meaning c j t)
 
   -- it stands at a place and after it, each at the disparity there
@@ -137,15 +142,31 @@ all-right p w e = go (firstBelow (length w) (λ i. not (holds20 p w i))) refl
     go none q = record { each = λ j h. not-false (holds20 p w j) (miss (λ i. not (holds20 p w i)) (length w) q .never j (omega arith) h) }
     go (some k) q = let at : k ≡ length w = rw q at e in absurd (omega (arith, hit (λ i. not (holds20 p w i)) (length w) k q .below))
 
--- it says so just there
-pub is-whole : (f : Format) (w : List ℕ) (room : ℕ) {b : Bool} → (b ≡ true → ready f (length w) room ≡ true)
-    → (b ≡ true → place20 (shapeOf f) w ≡ length w) → (ready f (length w) room ≡ true → AllHold (shapeOf f) w → b ≡ true) → b ≡ wholeIf f w room
-is-whole f w room {b} x y z =
-    on-test b (λ t. rw (t, x t, eq-eqb (place20 (shapeOf f) w) (length w) (y t)) refl)
-    (λ t.
-    on-test (wholeIf f w room)
-    (λ u.
-    let r = both-left (ready f (length w) room) (eqb (place20 (shapeOf f) w) (length w)) u in
-    let e = both-right (ready f (length w) room) (eqb (place20 (shapeOf f) w) (length w)) u in
-    absurd (true≢false (sym (z r (all-right (shapeOf f) w (eqb-true (place20 (shapeOf f) w) (length w) e))) ∙ t)))
-    (λ u. t ∙ sym u))
+-- a window that is not whole, and one that is
+module _ (p : Shape) (w : List ℕ) where
+  module _ (not-all : AllHold p w → ⊥) where
+    some-wrong : eqb (place20 p w) (length w) ≡ false
+    some-wrong = ne-eqb (place20 p w) (length w) (λ e. not-all (all-right p w e))
+
+    pub is-fault : {r : Taken} → r ≡ Invalid (place20 p w) → r ≡ takenOf p w
+    is-fault e = e ∙ rw some-wrong
+
+    pub are-zero : {rows : List ℕ} (entry : List ℕ) (n : ℕ) → rows ≡ replicate n 0 → n ≡ length entry → rows ≡ rowsTaken p w entry
+    are-zero entry n e long = e ∙ rw (some-wrong, long)
+
+  module _ (all : place20 p w ≡ length w) where
+    pub is-whole : {r : Taken} {v : Valid} → r ≡ Whole v → v ≡ validOf p w → r ≡ takenOf p w
+    is-whole e q = e ∙ rw (eq-eqb (place20 p w) (length w) all) (ap Whole q)
+
+    pub are-picture : {rows : List ℕ} (entry : List ℕ) → rows ≡ rowsOf (streams p) (wordAt p w) → rows ≡ rowsTaken p w entry
+    are-picture entry e = e ∙ rw (eq-eqb (place20 p w) (length w) all)
+
+    pub is-valid : {a : Bool} {b c : Disparity} {d : Sums} → a ≡ fillRight p w → b ≡ startOf w → c ≡ runningAt w (place20 p w) → d ≡ sumsOf p w
+        → record { filled = a; before = b; after = c; sums = d } ≡ validOf p w
+    is-valid ea eb ec ed = rw (ea, eb, ec, ed, all)
+
+-- two tests, each of which holds where the other does
+pub agree : (a b : Bool) → (a ≡ true → b ≡ true) → (b ≡ true → a ≡ true) → a ≡ b
+agree true b x y = sym (x refl)
+agree false true x y = y refl
+agree false false x y = refl

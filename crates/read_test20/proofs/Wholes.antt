@@ -21,7 +21,7 @@ use Rattle.span.specs.Inside.Layout.{eavSymbol}
 use Rattle.window.specs.Scan.{symbolAt, startOf, runningAt}
 use Rattle.window.proofs.Symbols.{running-start, starts}
 use Rattle.read_test20.specs.Inside.Picture.{Come}
-use Rattle.read_test20.specs.Inside.Run.{RunInv, scannedOf, ScanInv}
+use Rattle.read_test20.specs.Inside.Run.{RunInv, walkedOf, ScanInv}
 use Rattle.read_test20.specs.Inside.See.{passesBy, maskBy, GatherInv}
 use Rattle.read_test20.specs.Inside.Whole.{Tied, Begun, EavHolds, Ending}
 use Rattle.read_test20.proofs.Seeing.{see-begin}
@@ -107,7 +107,7 @@ module _ (p : Shape) (w : List ℕ) where
   module _ {first head good goods flips after : ℕ} (sav : Begun w first) (bytes : GatherInv w 2 (12 * p .«stream_pairs») good head)
       (right : passesBy good ≡ true) (picture : GatherInv w (12 * p .«stream_pairs») (12 * p .«stream_pairs» + 3 * p .«stream_pairs» * 1920) goods flips)
       (rights : passesBy goods ≡ true) (end : Ending p w flips after) where
-    pub scanned-whole : record { place = length w; before = ofMask (maskBy first); after = ofMask (maskBy after) } ≡ scannedOf p w
+    pub scanned-whole : record { place = length w; before = ofMask (maskBy first); after = ofMask (maskBy after) } ≡ walkedOf p w
     scanned-whole =
         let at : 12 * p .«stream_pairs» + 3 * p .«stream_pairs» * 1920 ≡ eavAt p = omega arith in
         let eav : eavSymbol * p .«stream_pairs» ≡ eavAt p = omega arith in

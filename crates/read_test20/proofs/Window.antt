@@ -25,7 +25,7 @@ use Rattle.span.specs.declared.format.Shape.{Shape}
 use Rattle.span.specs.Format.{eavAt}
 use Rattle.window.specs.Scan.{meant, symbolAt, startOf, runningAt, fits, holds20}
 use Rattle.window.proofs.Symbols.{fits-sav, fits-eav, fits-byte, meant-entry, legal-told, running-on, running-start}
-use Rattle.read_test20.specs.Inside.Run.{suits, RunInv, place20, scannedOf, ScanInv, holdsBy}
+use Rattle.read_test20.specs.Inside.Run.{suits, RunInv, place20, walkedOf, ScanInv, holdsBy}
 
 -- ---- the kinds of characters as ranges of numbers
 
@@ -100,7 +100,7 @@ module _ (p : Shape) (w : List ℕ) where
       rw (is-miss (λ k. not (holds20 p w k)) (length w) (record { never = λ j _ l. ap not (r .held j (omega arith)) })) all
 
   -- a window that has been asked to its end
-  scanned-is : {mask : ℕ} → ScanInv p w (length w) mask → record { place = length w; before = startOf w; after = ofMask mask } ≡ scannedOf p w
+  scanned-is : {mask : ℕ} → ScanInv p w (length w) mask → record { place = length w; before = startOf w; after = ofMask mask } ≡ walkedOf p w
   scanned-is r = rw (← (ends r (omega arith)), r .bit, mask-again (runningAt w (length w)))
 
   -- ---- the parts of a window one after the other, each run of symbols of one kind
@@ -124,7 +124,7 @@ module _ (p : Shape) (w : List ℕ) where
 
     -- all of it
     pub all-suit : {m3 m4 : ℕ} → RunInv w 0 255 2 (eavAt p) m2 → RunInv w 266 266 (eavAt p) (eavAt p + 2) m3
-        → RunInv w 0 255 (eavAt p + 2) (length w) m4 → record { place = length w; before = startOf w; after = ofMask m4 } ≡ scannedOf p w
+        → RunInv w 0 255 (eavAt p + 2) (length w) m4 → record { place = length w; before = startOf w; after = ofMask m4 } ≡ walkedOf p w
     all-suit b d e =
         let before = reached b (omega arith) (omega (arith, d .come, e .come)) in
         scanned-is

@@ -1,7 +1,7 @@
 // Runs of symbols that are nothing but blanking words.
 ghost use mathlib.Core.Path.{_≡_};
 ghost use mathlib.Core.Bool.{true};
-ghost use Prim.Native.Nat.{_+_, _≤_};
+ghost use Prim.Native.Nat.{_+_, _-_, _%_, _≤_};
 ghost use lib.ListN.{length};
 ghost use Rattle.read_test20.specs.Inside.Blank.{Repeats, AreBlank};
 
@@ -9,7 +9,8 @@ ghost use Rattle.read_test20.specs.Inside.Blank.{Repeats, AreBlank};
 fn repeats(symbols: &[u16], from: usize, to: usize) -> bool
     requires { ⌜ from ≤ to ⌝ }
     requires { ⌜ to ≤ length (now symbols) ⌝ }
-    ensures { λ r. ⌜ (r ≡ true → Repeats (now (symbols .entry)) from to) ⌝ }
+    ensures sound { λ r. ⌜ (r ≡ true → Repeats (now (symbols .entry)) from to) ⌝ }
+    ensures kept { λ r. ⌜ (Repeats (now (symbols .entry)) from to → r ≡ true) ⌝ }
 {
     let mut other = 0;
     let mut i = from;
@@ -23,7 +24,8 @@ fn repeats(symbols: &[u16], from: usize, to: usize) -> bool
 // The bytes 00 01 10 (hex) of two blanking words, at the running disparity that `flips` records; they do not flip it.
 fn begins_blank(symbols: &[u16], from: usize, flips: u32) -> bool
     requires { ⌜ from + 3 ≤ length (now symbols) ⌝ }
-    ensures { λ r. ⌜ (r ≡ true → AreBlank (now (symbols .entry)) from (from + 3) flips) ⌝ }
+    ensures sound { λ r. ⌜ (r ≡ true → AreBlank (now (symbols .entry)) from (from + 3) flips) ⌝ }
+    ensures kept { λ r. ⌜ (AreBlank (now (symbols .entry)) from (from + 3) flips → r ≡ true) ⌝ }
 {
     let first = symbols[from];
     let second = symbols[from + 1];
@@ -48,10 +50,12 @@ fn begins_blank(symbols: &[u16], from: usize, flips: u32) -> bool
 pub(crate) fn are_blank(symbols: &[u16], from: usize, to: usize, flips: u32) -> bool
     requires { ⌜ from ≤ to ⌝ }
     requires { ⌜ to ≤ length (now symbols) ⌝ }
-    ensures { λ r. ⌜ (r ≡ true → AreBlank (now (symbols .entry)) from to flips) ⌝ }
+    requires { ⌜ (to - from) % 3 ≡ 0 ⌝ }
+    ensures sound { λ r. ⌜ (r ≡ true → AreBlank (now (symbols .entry)) from to flips) ⌝ }
+    ensures kept { λ r. ⌜ (AreBlank (now (symbols .entry)) from to flips → r ≡ true) ⌝ }
 {
-    if to - from < 3 {
-        return false;
+    if from == to {
+        return true;
     }
     if begins_blank(symbols, from, flips) {
         return repeats(symbols, from, to);

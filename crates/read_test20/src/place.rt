@@ -12,14 +12,6 @@ const K28_5: u16 = 261;
 
 const K29_7: u16 = 266;
 
-pub struct Scanned {
-    // The first symbol at which test 20 does not hold; the number of symbols if it holds at every one.
-    pub place: usize,
-    // The disparity before the window, and before that symbol.
-    pub before: Disparity,
-    pub after: Disparity,
-}
-
 // The disparity whose K28.5 is symbol 0.
 fn start_of(symbols: &[u16]) -> Disparity
     ensures { λ r. ⌜ r ≡ startOf (now (symbols .entry)) ⌝ }

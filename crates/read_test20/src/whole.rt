@@ -1,37 +1,45 @@
-// A window whose symbols are all valid (document 01, refusal 20): its rows, the CRC of each stream, and its disparities. Otherwise the
-// place of the first symbol that is not.
+// A window whose symbols are all valid (document 01, refusal 20): its rows, the CRC of each stream, its disparities, and whether its fill is
+// right. Otherwise the place of the first symbol that is not.
 use crcc::sums::Sums;
+use row_crc::sums::Summed;
 use span::format::Format;
 use span::format::Shape;
 use symbol::disparity::Disparity;
 ghost use mathlib.Core.Path.{_≡_};
 ghost use mathlib.Core.Bool.{true, false};
 ghost use Prim.Native.Nat.{_+_, _-_, _*_, _%_, _≤_};
-ghost use lib.ListN.{length};
+ghost use lib.ListN.{length, replicate};
 ghost use Rattle.decoder.specs.Inside.Decoder.{decodingTable};
 ghost use Rattle.decoder.specs.Inside.Mask.{maskOf, ofMask};
-ghost use Rattle.span.specs.Format.{shapeOf, samplesIn};
+ghost use Rattle.span.specs.Format.{samplesIn};
 ghost use Rattle.span.specs.Inside.Layout.{eavSymbol, ancillarySymbol};
 ghost use Rattle.window.specs.Scan.{runningAt};
 ghost use Rattle.window.specs.Inside.Fill.{fillRight};
 ghost use Rattle.window.specs.Inside.Given.{Given};
+ghost use Rattle.read_test20.specs.declared.whole.Taken.the-variants.{Invalid};
 ghost use Rattle.read_test20.specs.Inside.Blank.{AreBlank};
 ghost use Rattle.read_test20.specs.Inside.Run.{RunInv, ScanInv, place20};
 ghost use Rattle.read_test20.specs.Inside.See.{TenBits, AreBytes, maskBy};
-ghost use Rattle.read_test20.specs.Inside.Whole.{Twice, AllHold, wholeIf, placeIf20, Begun, EavHolds, Tied, RunTo, Ending, Wholly};
+ghost use Rattle.read_test20.specs.Inside.Whole.{Twice, AllHold, takenOf, rowsTaken, takenIf, rowsIf, Begun, EavHolds, Tied, RunTo, Ending};
 
-pub struct Taken {
-    // Whether all symbols are valid: then the fields below and the rows are right.
-    pub whole: bool,
-    // The first symbol that is not valid; the number of symbols if all are.
-    pub place: usize,
-    // Whether every fill word is known to be 100; if false, nothing is known.
+// What is known of a window whose symbols are all valid.
+pub struct Valid {
+    // Whether every fill word is 100.
     pub filled: bool,
     // The disparity before the window, and after it.
     pub before: Disparity,
     pub after: Disparity,
     // The CRC of each stream over its picture words.
     pub sums: Sums,
+}
+
+pub enum Taken {
+    // All symbols are valid, and the rows have the picture.
+    Whole(Valid),
+    // The first symbol that is not; the rows are all zero.
+    Invalid(usize),
+    // Not a window of a known format, or not rows of its length: nothing was examined, and the rows are as they were.
+    NotExamined,
 }
 
 // Whether each symbol has ten bits. No early exit, so that the loop takes many at a time.
@@ -96,7 +104,7 @@ fn is_eav(symbols: &[u16], at: usize, flips: u32) -> bool
     false
 }
 
-// What comes after the picture: whether its symbols are valid, whether the fill is known to be right, and what is gathered after it.
+// What comes after the picture: whether its symbols are valid, whether the last of its runs is blanking words, and what is gathered after it.
 struct Ended {
     whole: bool,
     filled: bool,
@@ -112,7 +120,8 @@ fn run_of(t: &[u16; 1024], symbols: &[u16], from: usize, to: usize, flips: u32) 
     requires { ⌜ (to - from) % 3 ≡ 0 ⌝ }
     requires { ⌜ Tied (now symbols) from flips ⌝ }
     ensures whole { λ r. ⌜ (r .whole ≡ true → RunTo (now (symbols .entry)) from to (r .flips)) ⌝ }
-    ensures filled { λ r. ⌜ (r .filled ≡ true → AreBlank (now (symbols .entry)) from to flips) ⌝ }
+    ensures blank { λ r. ⌜ (r .filled ≡ true → AreBlank (now (symbols .entry)) from to flips) ⌝ }
+    ensures filled { λ r. ⌜ (AreBlank (now (symbols .entry)) from to flips → r .filled ≡ true) ⌝ }
     ensures kept { λ r. ⌜ (AreBytes (now (symbols .entry)) from to → r .whole ≡ true) ⌝ }
 {
     if crate::blank::are_blank(symbols, from, to, flips) {
@@ -131,7 +140,7 @@ fn run_of(t: &[u16; 1024], symbols: &[u16], from: usize, to: usize, flips: u32) 
 }
 
 fn unended() -> Ended
-    ensures { λ r. ⌜ (r .whole ≡ false) × (r .filled ≡ false) ⌝ }
+    ensures { λ r. ⌜ r .whole ≡ false ⌝ }
 {
     Ended {
         whole: false,
@@ -146,7 +155,7 @@ fn tail_of(t: &[u16; 1024], p: Shape, symbols: &[u16], flips: u32) -> Ended
     requires { ⌜ TenBits (now symbols) ⌝ }
     requires { ⌜ Tied (now symbols) (ancillarySymbol * p .«stream_pairs») flips ⌝ }
     ensures whole { λ r. ⌜ (r .whole ≡ true → RunInv (now (symbols .entry)) 0 255 (ancillarySymbol * p .«stream_pairs») (length (now (symbols .entry))) (maskBy (r .flips))) ⌝ }
-    ensures filled { λ r. ⌜ (r .filled ≡ true → fillRight p (now (symbols .entry)) ≡ true) ⌝ }
+    ensures filled { λ r. ⌜ (r .whole ≡ true → r .filled ≡ fillRight p (now (symbols .entry))) ⌝ }
     ensures kept { λ r. ⌜ (AreBytes (now (symbols .entry)) (ancillarySymbol * p .«stream_pairs») (length (now (symbols .entry))) → r .whole ≡ true) ⌝ }
 {
     let from = span::layout::ANCILLARY_SYMBOL * p.stream_pairs;
@@ -164,7 +173,7 @@ fn end_of(t: &[u16; 1024], p: Shape, symbols: &[u16], flips: u32) -> Ended
     requires { ⌜ TenBits (now symbols) ⌝ }
     requires { ⌜ Tied (now symbols) (eavSymbol * p .«stream_pairs») flips ⌝ }
     ensures whole { λ r. ⌜ (r .whole ≡ true → Ending p (now (symbols .entry)) flips (r .flips)) ⌝ }
-    ensures filled { λ r. ⌜ (r .filled ≡ true → fillRight p (now (symbols .entry)) ≡ true) ⌝ }
+    ensures filled { λ r. ⌜ (r .whole ≡ true → r .filled ≡ fillRight p (now (symbols .entry))) ⌝ }
     ensures kept { λ r. ⌜ (AllHold p (now (symbols .entry)) → r .whole ≡ true) ⌝ }
 {
     let eav = span::layout::EAV_SYMBOL * p.stream_pairs;
@@ -186,44 +195,36 @@ fn mask_by(flips: u32) -> u16
     (1536 - flips / 2048 % 4 * 512) as u16
 }
 
-// For a window with an invalid symbol: its place and nothing else.
-fn fault(place: usize) -> Taken
-    ensures { λ r. ⌜ (r .whole ≡ false) × (r .filled ≡ false) × (r .place ≡ place) ⌝ }
-{
-    Taken {
-        whole: false,
-        place,
-        filled: false,
-        before: Disparity::Negative,
-        after: Disparity::Negative,
-        sums: Sums {
-            first: 0,
-            second: 0,
-            third: 0,
-            fourth: 0,
-        },
-    }
-}
-
-// The same, searched for from the beginning.
-fn fault_somewhere(t: &[u16; 1024], p: Shape, symbols: &[u16]) -> Taken
+// For a window with an invalid symbol: its place, searched for from the beginning.
+fn fault_somewhere(t: &[u16; 1024], p: Shape, symbols: &[u16], rows: &mut [u16]) -> Taken
     requires { ⌜ now t ≡ decodingTable ⌝ }
     requires { ⌜ p .«stream_pairs» ≤ 2 ⌝ }
-    ensures { λ r. ⌜ (r .whole ≡ false) × (r .filled ≡ false) × (r .place ≡ place20 p (now (symbols .entry))) ⌝ }
+    ensures place { λ r. ⌜ r ≡ Invalid (place20 p (now (symbols .entry))) ⌝ }
+    ensures rows { λ _. ⌜ now (rows .exit) ≡ replicate (length (now (rows .entry))) 0 ⌝ }
 {
-    fault(crate::place::first_wrong_of_all(t, p, symbols))
+    ground::fill::fill(rows, 0);
+    Taken::Invalid(crate::place::first_wrong_of_all(t, p, symbols))
 }
 
 // The same, given that the first `words` picture words of each stream are valid and `flips` has been gathered after them.
-fn fault_after(t: &[u16; 1024], p: Shape, symbols: &[u16], words: usize, flips: u32) -> Taken
+fn fault_after(
+    t: &[u16; 1024],
+    p: Shape,
+    symbols: &[u16],
+    words: usize,
+    flips: u32,
+    rows: &mut [u16],
+) -> Taken
     requires { ⌜ now t ≡ decodingTable ⌝ }
     requires { ⌜ p .«stream_pairs» ≤ 2 ⌝ }
     requires { ⌜ words ≤ 1920 ⌝ }
     requires { ⌜ ScanInv p (now symbols) (12 * p .«stream_pairs» + 3 * p .«stream_pairs» * words) (maskBy flips) ⌝ }
-    ensures { λ r. ⌜ (r .whole ≡ false) × (r .filled ≡ false) × (r .place ≡ place20 p (now (symbols .entry))) ⌝ }
+    ensures place { λ r. ⌜ r ≡ Invalid (place20 p (now (symbols .entry))) ⌝ }
+    ensures rows { λ _. ⌜ now (rows .exit) ≡ replicate (length (now (rows .entry))) 0 ⌝ }
 {
+    ground::fill::fill(rows, 0);
     let clean = span::layout::PICTURE_SYMBOL * p.stream_pairs + 3 * p.stream_pairs * words;
-    fault(crate::place::first_wrong(t, p, symbols, clean, mask_by(flips)))
+    Taken::Invalid(crate::place::first_wrong(t, p, symbols, clean, mask_by(flips)))
 }
 
 // A window of a known format whose symbols have ten bits.
@@ -231,15 +232,12 @@ fn take_window(t: &[u16; 1024], p: Shape, symbols: &[u16], rows: &mut [u16]) -> 
     requires { ⌜ Given p (now t) (now symbols) ⌝ }
     requires { ⌜ TenBits (now symbols) ⌝ }
     requires { ⌜ length (now rows) ≡ samplesIn p ⌝ }
-    ensures size { λ _. ⌜ length (now (rows .exit)) ≡ samplesIn p ⌝ }
-    ensures whole { λ r. ⌜ (r .whole ≡ true → Wholly p (now (symbols .entry)) r (now (rows .exit))) ⌝ }
-    ensures filled { λ r. ⌜ (r .filled ≡ true → fillRight p (now (symbols .entry)) ≡ true) ⌝ }
-    ensures place { λ r. ⌜ r .place ≡ place20 p (now (symbols .entry)) ⌝ }
-    ensures kept { λ r. ⌜ (AllHold p (now (symbols .entry)) → r .whole ≡ true) ⌝ }
+    ensures taken { λ r. ⌜ r ≡ takenOf p (now (symbols .entry)) ⌝ }
+    ensures rows { λ _. ⌜ now (rows .exit) ≡ rowsTaken p (now (symbols .entry)) (now (rows .entry)) ⌝ }
 {
     let first = after_sav(symbols);
     if first == 0 {
-        return fault_somewhere(t, p, symbols);
+        return fault_somewhere(t, p, symbols, rows);
     }
     let head = crate::see::see_run(
         t,
@@ -249,43 +247,41 @@ fn take_window(t: &[u16; 1024], p: Shape, symbols: &[u16], rows: &mut [u16]) -> 
         first,
     );
     if !crate::see::passes(head.good) {
-        return fault_somewhere(t, p, symbols);
+        return fault_somewhere(t, p, symbols, rows);
     }
     let v = crate::picture::take_picture(t, p.stream_pairs, symbols, head.flips, rows);
     if !crate::see::passes(v.good) {
-        return fault_after(t, p, symbols, v.words, v.flips);
+        return fault_after(t, p, symbols, v.words, v.flips, rows);
     }
     let e = end_of(t, p, symbols, v.flips);
     if !e.whole {
-        return fault_after(t, p, symbols, v.words, v.flips);
+        return fault_after(t, p, symbols, v.words, v.flips, rows);
     }
     // Only for a valid window: nothing else pays for the CRCs.
-    let sums = row_crc::sums::sums_of_rows(rows);
-    Taken {
-        whole: e.whole,
-        place: symbols.len(),
-        filled: e.filled,
-        before: disparity_by(first),
-        after: disparity_by(e.flips),
-        sums,
+    match row_crc::sums::sums_of_rows(rows) {
+        Summed::Rows(sums) => Taken::Whole(Valid {
+            filled: e.filled,
+            before: disparity_by(first),
+            after: disparity_by(e.flips),
+            sums,
+        }),
+        // Not met: the rows have their format's length.
+        Summed::OtherLength => Taken::NotExamined,
     }
 }
 
 // A window with rows of its format's length; anything else is not examined. The table is copied once, here.
 pub fn take(f: Format, symbols: &[u16], rows: &mut [u16]) -> Taken
-    ensures size { λ _. ⌜ length (now (rows .exit)) ≡ length (now (rows .entry)) ⌝ }
-    ensures taken { λ r. ⌜ (r .whole ≡ true → Wholly (shapeOf f) (now (symbols .entry)) r (now (rows .exit))) ⌝ }
-    ensures filled { λ r. ⌜ (r .filled ≡ true → fillRight (shapeOf f) (now (symbols .entry)) ≡ true) ⌝ }
-    ensures whole { λ r. ⌜ r .whole ≡ wholeIf f (now (symbols .entry)) (length (now (rows .entry))) ⌝ }
-    ensures place { λ r. ⌜ r .place ≡ placeIf20 f (now (symbols .entry)) (length (now (rows .entry))) ⌝ }
+    ensures taken { λ r. ⌜ r ≡ takenIf f (now (symbols .entry)) (now (rows .entry)) ⌝ }
+    ensures rows { λ _. ⌜ now (rows .exit) ≡ rowsIf f (now (symbols .entry)) (now (rows .entry)) ⌝ }
 {
     if !span::fit::is_ready(f, symbols.len(), rows.len()) {
-        return fault(0);
+        return Taken::NotExamined;
     }
     let t = decoder::table::decoding_table();
     let p = span::format::shape_of(f);
     if !are_ten_bits(symbols) {
-        return fault_somewhere(&t, p, symbols);
+        return fault_somewhere(&t, p, symbols, rows);
     }
     take_window(&t, p, symbols, rows)
 }

@@ -3,6 +3,7 @@
 use mathlib.Core.Path.{_≡_, sym, ap, _∙_}
 use mathlib.Core.Bool.{true, false}
 use mathlib.Core.List.{List}
+use mathlib.Core.Option.{Option, some, Option·getD}
 use Prim.Native.Nat.{ℕ, _+_, _*_}
 use native.Mathlib.Omega.{arith}
 use lib.Dec.{eqb}
@@ -23,13 +24,12 @@ use Rattle.span.proofs.Lengths.{known-has-streams}
 use Rattle.crcc.specs.declared.sums.Sums.{Sums}
 use Rattle.window.specs.Read.{contentIn, repairsOf}
 use Rattle.window.specs.Scan.{byteOf, symbolAt}
-use Rattle.window.specs.Tests.{nextLine, lineRead, repairCount}
+use Rattle.window.specs.Tests.{named, nextLine, lineRead, repairCount}
 use Rattle.window.specs.Words.{wordAt}
 use Rattle.window.specs.Inside.Given.{Given}
-use Rattle.read_test21_26.specs.declared.service.Verdict.{Verdict}
-use Rattle.read_test21_26.specs.Inside.Call.{isWindow, serviceOf, place25, place26}
-use Rattle.read_test21_26.specs.Inside.Holds.{holdsOf, holdsAt, firstWrong}
-use Rattle.read_test21_26.specs.Inside.Verdict.{firstRow, serviceTests}
+use Rattle.read_test21_26.specs.declared.call.Lowest.{Lowest}
+use Rattle.read_test21_26.specs.Inside.Call.{isWindow, serviceOf, wrong25, wrong26, lowestOf}
+use Rattle.read_test21_26.specs.Inside.Holds.{holdsOf, holdsAt, wrongIn}
 
 module _ (f : Format) (n : ℕ) where
   pub known : isKnown f ≡ true → {symbols : ℕ} → symbols ≡ symbolsIn (shapeOf f) → eqb n symbols ≡ isWindow f n
@@ -55,30 +55,32 @@ module _ (p : Shape) (w : List ℕ) {x1 x2 x3 x4 : ℕ} where
       → x4 ≡ byteOf (symbolAt w (eavSymbol * p .«stream_pairs» + 3)) → record { sav1 = x1; sav2 = x2; eav1 = x3; eav2 = x4 } ≡ contentIn p w
   content-is e1 e2 e3 e4 = let at : eavSymbol * p .«stream_pairs» ≡ eavAt p = omega arith in rw (e1, e2, e3, e4, at)
 
--- ---- the answers, by the shape in hand
-module _ (f : Format) (w : List ℕ) {p : Shape} (e : p ≡ shapeOf f) where
-  pub service-is : {v : Verdict} {l : StreamLine} {n r : ℕ} {b : ContentBytes} (c : Sums) → v ≡ firstRow (serviceTests p w c)
-      → l .0 ≡ lineBefore n → n ≡ nextLine (streams p) (wordAt p w) → b ≡ contentIn p w → r ≡ repairCount (streams p) (wordAt p w)
-      → record { verdict = v; line = l; content = b; repairs = repairsOf r } ≡ serviceOf (shapeOf f) w c
-  unfolding lineRead
-  service-is {v} {l} {n} {r} {b} c ev el en eb er =
-      let line : l .0 ≡ lineRead (streams p) (wordAt p w) = el ∙ ap lineBefore en in
-      rw (← e) (rw (ev, eb, er, ← line))
+-- ---- the answers
+module _ (p : Shape) (w : List ℕ) where
+  pub service-is : {l m : StreamLine} {r : ℕ} {b : ContentBytes} → some (m .0) ≡ named (streams p) (wordAt p w) → l .0 ≡ lineBefore (m .0)
+      → b ≡ contentIn p w → r ≡ repairCount (streams p) (wordAt p w) → record { line = l; content = b; repairs = repairsOf r } ≡ serviceOf p w
+  unfolding lineRead nextLine
+  service-is {l} {m} {r} {b} named-is el eb er =
+      let line : l .0 ≡ lineRead (streams p) (wordAt p w) =
+      el ∙ ap (λ (o : Option ℕ). lineBefore (Option·getD o 0)) named-is in
+      rw (eb, er, ← line)
 
-  module _ (c : Sums) {k : ℕ} where
-    pub is-place-25 : k ≡ firstWrong (holdsAt 25 f p w c) (pictureStart * streams p) (eavStart * streams p) → k ≡ place25 f w
-    unfolding place25 holdsOf
-    is-place-25 is = is ∙ ap (λ (q : Shape). firstWrong (holdsAt 25 f q w c) (pictureStart * streams q) (eavStart * streams q)) e
+-- by the shape in hand
+module _ (f : Format) (w : List ℕ) {p : Shape} (e : p ≡ shapeOf f) (c : Sums) {r : Lowest} where
+  pub is-place-25 : r ≡ lowestOf (wrongIn (holdsAt 25 f p w c) (pictureStart * streams p) (eavStart * streams p)) → r ≡ lowestOf (wrong25 f w)
+  unfolding wrong25 holdsOf
+  is-place-25 is = is ∙ ap (λ (q : Shape). lowestOf (wrongIn (holdsAt 25 f q w c) (pictureStart * streams q) (eavStart * streams q))) e
 
-    pub is-place-26 :
-        k
-        ≡ firstWrong (holdsAt 26 f p w c) (streams p * (ancillaryStart + p .ancillary))
-        (streams p * (ancillaryStart + p .ancillary) + 2 * p .«fill_pairs»)
-        → k ≡ place26 f w
-    unfolding place26 holdsOf
-    is-place-26 is =
-        is
-        ∙ ap
-        (λ (q : Shape).
-        firstWrong (holdsAt 26 f q w c) (streams q * (ancillaryStart + q .ancillary)) (streams q * (ancillaryStart + q .ancillary) + 2 * q .«fill_pairs»))
-        e
+  pub is-place-26 :
+      r
+      ≡ lowestOf
+      (wrongIn (holdsAt 26 f p w c) (streams p * (ancillaryStart + p .ancillary)) (streams p * (ancillaryStart + p .ancillary) + 2 * p .«fill_pairs»))
+      → r ≡ lowestOf (wrong26 f w)
+  unfolding wrong26 holdsOf
+  is-place-26 is =
+      is
+      ∙ ap
+      (λ (q : Shape).
+      lowestOf
+      (wrongIn (holdsAt 26 f q w c) (streams q * (ancillaryStart + q .ancillary)) (streams q * (ancillaryStart + q .ancillary) + 2 * q .«fill_pairs»)))
+      e

@@ -1,25 +1,33 @@
 -- Tests 21 to 24 in turn, each over the words of which it asks something.
 -- Assumes nothing.
-use mathlib.Core.Path.{_≡_, sym, ap, _∙_}
-use mathlib.Core.Bool.{true}
-use mathlib.Core.List.{List}
+use mathlib.Core.Path.{_≡_, refl, sym, ap, _∙_}
+use mathlib.Core.Bool.{true, false, not, true≢false}
+use mathlib.Core.List.{List, _∷_}
 use mathlib.Core.Option.{Option, none, some}
-use Prim.Native.Nat.{ℕ, _+_, _*_, _≤_}
+use Prim.Native.Nat.{ℕ, _+_, _*_, _/_, _%_, _≤_, _<_}
 use native.Mathlib.Omega.{arith}
-use borrow.Author.Tests.{le-ltb, ne-eqb}
+use lib.ListN.{drop}
+use borrow.Author.Tests.{le-ltb, ne-eqb, not-false}
+use Rattle.ground.specs.Answer.{Row}
+use Rattle.ground.specs.Search.{isSome}
+use Rattle.ground.proofs.Searches.{miss}
 use Rattle.ground.proofs.Ranges.{not-within}
 use Rattle.span.specs.declared.format.Format.{Format}
 use Rattle.span.specs.declared.format.Shape.{Shape}
 use Rattle.span.specs.Format.{streams, pairsIn}
 use Rattle.span.specs.Layout.{pictureStart, eavStart, lineStart, crccStart, ancillaryStart, savXyz, eavXyz}
 use Rattle.crcc.specs.declared.sums.Sums.{Sums}
-use Rattle.window.specs.Tests.{holds21, holds22, holds23}
+use Rattle.window.specs.Read.{lowest, placed}
+use Rattle.window.specs.Tests.{named, holds21, holds22, holds23}
 use Rattle.window.specs.Words.{wordAt}
 use Rattle.read_test21_26.specs.declared.service.Verdict.{Verdict}
+use Rattle.read_test21_26.specs.declared.service.Verdict.the-variants.{AllHold, Fails}
 use Rattle.read_test21_26.specs.Inside.Holds.{holds24By, holdsOf, holdsAt, wrongIn}
-use Rattle.read_test21_26.specs.Inside.Verdict.{passed, verdictOf, firstRow, serviceTests}
+use Rattle.read_test21_26.specs.Inside.Verdict.{isFailed, verdictOf, firstRow, serviceTests}
 use Rattle.read_test21_26.proofs.Regions.{in-one-run, in-two-runs}
+use Rattle.read_test21_26.proofs.Reading.{first-word, first-stream}
 use Rattle.read_test21_26.proofs.Sizes.{within-window}
+use Rattle.read_test21_26.proofs.Tests.{first-22}
 
 -- where each test asks nothing
 module _ (s : ℕ) (word : ℕ → ℕ) (j t : ℕ) where
@@ -45,7 +53,7 @@ module _ (f : Format) (p : Shape) (w : List ℕ) (c : Sums) where
   judged number a b rest = verdictOf number (wrongIn (holdsAt number f p w c) (streams p * a) (streams p * b)) rest
 
   abbrev from-crcc : Verdict
-  from-crcc = judged 24 crccStart ancillaryStart passed
+  from-crcc = judged 24 crccStart ancillaryStart AllHold
 
   abbrev from-next-v : Verdict
   from-next-v = judged 23 eavXyz lineStart from-crcc
@@ -78,58 +86,81 @@ module _ (f : Format) (p : Shape) (w : List ℕ) (c : Sums) where
       ∙ ap (judged 22 lineStart crccStart)
       (in-two-runs s some-stream (holds23 s word) n 23 _ (omega arith) (omega arith) (omega arith) (within-window p (omega arith)) (right-23 s word)
       ∙ ap (λ (v : Verdict). judged 23 savXyz pictureStart (judged 23 eavXyz lineStart v))
-      (in-one-run s some-stream (holds24By p w c) n 24 passed (omega arith) (within-window p (omega arith)) (right-24 p w c))))
+      (in-one-run s some-stream (holds24By p w c) n 24 AllHold (omega arith) (within-window p (omega arith)) (right-24 p w c))))
 
   -- a test that says something is the answer; where it says nothing, the rest is
-  module _ (number a b : ℕ) (rest : Verdict) (e : answer ≡ judged number a b rest) {v : Verdict} (is : v ≡ judged number a b passed) where
-    ends-here : (v .number ≡ 0 → ⊥) → v ≡ answer
+  module _ (number a b : ℕ) (rest : Verdict) (e : answer ≡ judged number a b rest) {v : Verdict} (is : v ≡ judged number a b AllHold) where
+    ends-here : isFailed v ≡ true → v ≡ answer
     ends-here x = go (wrongIn (holdsAt number f p w c) (streams p * a) (streams p * b)) e is
       where
-        go : (o : Option ℕ) → answer ≡ verdictOf number o rest → v ≡ verdictOf number o passed → v ≡ answer
-        go none e is = absurd (x (ap (λ (r : Verdict). r .number) is))
+        go : (o : Option ℕ) → answer ≡ verdictOf number o rest → v ≡ verdictOf number o AllHold → v ≡ answer
+        go none e is = absurd (true≢false (sym x ∙ ap isFailed is))
         go (some k) e is = is ∙ sym e
 
-    goes-on : 1 ≤ number → v .number ≡ 0 → answer ≡ rest
-    goes-on h z = go (wrongIn (holdsAt number f p w c) (streams p * a) (streams p * b)) e is
+    goes-on : isFailed v ≡ false → answer ≡ rest
+    goes-on z = go (wrongIn (holdsAt number f p w c) (streams p * a) (streams p * b)) e is
       where
-        go : (o : Option ℕ) → answer ≡ verdictOf number o rest → v ≡ verdictOf number o passed → answer ≡ rest
+        go : (o : Option ℕ) → answer ≡ verdictOf number o rest → v ≡ verdictOf number o AllHold → answer ≡ rest
         go none e is = e
-        go (some k) e is = let q : v .number ≡ number = ap (λ (r : Verdict). r .number) is in absurd (omega arith)
+        go (some k) e is = absurd (true≢false (sym (ap isFailed is) ∙ z))
 
   -- the six runs one after the other
-  module _ (half : 1 ≤ p .«stream_pairs») {sav : Verdict} (sav-is : sav ≡ judged 21 0 pictureStart passed) where
-    pub sav-wrong : (sav .number ≡ 0 → ⊥) → sav ≡ answer
+  module _ (half : 1 ≤ p .«stream_pairs») {sav : Verdict} (sav-is : sav ≡ judged 21 0 pictureStart AllHold) where
+    pub sav-wrong : isFailed sav ≡ true → sav ≡ answer
     sav-wrong = ends-here 21 0 pictureStart from-eav (in-turn half) sav-is
 
-    to-eav : sav .number ≡ 0 → answer ≡ from-eav
-    to-eav = goes-on 21 0 pictureStart from-eav (in-turn half) sav-is (omega arith)
+    to-eav : isFailed sav ≡ false → answer ≡ from-eav
+    to-eav = goes-on 21 0 pictureStart from-eav (in-turn half) sav-is
 
-    module _ (sav-right : sav .number ≡ 0) {eav : Verdict} (eav-is : eav ≡ judged 21 eavStart lineStart passed) where
-      pub eav-wrong : (eav .number ≡ 0 → ⊥) → eav ≡ answer
+    module _ (sav-right : isFailed sav ≡ false) {eav : Verdict} (eav-is : eav ≡ judged 21 eavStart lineStart AllHold) where
+      pub eav-wrong : isFailed eav ≡ true → eav ≡ answer
       eav-wrong = ends-here 21 eavStart lineStart from-line (to-eav sav-right) eav-is
 
-      to-line : eav .number ≡ 0 → answer ≡ from-line
-      to-line = goes-on 21 eavStart lineStart from-line (to-eav sav-right) eav-is (omega arith)
+      to-line : isFailed eav ≡ false → answer ≡ from-line
+      to-line = goes-on 21 eavStart lineStart from-line (to-eav sav-right) eav-is
 
-      module _ (eav-right : eav .number ≡ 0) {line : Verdict} (line-is : line ≡ judged 22 lineStart crccStart passed) where
-        pub line-wrong : (line .number ≡ 0 → ⊥) → line ≡ answer
+      module _ (eav-right : isFailed eav ≡ false) {line : Verdict} (line-is : line ≡ judged 22 lineStart crccStart AllHold) where
+        pub line-wrong : isFailed line ≡ true → line ≡ answer
         line-wrong = ends-here 22 lineStart crccStart from-v (to-line eav-right) line-is
 
-        to-v : line .number ≡ 0 → answer ≡ from-v
-        to-v = goes-on 22 lineStart crccStart from-v (to-line eav-right) line-is (omega arith)
+        to-v : isFailed line ≡ false → answer ≡ from-v
+        to-v = goes-on 22 lineStart crccStart from-v (to-line eav-right) line-is
 
-        module _ (line-right : line .number ≡ 0) {v : Verdict} (v-is : v ≡ judged 23 savXyz pictureStart passed) where
-          pub v-wrong : (v .number ≡ 0 → ⊥) → v ≡ answer
+        module _ (line-right : isFailed line ≡ false) {v : Verdict} (v-is : v ≡ judged 23 savXyz pictureStart AllHold) where
+          pub v-wrong : isFailed v ≡ true → v ≡ answer
           v-wrong = ends-here 23 savXyz pictureStart from-next-v (to-v line-right) v-is
 
-          to-next-v : v .number ≡ 0 → answer ≡ from-next-v
-          to-next-v = goes-on 23 savXyz pictureStart from-next-v (to-v line-right) v-is (omega arith)
+          to-next-v : isFailed v ≡ false → answer ≡ from-next-v
+          to-next-v = goes-on 23 savXyz pictureStart from-next-v (to-v line-right) v-is
 
-          module _ (v-right : v .number ≡ 0) {next-v : Verdict} (next-v-is : next-v ≡ judged 23 eavXyz lineStart passed) where
-            pub next-v-wrong : (next-v .number ≡ 0 → ⊥) → next-v ≡ answer
+          module _ (v-right : isFailed v ≡ false) {next-v : Verdict} (next-v-is : next-v ≡ judged 23 eavXyz lineStart AllHold) where
+            pub next-v-wrong : isFailed next-v ≡ true → next-v ≡ answer
             next-v-wrong = ends-here 23 eavXyz lineStart from-crcc (to-next-v v-right) next-v-is
 
             -- the last of them is the answer where all before it say nothing
-            pub crcc-last : next-v .number ≡ 0 → {crcc : Verdict} → crcc ≡ from-crcc → crcc ≡ answer
+            pub crcc-last : isFailed next-v ≡ false → {crcc : Verdict} → crcc ≡ from-crcc → crcc ≡ answer
             crcc-last next-v-right crcc-is =
-                crcc-is ∙ sym (goes-on 23 eavXyz lineStart from-crcc (to-next-v v-right) next-v-is (omega arith) next-v-right)
+                crcc-is ∙ sym (goes-on 23 eavXyz lineStart from-crcc (to-next-v v-right) next-v-is next-v-right)
+
+-- where all hold, stream 1 names a line
+module _ (p : Shape) (w : List ℕ) (c : Sums) (half : 1 ≤ p .«stream_pairs») where
+  second-held : (r q : Row) (rs : List Row) → firstRow (r ∷ q ∷ rs) ≡ AllHold → q .fails ≡ none
+  second-held r q rs e = go (r .fails) (q .fails) refl refl
+    where
+      go : (a b : Option ℕ) → r .fails ≡ a → q .fails ≡ b → q .fails ≡ none
+      go (some k) b x y = let z : Fails (record { number = r .number; place = k }) ≡ AllHold = rw x at e in absurd (true≢false (ap isFailed z))
+      go none none x y = y
+      go none (some k) x y =
+          let z : Fails (record { number = q .number; place = k }) ≡ AllHold = rw (x, y) at e in absurd (true≢false (ap isFailed z))
+
+  pub some-named : firstRow (serviceTests p w c) ≡ AllHold → isSome (named (streams p) (wordAt p w)) ≡ true
+  some-named e =
+      let s = streams p in
+      let word = wordAt p w in
+      let k = lineStart * s in
+      let n = 2 * pairsIn p in
+      let some-streams : 1 ≤ s = omega arith in
+      let inside : k < n = omega (arith, within-window p (let h : crccStart ≤ ancillaryStart = omega arith in h)) in
+      let held = miss (λ k. not (placed s (holds22 s word) k)) n (second-held (lowest 21 n (placed s (holds21 s word))) (lowest 22 n (placed s (holds22 s word))) (drop 2 (serviceTests p w c)) e) .never k (omega arith) inside in
+      sym (first-22 s word (k / s) (k % s) (first-word s some-streams k lineStart refl) (first-stream s some-streams k lineStart refl))
+      ∙ not-false (placed s (holds22 s word) k) held

@@ -1,6 +1,5 @@
 pub mod Allowing
 pub mod Calls
-pub mod FillCalls
 pub mod InTurn
 pub mod Numbers
 pub mod Reading

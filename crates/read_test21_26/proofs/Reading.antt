@@ -17,14 +17,16 @@ use Rattle.span.specs.Layout.{eavStart, lineStart, eavXyz}
 use Rattle.packing.specs.declared.bytes.TwoWords.{TwoWords}
 use Rattle.packing.specs.Bytes.{unpacked}
 use Rattle.crcc.specs.Crcc.{crc, crcWord, crccWords}
-use Rattle.word.specs.LineNumber.{lineOf, namedOf}
-use Rattle.window.specs.Tests.{wordOf, sumOf, nextLine, lineRead, repairCount}
+use Rattle.word.specs.declared.line_number.Named.{Named}
+use Rattle.word.specs.declared.line_number.Named.the-variants.{Line, Above4095, Nameless}
+use Rattle.word.specs.LineNumber.{lineOf, namedOf, paperNamed}
+use Rattle.window.specs.Tests.{wordOf, sumOf, named, nextLine, lineRead, repairCount}
 use Rattle.word.specs.Received.{repaired, wrongBits}
 use Rattle.window.specs.Words.{fixedByte, byteAt, pairAt, wordAt}
 use Rattle.window.proofs.Bytes.{word-below}
 use Rattle.window.proofs.Encoded.{fixed-two, fixed-four}
 use Rattle.window.proofs.Placing.{four, word-of-place, stream-of-place, place-again}
-use Rattle.read_test21_26.specs.Inside.Holds.{crccReceived}
+use Rattle.read_test21_26.specs.Inside.Holds.{lineIn, crccReceived}
 
 -- ---- bytes
 
@@ -78,29 +80,36 @@ module _ (a b : ℕ) (small : a < 4096) (smaller : b < 4096) where
   named-is none e = simp (lt-ltb a 4096 small, lt-ltb b 4096 smaller, e)
   named-is (some m) e = simp (lt-ltb a 4096 small, lt-ltb b 4096 smaller, e)
 
-  pub line-told : (l : StreamLine) → given l ≡ namedOf a b → l .0 ≡ Option·getD (lineOf a b) 0
-  line-told l q = go (lineOf a b) refl
+  pub line-told : (r : Named) → paperNamed r ≡ namedOf a b → lineIn r ≡ lineOf a b
+  line-told r q = go (lineOf a b) refl r q
     where
-      go : (o : Option ℕ) → lineOf a b ≡ o → l .0 ≡ Option·getD (lineOf a b) 0
-      go none e = let z : _≡_ {A = ℕ} 0 1 = cc (q ∙ named-is none e) in absurd (omega arith)
-      go (some m) e =
-          let same : l ≡ record { 0 = m } = cc (q ∙ named-is (some m) e) in ap (λ (x : StreamLine). x .0) same ∙ sym (rw e)
-
-  pub no-line-told : (number : ℕ) → refused number 0 ≡ namedOf a b → 0 ≡ Option·getD (lineOf a b) 0
-  no-line-told number q = go (lineOf a b) refl
-    where
-      go : (o : Option ℕ) → lineOf a b ≡ o → 0 ≡ Option·getD (lineOf a b) 0
-      go none e = rw e
-      go (some m) e = let z : _≡_ {A = ℕ} 0 1 = cc (q ∙ named-is (some m) e) in absurd (omega arith)
+      go : (o : Option ℕ) → lineOf a b ≡ o → (r : Named) → paperNamed r ≡ namedOf a b → lineIn r ≡ lineOf a b
+      go none e (Line l) q = let z : _≡_ {A = ℕ} 0 1 = cc (q ∙ named-is none e) in absurd (omega arith)
+      go none e Above4095 q = sym e
+      go none e Nameless q = sym e
+      go (some m) e (Line l) q =
+          let same : l ≡ record { 0 = m } = cc (q ∙ named-is (some m) e) in
+          ap {B = Option ℕ} (λ (x : StreamLine). some (x .0)) same ∙ sym e
+      go (some m) e Above4095 q = let z : _≡_ {A = ℕ} 0 1 = cc (q ∙ named-is (some m) e) in absurd (omega arith)
+      go (some m) e Nameless q = let z : _≡_ {A = ℕ} 0 1 = cc (q ∙ named-is (some m) e) in absurd (omega arith)
 
 -- the two words of stream 1
 module _ (p : Shape) (w : List ℕ) {a b : ℕ} (first : a ≡ wordAt p w (lineStart * streams p)) (second : b ≡ wordAt p w ((lineStart + 1) * streams p)) where
-  pub next-is : Option·getD (lineOf a b) 0 ≡ nextLine (streams p) (wordAt p w)
-  unfolding nextLine
+  pub next-is : lineOf a b ≡ named (streams p) (wordAt p w)
   next-is =
       let e : lineStart * streams p ≡ streams p * lineStart + 0 = omega arith in
       let q : (lineStart + 1) * streams p ≡ streams p * (lineStart + 1) + 0 = omega arith in
       rw (first, second, e, q)
+
+-- the line named, and the line before it, which is the line read
+module _ (s : ℕ) (word : ℕ → ℕ) (next : Named) (e : lineIn next ≡ named s word) where
+  pub next-line : Option·getD (lineIn next) 0 ≡ nextLine s word
+  unfolding nextLine
+  next-line = ap (λ (o : Option ℕ). Option·getD o 0) e
+
+  pub line-read : lineBefore (Option·getD (lineIn next) 0) ≡ lineRead s word
+  unfolding lineRead
+  line-read = ap lineBefore next-line
 
 -- ---- the CRCC
 
@@ -134,11 +143,6 @@ module _ (s : ℕ) (some-streams : 1 ≤ s) (k : ℕ) where
   pub not-first : (j : ℕ) → (k ≡ j * s → ⊥) → k / s ≡ j → k % s ≡ 0 → ⊥
   not-first j x e q =
       x (let z : s * j + 0 ≡ k = rw (e, q) at (place-again s some-streams k) in omega arith)
-
--- the line read is the one before the line named
-pub line-is : (s : ℕ) (word : ℕ → ℕ) → lineBefore (nextLine s word) ≡ lineRead s word
-unfolding lineRead
-line-is s word = refl
 
 -- ---- wrong bits
 

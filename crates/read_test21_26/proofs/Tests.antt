@@ -1,23 +1,19 @@
 -- Each test at the words where it asks something, and where it asks nothing.
 -- Assumes nothing.
 use mathlib.Core.Path.{_≡_, refl}
-use mathlib.Core.Bool.{Bool, true, false, not, _&&_, Bool·beq}
+use mathlib.Core.Bool.{Bool, true, false, _&&_, Bool·beq}
 use mathlib.Core.List.{List}
-use mathlib.Core.Option.{Option, none, some, Option·getD}
 use Prim.Native.Nat.{ℕ, _+_, _-_, _≤_, _<_}
 use native.Mathlib.Omega.{arith}
 use lib.Dec.{eqb}
 use borrow.Author.Tests.{lt-ltb, le-ltb, eq-eqb, ne-eqb, eqb-true}
 use Rattle.ground.specs.Search.{isSome}
 use Rattle.ground.proofs.Cases.{on-test}
-use Rattle.ground.proofs.Ranges.{is-within, not-within, from-low}
-use Rattle.ground.proofs.Searches.{hit}
-use Rattle.ground.proofs.Tests.{both-left}
-use Rattle.line.specs.Stream.{isLine, vOf}
+use Rattle.ground.proofs.Ranges.{is-within, not-within}
+use Rattle.line.specs.Stream.{vOf}
 use Rattle.span.specs.declared.format.Shape.{Shape}
 use Rattle.span.specs.Format.{streams}
 use Rattle.span.specs.Layout.{pictureStart, eavStart, lineStart, crccStart, savXyz, eavXyz}
-use Rattle.word.specs.LineNumber.{ln0, ln1, areWordsOf, lineOf}
 use Rattle.crcc.specs.declared.sums.Sums.{Sums}
 use Rattle.window.specs.Tests.{same, wordOf, named, nextLine, lineRead, holds21, holds22, holds23}
 use Rattle.word.specs.Received.{isTiming, vIn}
@@ -98,21 +94,3 @@ module _ (p : Shape) (w : List ℕ) (c : Sums) (j t : ℕ) where
   pub else-24 : (j ≡ crccStart → ⊥) → (j ≡ (crccStart + 1) → ⊥) → holds24By p w c j t ≡ true
   unfolding holds24By
   else-24 x y = rw (ne-eqb j crccStart x, ne-eqb j (crccStart + 1) y)
-
--- ---- the line named
-
--- a line has a number from 1 on, so 0 says that none is named
-named-line : (a b m : ℕ) → lineOf a b ≡ some m → 1 ≤ m
-unfolding lineOf
-named-line a b m e =
-    from-low 1 1125 m (both-left (isLine m) (eqb (ln0 m) a && eqb (ln1 m) b) (hit (areWordsOf a b) 1126 m e .holds))
-
-pub some-line : (s : ℕ) (word : ℕ → ℕ) → not (eqb (nextLine s word) 0) ≡ isSome (named s word)
-unfolding nextLine
-some-line s word = go (named s word) refl
-  where
-    go : (o : Option ℕ) → named s word ≡ o → not (eqb (Option·getD (named s word) 0) 0) ≡ isSome (named s word)
-    go none e = rw e
-    go (some m) e =
-        let some-number : m ≡ 0 → ⊥ = λ q. omega (arith, named-line (wordOf s word lineStart 0) (wordOf s word (lineStart + 1) 0) m e) in
-        rw (e, ne-eqb m 0 some-number)

@@ -1,5 +1,4 @@
 pub mod Call
-pub mod Fill
 pub mod Holds
 pub mod Picture
 pub mod Verdict

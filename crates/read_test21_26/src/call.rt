@@ -1,13 +1,25 @@
-// What other crates ask about a window. For anything that is not a window of a known format they get 0.
+// What other crates ask about a window. Of anything that is not a window of a known format the answer says so.
+use crate::service::Fault;
 use crate::service::Verdict;
 use crcc::sums::Sums;
 use line::stream::StreamLine;
 use span::content::ContentBytes;
 use span::format::Format;
+use span::format::Shape;
 use window::delivery::Repairs;
+use word::line_number::Named;
 ghost use mathlib.Core.Path.{_≡_};
+ghost use mathlib.Core.Bool.{true};
+ghost use Prim.Native.Nat.{_*_, _≤_};
 ghost use lib.ListN.{length};
-ghost use Rattle.read_test21_26.specs.Inside.Call.{isWindow, serviceIf, placeIf};
+ghost use Rattle.ground.specs.Search.{isSome};
+ghost use Rattle.span.specs.Format.{streams, pairsIn};
+ghost use Rattle.window.specs.Tests.{named};
+ghost use Rattle.window.specs.Words.{wordAt};
+ghost use Rattle.window.specs.Inside.Given.{Given};
+ghost use Rattle.read_test21_26.specs.declared.call.Judged.the-variants.{Serves};
+ghost use Rattle.read_test21_26.specs.Inside.Call.{isWindow, serviceOf, judgedOf, serviceIf, lowestOf, lowestIf};
+ghost use Rattle.read_test21_26.specs.Inside.Holds.{LineKnown, holdsAt, wrongIn};
 
 // Whether this many symbols make a window of a known format.
 fn is_window(f: Format, symbols: usize) -> bool
@@ -20,53 +32,103 @@ fn is_window(f: Format, symbols: usize) -> bool
     false
 }
 
-// What the words outside the picture say: tests 21 to 24; the line whose SAV begins the window, which is the one before the line that
-// stream 1 names; the content bytes; and the number of wrong bits in all timing words.
+// What the words outside the picture say where tests 21 to 24 hold: the line whose SAV begins the window, which is the one before the line
+// that stream 1 names; the content bytes; and the number of wrong bits in all timing words.
 pub struct Service {
-    pub verdict: Verdict,
     pub line: StreamLine,
     pub content: ContentBytes,
     pub repairs: Repairs,
 }
 
-// All of it, given the sums that the picture words of the streams leave. The table is copied once, here.
-pub fn service_of(f: Format, symbols: &[u16], c: Sums) -> Service
+pub enum Judged {
+    Serves(Service),
+    // The first of tests 21 to 24 that does not hold.
+    Refused(Fault),
+    // Not a window of a known format.
+    NoWindow,
+}
+
+// A window for which tests 21 to 24 hold.
+fn served(t: &[u16; 1024], p: Shape, symbols: &[u16], next: Named) -> Judged
+    requires { ⌜ LineKnown p (now t) (now symbols) next ⌝ }
+    requires { ⌜ isSome (named (streams p) (wordAt p (now symbols))) ≡ true ⌝ }
+    ensures { λ r. ⌜ r ≡ Serves (serviceOf p (now (symbols .entry))) ⌝ }
+{
+    match next {
+        Named::Line(l) => {
+            let content = crate::words::content_in(t, p, symbols);
+            Judged::Serves(Service {
+                line: line::stream::line_before(l),
+                content,
+                repairs: Repairs {
+                    count: crate::holds::wrong_in_all(t, p, symbols),
+                },
+            })
+        }
+        // Neither is met: test 22 holds, so a line is named.
+        Named::Above4095 => Judged::NoWindow,
+        Named::Nameless => Judged::NoWindow,
+    }
+}
+
+// A window.
+fn judge_window(f: Format, t: &[u16; 1024], p: Shape, symbols: &[u16], c: Sums) -> Judged
+    requires { ⌜ Given p (now t) (now symbols) ⌝ }
+    ensures { λ r. ⌜ r ≡ judgedOf p (now (symbols .entry)) c ⌝ }
+{
+    let next = crate::holds::next_line(t, p, symbols);
+    match crate::service::judge_words(f, t, p, symbols, next, c) {
+        Verdict::AllHold => served(t, p, symbols, next),
+        Verdict::Fails(fault) => Judged::Refused(fault),
+    }
+}
+
+// Tests 21 to 24, given the sums that the picture words of the streams leave. The table is copied once, here.
+pub fn service_of(f: Format, symbols: &[u16], c: Sums) -> Judged
     ensures { λ r. ⌜ r ≡ serviceIf f (now (symbols .entry)) c ⌝ }
 {
     if is_window(f, symbols.len()) {
         let t = decoder::table::decoding_table();
-        let p = span::format::shape_of(f);
-        let next = crate::holds::next_line(&t, p, symbols);
-        let verdict = crate::service::judge_words(f, &t, p, symbols, next, c);
-        let content = crate::words::content_in(&t, p, symbols);
-        return Service {
-            verdict,
-            line: line::stream::line_before(next),
-            content,
-            repairs: Repairs {
-                count: crate::holds::wrong_in_all(&t, p, symbols),
-            },
-        };
+        return judge_window(f, &t, span::format::shape_of(f), symbols, c);
     }
-    Service {
-        verdict: Verdict {
-            number: 0,
-            place: 0,
-        },
-        line: line::stream::stream_line(0),
-        content: ContentBytes {
-            sav1: 0,
-            sav2: 0,
-            eav1: 0,
-            eav2: 0,
-        },
-        repairs: Repairs { count: 0 },
-    }
+    Judged::NoWindow
 }
 
-// The lowest place of a word that may not be a sample's (25), or of a fill word that is not 100 (26); the place after all if none is wrong.
-pub fn lowest_place(number: u8, f: Format, symbols: &[u16]) -> usize
-    ensures { λ r. ⌜ r ≡ placeIf number f (now (symbols .entry)) ⌝ }
+pub enum Lowest {
+    Place(usize),
+    // The test holds at every place.
+    NoneWrong,
+    // Not a window of a known format.
+    NoWindow,
+}
+
+// The lowest place from one to another at which a test does not hold.
+fn lowest_in(
+    number: u8,
+    f: Format,
+    t: &[u16; 1024],
+    p: Shape,
+    symbols: &[u16],
+    next: Named,
+    c: Sums,
+    from: usize,
+    to: usize,
+) -> Lowest
+    requires { ⌜ LineKnown p (now t) (now symbols) next ⌝ }
+    requires { ⌜ from ≤ to ⌝ }
+    requires { ⌜ to ≤ 2 * pairsIn p ⌝ }
+    ensures { λ r. ⌜ r ≡ lowestOf (wrongIn (holdsAt number f p (now (symbols .entry)) c) from to) ⌝ }
+{
+    let place = crate::holds::first_wrong(number, f, t, p, symbols, next, c, from, to);
+    if place < to {
+        return Lowest::Place(place);
+    }
+    Lowest::NoneWrong
+}
+
+// The lowest place of a word that may not be a sample's (25), or of a fill word that is not 100 (26). The sums count for neither test.
+pub fn lowest_place(number: u8, f: Format, symbols: &[u16]) -> Lowest
+    ensures { λ r. ⌜ r ≡ lowestIf number f (now (symbols .entry)) ⌝ }
 {
     if is_window(f, symbols.len()) {
         let t = decoder::table::decoding_table();
@@ -80,7 +142,7 @@ pub fn lowest_place(number: u8, f: Format, symbols: &[u16]) -> usize
             fourth: 0,
         };
         if number == 25 {
-            return crate::holds::first_wrong(
+            return lowest_in(
                 25,
                 f,
                 &t,
@@ -93,7 +155,7 @@ pub fn lowest_place(number: u8, f: Format, symbols: &[u16]) -> usize
             );
         }
         let from = s * (span::layout::ANCILLARY + p.ancillary);
-        return crate::holds::first_wrong(
+        return lowest_in(
             26,
             f,
             &t,
@@ -105,5 +167,5 @@ pub fn lowest_place(number: u8, f: Format, symbols: &[u16]) -> usize
             from + 2 * p.fill_pairs,
         );
     }
-    0
+    Lowest::NoWindow
 }

@@ -1,33 +1,64 @@
 // The tests at one interleaved place, and the lowest place at which one does not hold.
 use crcc::crcc::CrccWords;
 use crcc::sums::Sums;
-use line::stream::StreamLine;
 use span::format::Format;
 use span::format::Shape;
 use word::line_number::Named;
 ghost use mathlib.Core.Path.{_≡_};
 ghost use Prim.Native.Nat.{_*_, _/_, _%_, _≤_, _<_};
+ghost use mathlib.Core.Option.{Option·getD};
+ghost use Rattle.ground.specs.Search.{isSome};
 ghost use Rattle.crcc.specs.Inside.Sums.{sumIn};
+ghost use Rattle.line.specs.Stream.{vOf, lineBefore};
 ghost use Rattle.span.specs.Format.{streams, pairsIn};
 ghost use Rattle.window.specs.Read.{placed};
-ghost use Rattle.window.specs.Tests.{nextLine, repairCount, holds21, holds22, holds23};
+ghost use Rattle.window.specs.Tests.{named, repairCount, holds21, holds22, holds23};
 ghost use Rattle.window.specs.Words.{wordAt};
 ghost use Rattle.window.specs.Inside.Given.{Given};
-ghost use Rattle.read_test21_26.specs.Inside.Holds.{LineKnown, holds24By, holdsAt, firstWrong, crccReceived};
+ghost use Rattle.read_test21_26.specs.Inside.Holds.{lineIn, LineKnown, holds24By, holdsAt, firstWrong, crccReceived};
 
-// The line that LN0 and LN1 of stream 1 name; 0 if they name none. This and `read_line_words` rule out the fault that lost a recital: both
+// The line that LN0 and LN1 of stream 1 name, if they name one. This and `read_line_words` rule out the fault that lost a recital: both
 // words are from one stream and one span, and name a line only if both are what is sent for it.
-pub(crate) fn next_line(t: &[u16; 1024], p: Shape, symbols: &[u16]) -> StreamLine
+pub(crate) fn next_line(t: &[u16; 1024], p: Shape, symbols: &[u16]) -> Named
     requires { ⌜ Given p (now t) (now symbols) ⌝ }
-    ensures { λ r. ⌜ r .0 ≡ nextLine (streams p) (wordAt p (now (symbols .entry))) ⌝ }
+    ensures { λ r. ⌜ lineIn r ≡ named (streams p) (wordAt p (now (symbols .entry))) ⌝ }
 {
     let s = 2 * p.stream_pairs;
     let ln0 = crate::words::word_at(t, p, symbols, span::layout::LINE_NUMBER * s);
     let ln1 = crate::words::word_at(t, p, symbols, span::layout::LN1 * s);
-    match word::line_number::read_line_words(ln0, ln1) {
-        Named::Line(l) => l,
-        Named::Above4095 => line::stream::stream_line(0),
-        Named::Nameless => line::stream::stream_line(0),
+    word::line_number::read_line_words(ln0, ln1)
+}
+
+// Whether a line is named.
+fn names_line(next: Named) -> bool
+    ensures { λ r. ⌜ r ≡ isSome (lineIn next) ⌝ }
+{
+    match next {
+        Named::Line(_) => true,
+        Named::Above4095 => false,
+        Named::Nameless => false,
+    }
+}
+
+// V of the line that is named. If none is, test 22 has failed before V is checked, and V is 1.
+fn v_named(next: Named) -> bool
+    ensures { λ r. ⌜ r ≡ vOf (Option·getD (lineIn next) 0) ⌝ }
+{
+    match next {
+        Named::Line(l) => line::stream::v_of(l),
+        Named::Above4095 => true,
+        Named::Nameless => true,
+    }
+}
+
+// The same of the line before it.
+fn v_before(next: Named) -> bool
+    ensures { λ r. ⌜ r ≡ vOf (lineBefore (Option·getD (lineIn next) 0)) ⌝ }
+{
+    match next {
+        Named::Line(l) => line::stream::v_of(line::stream::line_before(l)),
+        Named::Above4095 => true,
+        Named::Nameless => true,
     }
 }
 
@@ -51,16 +82,16 @@ fn timing_holds(t: &[u16; 1024], p: Shape, symbols: &[u16], k: usize) -> bool
 }
 
 // 22: a line number word.
-fn line_holds(t: &[u16; 1024], p: Shape, symbols: &[u16], next: StreamLine, k: usize) -> bool
+fn line_holds(t: &[u16; 1024], p: Shape, symbols: &[u16], next: Named, k: usize) -> bool
     requires { ⌜ Given p (now t) (now symbols) ⌝ }
     requires { ⌜ k < 2 * pairsIn p ⌝ }
-    requires { ⌜ next .0 ≡ nextLine (streams p) (wordAt p (now symbols)) ⌝ }
+    requires { ⌜ lineIn next ≡ named (streams p) (wordAt p (now symbols)) ⌝ }
     ensures { λ r. ⌜ r ≡ placed (streams p) (holds22 (streams p) (wordAt p (now (symbols .entry)))) k ⌝ }
 {
     let s = 2 * p.stream_pairs;
     let j = k / s;
     if k == span::layout::LINE_NUMBER * s {
-        return line::stream::number_of(next) != 0;
+        return names_line(next);
     }
     if span::layout::LINE_NUMBER <= j {
         if j < span::layout::CRCC {
@@ -72,19 +103,19 @@ fn line_holds(t: &[u16; 1024], p: Shape, symbols: &[u16], next: StreamLine, k: u
 }
 
 // 23: V.
-fn v_holds(t: &[u16; 1024], p: Shape, symbols: &[u16], next: StreamLine, k: usize) -> bool
+fn v_holds(t: &[u16; 1024], p: Shape, symbols: &[u16], next: Named, k: usize) -> bool
     requires { ⌜ Given p (now t) (now symbols) ⌝ }
     requires { ⌜ k < 2 * pairsIn p ⌝ }
-    requires { ⌜ next .0 ≡ nextLine (streams p) (wordAt p (now symbols)) ⌝ }
+    requires { ⌜ lineIn next ≡ named (streams p) (wordAt p (now symbols)) ⌝ }
     ensures { λ r. ⌜ r ≡ placed (streams p) (holds23 (streams p) (wordAt p (now (symbols .entry)))) k ⌝ }
 {
     let j = k / (2 * p.stream_pairs);
     let w = crate::words::word_at(t, p, symbols, k);
     if j == span::layout::SAV_XYZ {
-        return word::received::v_in(w) == line::stream::v_of(line::stream::line_before(next));
+        return word::received::v_in(w) == v_before(next);
     }
     if j == span::layout::EAV_XYZ {
-        return word::received::v_in(w) == line::stream::v_of(next);
+        return word::received::v_in(w) == v_named(next);
     }
     true
 }
@@ -153,7 +184,7 @@ fn holds(
     t: &[u16; 1024],
     p: Shape,
     symbols: &[u16],
-    next: StreamLine,
+    next: Named,
     c: Sums,
     k: usize,
 ) -> bool
@@ -187,7 +218,7 @@ pub(crate) fn first_wrong(
     t: &[u16; 1024],
     p: Shape,
     symbols: &[u16],
-    next: StreamLine,
+    next: Named,
     c: Sums,
     from: usize,
     to: usize,

@@ -1,9 +1,7 @@
-// Tests 21 to 26 of a window, and what its words say. A test that fails gives its lowest place; whether 25 and 26 hold at every place is
-// asked first, many words at a time.
+// Tests 21 to 26 of a window, and what its words say. A test that fails gives its lowest place; whether 25 holds at every place is asked
+// first, many words at a time.
 pub mod call;
-pub mod fill;
 mod holds;
-mod pairs;
 pub mod picture;
 pub mod service;
 mod words;

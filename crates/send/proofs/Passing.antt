@@ -110,7 +110,7 @@ sum-is (suc zero) ws h l long t b = rw (eq-eqb (length ws) 3840 (omega arith)) (
     each (suc zero) b = refl
     each (suc (suc t)) b = absurd (omega arith)
 sum-is (suc (suc zero)) ws h l long t b =
-    rw (ne-eqb (length ws) 3840 (λ z. absurd (omega arith)), eq-eqb (length ws) 7680 (omega arith)) (each t b)
+    rw (ne-eqb (length ws) 3840 (λ z. absurd (omega arith))) (each t b)
   where
     each : (t : ℕ) → t < 4
         → crc 0 (streamRow ws t)

@@ -95,7 +95,7 @@ pub(crate) fn put_after_picture(
     ensures out { λ _. ⌜ now (out .exit) ≡ put d (afterPictureChars pairs sums (lineAfter (l .0)) content) at (now (out .entry)) ⌝ }
 {
     let next = line::stream::line_after(l);
-    let n = word::line_number::words_of(next);
+    let n = word::line_number::words_after(l);
     let xyz = word::timing::timing_word(line::stream::v_of(next), true);
     let d1 = crate::timing::put_timing(
         symbols,

@@ -1,6 +1,7 @@
 // The two words of a line number (004, 6.3).
 use line::stream::StreamLine;
 ghost use mathlib.Core.Path.{_≡_};
+ghost use Rattle.line.specs.Stream.{lineAfter};
 ghost use Rattle.word.specs.LineNumber.{lineWords, paperNumbered, numberedOf, areWordsOf, paperNamed, namedOf};
 
 pub struct LineWords {
@@ -22,8 +23,8 @@ pub enum Named {
     Nameless,
 }
 
-// The two words of a line; eleven bits of its number count.
-pub fn words_of(l: StreamLine) -> LineWords
+// The two words of a number; eleven of its bits count. Only of a line does the crate hand them out.
+fn words_of(l: StreamLine) -> LineWords
     ensures { λ r. ⌜ r ≡ lineWords (l .0) ⌝ }
 {
     let n = line::stream::number_of(l);
@@ -31,6 +32,13 @@ pub fn words_of(l: StreamLine) -> LineWords
         ln0: crate::guard::guarded(n % 128 * 16),
         ln1: crate::guard::guarded(n / 128 % 16 * 16),
     }
+}
+
+// The words of the line after: a line whatever number is given.
+pub fn words_after(l: StreamLine) -> LineWords
+    ensures { λ r. ⌜ r ≡ lineWords (lineAfter (l .0)) ⌝ }
+{
+    words_of(line::stream::line_after(l))
 }
 
 // The words sent for a stream line.

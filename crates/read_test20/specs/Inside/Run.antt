@@ -8,11 +8,11 @@ use mathlib.Core.Option.{Option·getD}
 use lib.ListN.{length}
 use Rattle.ground.specs.Range.{within}
 use Rattle.ground.specs.Search.{firstBelow, isSome}
+use Rattle.symbol.specs.declared.disparity.Disparity.{Disparity}
 use Rattle.symbol.specs.Code.{charOf}
 use Rattle.decoder.specs.Inside.Mask.{legalBy, maskOf}
 use Rattle.span.specs.declared.format.Shape.{Shape}
 use Rattle.window.specs.Scan.{meant, symbolAt, startOf, runningAt, fits, holds20}
-use Rattle.read_test20.specs.declared.place.Scanned.{Scanned}
 
 -- an entry that is legal at the disparity of a mask bit, with a character number from low to high
 abbrev pub suitsBy : ℕ → ℕ → ℕ → ℕ → Bool
@@ -38,9 +38,15 @@ pub record ScanInv (p : Shape) (w : List ℕ) (i mask : ℕ) : Type 0 where
   pub bit : mask ≡ maskOf (runningAt w i)
   pub held : (j : ℕ) → j < i → holds20 p w j ≡ true
 
--- the lowest symbol at which test 20 does not hold, or the number of symbols; and the disparities before the window and there
+-- the lowest symbol at which test 20 does not hold, or the number of symbols
 unfoldable pub place20 : Shape → List ℕ → ℕ
 place20 p w = Option·getD (firstBelow (length w) (λ i. not (holds20 p w i))) (length w)
 
-abbrev pub scannedOf : Shape → List ℕ → Scanned
-scannedOf p w = record { place = place20 p w; before = startOf w; after = runningAt w (place20 p w) }
+-- it, and the disparities before the window and there
+pub record Walked : Type 0 where
+  pub place : ℕ
+  pub before : Disparity
+  pub after : Disparity
+
+abbrev pub walkedOf : Shape → List ℕ → Walked
+walkedOf p w = record { place = place20 p w; before = startOf w; after = runningAt w (place20 p w) }

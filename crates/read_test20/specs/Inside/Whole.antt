@@ -2,10 +2,10 @@
 -- Assumes nothing.
 use mathlib.Core.Path.{_≡_}
 use Prim.Native.Nat.{ℕ, _+_, _*_, _<_}
-use mathlib.Core.Bool.{Bool, true, cond, _&&_}
+use mathlib.Core.Bool.{true, cond}
 use mathlib.Core.List.{List}
 use lib.Dec.{eqb}
-use lib.ListN.{length}
+use lib.ListN.{length, replicate}
 use Rattle.decoder.specs.Inside.Mask.{maskOf, ofMask}
 use Rattle.span.specs.declared.format.Format.{Format}
 use Rattle.span.specs.declared.format.Shape.{Shape}
@@ -16,8 +16,11 @@ use Rattle.window.specs.Scan.{startOf, runningAt, holds20}
 use Rattle.window.specs.Tests.{rows as rowsOf}
 use Rattle.window.specs.Words.{wordAt}
 use Rattle.window.specs.Inside.Columns.{sumsOf}
+use Rattle.window.specs.Inside.Fill.{fillRight}
 use Rattle.read_test20.specs.declared.whole.Taken.{Taken}
-use Rattle.read_test20.specs.Inside.Run.{suits, RunInv, place20, scannedOf}
+use Rattle.read_test20.specs.declared.whole.Taken.the-variants.{Whole, Invalid, NotExamined}
+use Rattle.read_test20.specs.declared.whole.Valid.{Valid}
+use Rattle.read_test20.specs.Inside.Run.{suits, RunInv, place20}
 use Rattle.read_test20.specs.Inside.See.{maskBy}
 
 -- a special character at a place and at the next, legal at both
@@ -29,13 +32,24 @@ pub record Twice (w : List ℕ) (c at : ℕ) : Type 0 where
 pub record AllHold (p : Shape) (w : List ℕ) : Type 0 where
   pub each : (j : ℕ) → j < length w → holds20 p w j ≡ true
 
--- a window of a known format, with rows of its length, for which test 20 holds at every symbol
-abbrev pub wholeIf : Format → List ℕ → ℕ → Bool
-wholeIf f w room = ready f (length w) room && eqb (place20 (shapeOf f) w) (length w)
+-- what is known of a window for which it does: whether its fill is right, its disparities, and the CRC of each stream over its picture words
+abbrev pub validOf : Shape → List ℕ → Valid
+validOf p w = record { filled = fillRight p w; before = startOf w; after = runningAt w (length w); sums = sumsOf p w }
 
--- its place of test 20; 0 for anything that is not a window with such rows
-abbrev pub placeIf20 : Format → List ℕ → ℕ → ℕ
-placeIf20 f w room = cond (ready f (length w) room) (place20 (shapeOf f) w) 0
+-- the answer for a window with rows of its length: this, or the lowest symbol at which test 20 does not hold
+abbrev pub takenOf : Shape → List ℕ → Taken
+takenOf p w = cond (eqb (place20 p w) (length w)) (Whole (validOf p w)) (Invalid (place20 p w))
+
+-- and its rows: the picture words stream by stream, or zeros
+abbrev pub rowsTaken : Shape → List ℕ → List ℕ → List ℕ
+rowsTaken p w rows = cond (eqb (place20 p w) (length w)) (rowsOf (streams p) (wordAt p w)) (replicate (length rows) 0)
+
+-- the same for any symbols and rows
+abbrev pub takenIf : Format → List ℕ → List ℕ → Taken
+takenIf f w rows = cond (ready f (length w) (length rows)) (takenOf (shapeOf f) w) NotExamined
+
+abbrev pub rowsIf : Format → List ℕ → List ℕ → List ℕ
+rowsIf f w rows = cond (ready f (length w) (length rows)) (rowsTaken (shapeOf f) w rows) rows
 
 -- what is gathered before symbol i records the running disparity there
 pub record Tied (w : List ℕ) (i flips : ℕ) : Type 0 where
@@ -61,9 +75,3 @@ pub record RunTo (w : List ℕ) (from to flips : ℕ) : Type 0 where
 pub record Ending (p : Shape) (w : List ℕ) (flips after : ℕ) : Type 0 where
   pub eav : RunInv w 266 266 (eavSymbol * p .«stream_pairs») (eavSymbol * p .«stream_pairs» + 2) (maskBy flips)
   pub bytes : RunInv w 0 255 (eavSymbol * p .«stream_pairs» + 2) (length w) (maskBy after)
-
--- a window for which test 20 holds: its disparities, the CRC of each stream over its picture words, and these words stream by stream
-pub record Wholly (p : Shape) (w : List ℕ) (r : Taken) (rows : List ℕ) : Type 0 where
-  pub scanned : record { place = length w; before = r .before; after = r .after } ≡ scannedOf p w
-  pub sums : r .sums ≡ sumsOf p w
-  pub picture : rows ≡ rowsOf (streams p) (wordAt p w)

@@ -4,10 +4,9 @@ use Prim.Native.Nat.{ℕ, _+_, _-_}
 use mathlib.Core.Path.{_≡_}
 use mathlib.Core.Bool.{Bool, true, not, cond}
 use mathlib.Core.List.{List, _∷_, _++_}
-use mathlib.Core.Option.{Option, Option·getD}
+use mathlib.Core.Option.{Option, none, some, Option·getD}
 use lib.Dec.{eqb}
 use Rattle.ground.specs.Search.{firstFrom}
-use Rattle.line.specs.declared.stream.StreamLine.{StreamLine}
 use Rattle.span.specs.declared.format.Format.{Format}
 use Rattle.span.specs.declared.format.Shape.{Shape}
 use Rattle.span.specs.Format.{streams}
@@ -18,16 +17,24 @@ use Rattle.crcc.specs.Crcc.{crc, crccWords}
 use Rattle.packing.specs.Sample.{allowedWord}
 use Rattle.crcc.specs.declared.sums.Sums.{Sums}
 use Rattle.window.specs.Read.{placed}
-use Rattle.window.specs.Tests.{wordOf, column, nextLine, holds21, holds22, holds23}
+use Rattle.window.specs.Tests.{wordOf, column, named, holds21, holds22, holds23}
+use Rattle.word.specs.declared.line_number.Named.{Named}
+use Rattle.word.specs.declared.line_number.Named.the-variants.{Line, Above4095, Nameless}
 use Rattle.word.specs.Received.{repaired}
 use Rattle.crcc.specs.Inside.Sums.{sumIn}
 use Rattle.window.specs.Words.{wordAt}
 use Rattle.window.specs.Inside.Given.{Given}
 
+-- the line that an answer of the line-number reader names, if any
+abbrev pub lineIn : Named → Option ℕ
+lineIn (Line l) = some (l .0)
+lineIn Above4095 = none
+lineIn Nameless = none
+
 -- also known: the line that stream 1 names
-pub record LineKnown (p : Shape) (t w : List ℕ) (next : StreamLine) : Type 0 where
+pub record LineKnown (p : Shape) (t w : List ℕ) (next : Named) : Type 0 where
   pub given : Given p t w
-  pub named : next .0 ≡ nextLine (streams p) (wordAt p w)
+  pub line : lineIn next ≡ named (streams p) (wordAt p w)
 
 -- test 25 or 26 of a word, where it applies
 abbrev pub picture25 : Format → ℕ → (ℕ → ℕ) → ℕ → ℕ → Bool

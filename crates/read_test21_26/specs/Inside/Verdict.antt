@@ -1,6 +1,7 @@
 -- The verdict of a list of tests.
 -- Assumes nothing.
 use Prim.Native.Nat.{ℕ, _*_}
+use mathlib.Core.Bool.{Bool, true, false}
 use mathlib.Core.List.{List, [], _∷_}
 use mathlib.Core.Option.{Option, none, some}
 use Rattle.ground.specs.Answer.{Row}
@@ -11,18 +12,20 @@ use Rattle.window.specs.Read.{lowest, placed}
 use Rattle.window.specs.Tests.{holds21, holds22, holds23}
 use Rattle.window.specs.Words.{wordAt}
 use Rattle.read_test21_26.specs.declared.service.Verdict.{Verdict}
+use Rattle.read_test21_26.specs.declared.service.Verdict.the-variants.{AllHold, Fails}
 use Rattle.read_test21_26.specs.Inside.Holds.{holds24By}
-
-abbrev pub passed : Verdict
-passed = record { number = 0; place = 0 }
 
 abbrev pub verdictOf : ℕ → Option ℕ → Verdict → Verdict
 verdictOf number none rest = rest
-verdictOf number (some k) rest = record { number = number; place = k }
+verdictOf number (some k) rest = Fails (record { number = number; place = k })
 
--- the first row that does not hold; 0 if all hold
+abbrev pub isFailed : Verdict → Bool
+isFailed AllHold = false
+isFailed (Fails x) = true
+
+-- the first row that does not hold
 abbrev pub firstRow : List Row → Verdict
-firstRow [] = passed
+firstRow [] = AllHold
 firstRow (r ∷ rs) = verdictOf (r .number) (r .fails) (firstRow rs)
 
 -- tests 21 to 24, given the sums that the pictures of the streams leave

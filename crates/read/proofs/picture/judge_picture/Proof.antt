@@ -6,45 +6,38 @@ use Prim.Native.Nat.{ℕ}
 use borrow.Author.Needs.{needs}
 use Rattle.read.specs.Inside.Picture.{rightPicture}
 use Rattle.read.proofs.Picturing.{both-hold, fill-fails, picture-fails}
-use Rattle.read.proofs.Windows.{place-25, place-26}
 use Rattle.read.proofs.picture.judge_picture.Statement.{statement}
 use Rattle.read.proofs.picture.judge_picture.Tie as tie
 use Rattle.read.proofs.picture.judge_picture.Reads as reads
 use Rattle.read.proofs.picture.judge_picture.Lts as lts
-use Rattle.read_test21_26.proofs.call.lowest_place.Reads as lowest-place-reads
-use Rattle.read.proofs.picture.fill_is_right.Reads as fill-is-right-reads
 use Rattle.read.proofs.picture.picture_is_right.Reads as picture-is-right-reads
 
 picture-is-right-requires : tie.Need-picture-is-right-requires
 picture-is-right-requires c κs = search needs
 
-fill-is-right-requires : tie.Need-fill-is-right-requires
-fill-is-right-requires c κs = search needs
-
 returns : tie.Need-returns
 returns c =
+    let s = c .before .before .before .before .before in
+    let a = s .args in
+    let right =
+    sym (ap₂ (λ (n : ℕ) (l : List ℕ). rightPicture (a .f) n l) (s .pre .1 .0) (s .pre .1 .1 .1))
+    ∙ sym (c .before .before .picture-is-right .ensures) ∙ c .before .if1 .taken in
+    both-hold (a .f) (a .symbols .now) (s .pre .0) right (sym (s .pre .1 .1 .0) ∙ c .if2 .taken)
+
+verdict-at-requires : tie.Need-verdict-at-requires
+verdict-at-requires c κs = search needs
+
+returns-2 : tie.Need-returns-2
+returns-2 c =
     let s = c .before .before .before .before .before .before in
     let a = s .args in
     let right =
     sym (ap₂ (λ (n : ℕ) (l : List ℕ). rightPicture (a .f) n l) (s .pre .1 .0) (s .pre .1 .1 .1))
     ∙ sym (c .before .before .before .picture-is-right .ensures) ∙ c .before .before .if1 .taken in
-    both-hold (a .f) (a .symbols .now) (s .pre .0) right (sym (c .before .fill-is-right .ensures) ∙ c .if2 .taken)
+    fill-fails (a .f) (a .symbols .now) (s .pre .0) right (c .verdict-at .ensures)
 
-lowest-place-requires : tie.Need-lowest-place-requires
-lowest-place-requires c κs = search needs
-
-returns-2 : tie.Need-returns-2
-returns-2 c =
-    let s = c .before .before .before .before .before .before .before in
-    let a = s .args in
-    let right =
-    sym (ap₂ (λ (n : ℕ) (l : List ℕ). rightPicture (a .f) n l) (s .pre .1 .0) (s .pre .1 .1 .1))
-    ∙ sym (c .before .before .before .before .picture-is-right .ensures) ∙ c .before .before .before .if1 .taken in
-    fill-fails (a .f) (a .symbols .now) (s .pre .0) right (sym (c .before .before .fill-is-right .ensures) ∙ c .before .if2 .left)
-    (c .lowest-place .ensures ∙ place-26 (a .f) (a .symbols .now) (s .pre .0))
-
-lowest-place-requires-2 : tie.Need-lowest-place-requires-2
-lowest-place-requires-2 c κs = search needs
+verdict-at-requires-2 : tie.Need-verdict-at-requires-2
+verdict-at-requires-2 c κs = search needs
 
 returns-3 : tie.Need-returns-3
 returns-3 c =
@@ -53,17 +46,15 @@ returns-3 c =
     let right =
     sym (ap₂ (λ (n : ℕ) (l : List ℕ). rightPicture (a .f) n l) (s .pre .1 .0) (s .pre .1 .1 .1))
     ∙ sym (c .before .before .picture-is-right .ensures) ∙ c .before .if1 .left in
-    picture-fails (a .f) (a .symbols .now) (s .pre .0) right
-    (c .lowest-place2 .ensures ∙ place-25 (a .f) (a .symbols .now) (s .pre .0))
+    picture-fails (a .f) (a .symbols .now) (s .pre .0) right (c .verdict-at2 .ensures)
 
 pub judge-picture-spec : {M : Type 1} → statement M
 judge-picture-spec =
     tie.close
     (tie.spec
     picture-is-right-requires
-    fill-is-right-requires
     returns
-    lowest-place-requires
+    verdict-at-requires
     returns-2
-    lowest-place-requires-2
+    verdict-at-requires-2
     returns-3)

@@ -1,94 +1,93 @@
--- `read::read::read_words` meets its contract.
+-- `read::read::read_words` meets its contract: tests 21 to 24, and after them 25 and 26.
 -- Assumes nothing.
-use mathlib.Core.Path.{_≡_, refl, sym, ap, _∙_}
-use Prim.Native.Nat.{_≤_}
+use mathlib.Core.Path.{sym, ap, _∙_}
 use native.Mathlib.Omega.{arith}
-use borrow.Author.Needs.{needs}
-use Rattle.ground.specs.Answer.{Answer, given}
-use Rattle.read_test21_26.specs.declared.service.Verdict.{Verdict}
+use Rattle.read_test20.specs.declared.whole.Valid.{Valid}
+use Rattle.read_test21_26.specs.Inside.Call.{serviceOf}
+use Rattle.read_test21_26.specs.Inside.Verdict.{firstRow}
 use Rattle.span.specs.Format.{shapeOf}
-use Rattle.window.specs.declared.delivery.Delivery.{Delivery}
-use Rattle.window.specs.Read.{pictureOf, wordTests, rowsLeft}
-use Rattle.window.specs.Words.{wordAt}
-use Rattle.read.proofs.Verdicts.{in-range}
-use Rattle.read.proofs.Windows.{service-is, read-refused, read-given, rows-zero, held-20, delivery-is}
+use Rattle.window.specs.Read.{pictureOf}
+use Rattle.read.specs.Inside.Picture.{lineTests}
+use Rattle.read.proofs.Verdicts.{serves-told, refused-told, never-none}
+use Rattle.read.proofs.Windows.{judged-is, first-fails, met-range, read-by, rows-zero}
+use borrow.Author.Needs.{needs}
 use Rattle.read.proofs.read.read_words.Statement.{statement}
 use Rattle.read.proofs.read.read_words.Tie as tie
-use Rattle.read.proofs.read.read_words.Reads as reads
-use Rattle.read.proofs.read.read_words.Lts as lts
-use Rattle.read_test21_26.proofs.call.service_of.Reads as service-of-reads
-use Rattle.read.proofs.delivery.delivery.Reads as delivery-reads
-use Rattle.read.proofs.read.judge_words.Reads as judge-words-reads
-use Rattle.read.proofs.read.refuse.Reads as refuse-reads
 
 service-of-requires : tie.Need-service-of-requires
 service-of-requires c κs = search needs
 
-judge-words-requires : tie.Need-judge-words-requires
-judge-words-requires c κs =
-    let s = c .before .before .before .before in
+enum-known-service : tie.Need-enum-known-service
+enum-known-service c = search needs
+
+read-picture-requires : tie.Need-read-picture-requires
+read-picture-requires c κs =
+    let s = c .before .before .before .before .before .before .before .before in
     let a = s .args in
-    (s .pre .0, (service-is (a .f) (a .symbols .now) (s .pre .0) (s .pre .1 .1 .1 .0) (c .before .service-of .ensures), (s .pre .1 .1 .1 .1 .0, s .pre .1 .1 .1 .1 .1)))
+    let w = a .symbols .now in
+    let judged = judged-is (a .f) w (s .pre .0) (ap (λ (x : Valid). x .sums) (s .pre .1 .1 .0)) (c .before .before .before .before .service-of .ensures) in
+    let told = serves-told (serviceOf (shapeOf (a .f)) w) (firstRow (lineTests (a .f) w)) (sym (c .before .before .service .given .1) ∙ judged) in
+    (s .pre .0, (s .pre .1 .0, (s .pre .1 .1 .0, (told .1, (told .0, s .pre .1 .1 .1)))))
+
+enum-known-x : tie.Need-enum-known-x
+enum-known-x c = search needs
 
 refuse-requires : tie.Need-refuse-requires
 refuse-requires c κs =
-    let a = c .before .before .before .before .before .before .before .before .args in
-    let judged = c .before .before .before .judge-words .ensures in
-    let bounds =
-    in-range 21 26 (wordTests (a .f) (wordAt (shapeOf (a .f)) (a .symbols .now))) refl
-    (λ z. c .before .if1 .taken (ap (λ (v : Verdict). v .number) judged ∙ z)) in
-    rw (ap (λ (v : Verdict). v .number) judged) (omega (arith, bounds .0), bounds .1)
+    let s = c .before .before .before .before .before .before .before .before in
+    let a = s .args in
+    let w = a .symbols .now in
+    let judged = judged-is (a .f) w (s .pre .0) (ap (λ (x : Valid). x .sums) (s .pre .1 .1 .0)) (c .before .before .before .before .service-of .ensures) in
+    let told = refused-told (serviceOf (shapeOf (a .f)) w) (firstRow (lineTests (a .f) w)) (sym (c .before .before .x .given .1) ∙ judged) in
+    met-range (a .f) w (s .pre .0) (first-fails (a .f) w (s .pre .0) told)
+
+enum-told : tie.Need-enum-told
+enum-told c = search needs
 
 same-length : tie.Need-same-length
 same-length c = search needs
 
 returns : tie.Need-returns
-returns c =
-    let s = c .before .before .before .before .before .before .before .before .before .before .before in
-    let a = s .args in
-    let is = s .pre .0 in
-    let all = held-20 (a .f) (a .symbols .now) is _ (s .pre .1 .0) (s .pre .1 .1 .0) in
-    let judged = c .before .before .before .before .before .before .judge-words .ensures in
-    let met = c .before .before .before .before .if1 .taken in
-    let number = ap (λ (v : Verdict). v .number) judged in
-    let bounds = in-range 21 26 (wordTests (a .f) (wordAt (shapeOf (a .f)) (a .symbols .now))) refl (λ z. met (number ∙ z)) in
-    let refusal = read-refused (a .f) (a .symbols .now) is all judged met in
-    let late : 20 ≤ c .before .before .before .before .before .before .judge-words .result .number = rw number (omega (arith, bounds .0)) in (
-      c .before .before .refuse .ensures .0 ∙ sym refusal,
-      λ room e. rows-zero (a .f) (a .symbols .now) room (pictureOf (a .f) (a .symbols .now)) refusal _ late (sym e) (c .before .before .refuse .ensures .1),
-    )
-
-delivery-requires : tie.Need-delivery-requires
-delivery-requires c κs = search needs
+returns c = c .before .before .read-picture .ensures
 
 same-length-2 : tie.Need-same-length-2
 same-length-2 c = search needs
 
 returns-2 : tie.Need-returns-2
 returns-2 c =
-    let s = c .before .before .before .before .before .before .before .before in
+    let s = c .before .before .before .before .before .before .before .before .before .before .before in
     let a = s .args in
+    let w = a .symbols .now in
     let is = s .pre .0 in
-    let all = held-20 (a .f) (a .symbols .now) is _ (s .pre .1 .0) (s .pre .1 .1 .0) in
-    let none-met : c .before .before .before .judge-words .result .number ≡ 0 = omega (arith, c .before .if1 .left) in
-    let read = read-given (a .f) (a .symbols .now) is all (c .before .before .before .judge-words .ensures) none-met in
-    let service = service-is (a .f) (a .symbols .now) (s .pre .0) (s .pre .1 .1 .1 .0) (c .before .before .before .before .before .service-of .ensures) in
-    let values = delivery-is (a .f) (a .symbols .now) is _ (s .pre .1 .0) (s .pre .1 .1 .0) _ _ service in (
-      ap given (c .delivery .ensures ∙ values) ∙ sym read,
-      λ room _.
-          s .pre .1 .1 .1 .1 .1
-          ∙ ap (λ (r : Answer Delivery). rowsLeft r room (pictureOf (a .f) (a .symbols .now))) (sym read),
+    let judged = judged-is (a .f) w is (ap (λ (x : Valid). x .sums) (s .pre .1 .1 .0)) (c .before .before .before .before .before .before .before .service-of .ensures) in
+    let told = refused-told (serviceOf (shapeOf (a .f)) w) (firstRow (lineTests (a .f) w)) (sym (c .before .before .before .before .before .x .given .1) ∙ judged) in
+    let fails = first-fails (a .f) w is told in
+    let refusal = read-by (a .f) w is (s .pre .1 .0) fails in
+    let late = met-range (a .f) w is fails .0 in (
+      c .before .before .refuse .ensures .0 ∙ sym refusal,
+      λ room e. rows-zero (a .f) w room (pictureOf (a .f) w) refusal _ (omega (arith, late)) (sym e) (c .before .before .refuse .ensures .1),
     )
+
+returns-3 : tie.Need-returns-3
+returns-3 c =
+    let s = c .before .before .before .before .before .before in
+    let a = s .args in
+    let w = a .symbols .now in
+    let judged = judged-is (a .f) w (s .pre .0) (ap (λ (x : Valid). x .sums) (s .pre .1 .1 .0)) (c .before .before .service-of .ensures) in
+    never-none (serviceOf (shapeOf (a .f)) w) (firstRow (lineTests (a .f) w)) (sym (c .enum-told .given .1) ∙ judged)
 
 pub read-words-spec : {M : Type 1} → statement M
 read-words-spec =
     tie.close
     (tie.spec
     service-of-requires
-    judge-words-requires
+    enum-known-service
+    read-picture-requires
+    enum-known-x
     refuse-requires
+    enum-told
     same-length
     returns
-    delivery-requires
     same-length-2
-    returns-2)
+    returns-2
+    returns-3)

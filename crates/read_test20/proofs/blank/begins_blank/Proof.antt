@@ -2,8 +2,8 @@
 -- Assumes nothing.
 use mathlib.Core.Path.{sym}
 use mathlib.Core.Bool.{true≢false}
-use borrow.Author.Tests.{eqb-true}
-use Rattle.read_test20.proofs.Blanks.{negative-blank, positive-blank}
+use borrow.Author.Tests.{eqb-true, eq-eqb}
+use Rattle.read_test20.proofs.Blanks.{negative-blank, positive-blank, negative-told, positive-told}
 use borrow.Author.Needs.{needs}
 use Rattle.read_test20.proofs.blank.begins_blank.Statement.{statement}
 use Rattle.read_test20.proofs.blank.begins_blank.Tie as tie
@@ -35,22 +35,46 @@ shared-slice-read-third : tie.Need-shared-slice-read-third
 shared-slice-read-third c = search needs
 
 returns : tie.Need-returns
-returns c = λ t. let a = c .before .before .before .before .before .before .args in negative-blank (a .symbols .now) (a .from) (a .flips) (c .before .before .if1 .taken) (c .before .if2 .taken) (c .if3 .taken) (eqb-true _ _ t)
+returns c =
+    let a = c .before .before .before .before .before .before .args in (
+      λ t. negative-blank (a .symbols .now) (a .from) (a .flips) (c .before .before .if1 .taken) (c .before .if2 .taken) (c .if3 .taken) (eqb-true _ _ t),
+      λ b. eq-eqb _ _ (negative-told (a .symbols .now) (a .from) (a .flips) (c .before .before .if1 .taken) b .2),
+    )
 
 returns-2 : tie.Need-returns-2
-returns-2 c = λ t. absurd (true≢false (sym t))
+returns-2 c =
+    let a = c .before .before .before .before .before .before .args in (
+      λ t. absurd (true≢false (sym t)),
+      λ b. absurd (c .if3 .left (negative-told (a .symbols .now) (a .from) (a .flips) (c .before .before .if1 .taken) b .1)),
+    )
 
 returns-3 : tie.Need-returns-3
-returns-3 c = λ t. absurd (true≢false (sym t))
+returns-3 c =
+    let a = c .before .before .before .before .before .args in (
+      λ t. absurd (true≢false (sym t)),
+      λ b. absurd (c .if2 .left (negative-told (a .symbols .now) (a .from) (a .flips) (c .before .if1 .taken) b .0)),
+    )
 
 returns-4 : tie.Need-returns-4
-returns-4 c = λ t. let a = c .before .before .before .before .before .before .args in positive-blank (a .symbols .now) (a .from) (a .flips) (c .before .before .if1 .left) (c .before .if4 .taken) (c .if5 .taken) (eqb-true _ _ t)
+returns-4 c =
+    let a = c .before .before .before .before .before .before .args in (
+      λ t. positive-blank (a .symbols .now) (a .from) (a .flips) (c .before .before .if1 .left) (c .before .if4 .taken) (c .if5 .taken) (eqb-true _ _ t),
+      λ b. eq-eqb _ _ (positive-told (a .symbols .now) (a .from) (a .flips) (c .before .before .if1 .left) b .2),
+    )
 
 returns-5 : tie.Need-returns-5
-returns-5 c = λ t. absurd (true≢false (sym t))
+returns-5 c =
+    let a = c .before .before .before .before .before .before .args in (
+      λ t. absurd (true≢false (sym t)),
+      λ b. absurd (c .if5 .left (positive-told (a .symbols .now) (a .from) (a .flips) (c .before .before .if1 .left) b .1)),
+    )
 
 returns-6 : tie.Need-returns-6
-returns-6 c = λ t. absurd (true≢false (sym t))
+returns-6 c =
+    let a = c .before .before .before .before .before .args in (
+      λ t. absurd (true≢false (sym t)),
+      λ b. absurd (c .if4 .left (positive-told (a .symbols .now) (a .from) (a .flips) (c .before .if1 .left) b .0)),
+    )
 
 pub begins-blank-spec : {M : Type 1} → statement M
 begins-blank-spec =

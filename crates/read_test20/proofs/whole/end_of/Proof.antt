@@ -40,9 +40,9 @@ returns : tie.Need-returns
 returns c =
     let s = c .before .before .before .before .before .before in
     let h = s .pre .0 .half in (
-      λ t. absurd (true≢false (sym t ∙ c .unended .ensures .0)),
+      λ t. absurd (true≢false (sym t ∙ c .unended .ensures)),
       (
-        λ t. absurd (true≢false (sym t ∙ c .unended .ensures .1)),
+        λ t. absurd (true≢false (sym t ∙ c .unended .ensures)),
         λ all. absurd (true≢false (sym (c .before .before .is-eav .ensures .1 (s .pre .1 .1 .bit) (eav-stands (s .args .p) (s .args .symbols .now) all _ (omega (arith, h)) (omega arith) (omega (arith, h, s .pre .0 .long)))) ∙ not-true _ (c .before .if1 .taken))),
       ),
     )
@@ -68,9 +68,9 @@ returns-2 : tie.Need-returns-2
 returns-2 c =
     let s = c .before .before .before .before .before .before .before .before .before in
     let h = s .pre .0 .half in (
-      λ t. absurd (true≢false (sym t ∙ c .unended2 .ensures .0)),
+      λ t. absurd (true≢false (sym t ∙ c .unended2 .ensures)),
       (
-        λ t. absurd (true≢false (sym t ∙ c .unended2 .ensures .1)),
+        λ t. absurd (true≢false (sym t ∙ c .unended2 .ensures)),
         λ all. absurd (true≢false (sym (c .before .before .passes .ensures ∙ c .before .before .before .see-run .ensures .kept (bytes-stand (s .args .p) (s .args .symbols .now) all _ _ (omega (arith, h)) (omega (arith, h, s .pre .0 .long)) (λ i a b e. omega arith))) ∙ not-true _ (c .before .if2 .taken))),
       ),
     )

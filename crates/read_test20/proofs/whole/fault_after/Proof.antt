@@ -4,25 +4,29 @@ use Prim.Native.Nat.{_*_, _≤_}
 use native.Mathlib.Nat.{mul-le-mul-left}
 use native.Mathlib.Omega.{arith}
 use borrow.Author.Needs.{needs}
-use mathlib.Core.Path.{_≡_, _∙_}
+use mathlib.Core.Path.{ap}
+use Rattle.read_test20.specs.declared.whole.Taken.the-variants.{Invalid}
 use Rattle.read_test20.proofs.whole.fault_after.Statement.{statement}
 use Rattle.read_test20.proofs.whole.fault_after.Tie as tie
 
+fill-requires : tie.Need-fill-requires
+fill-requires c κs = search needs
+
 mul-clean : tie.Need-mul-clean
-mul-clean c = omega (arith, c .before .before .pre .1 .0)
+mul-clean c = omega (arith, c .before .before .before .before .before .before .before .pre .1 .0)
 
 mul-clean-2 : tie.Need-mul-clean-2
-mul-clean-2 c = omega (arith, c .before .before .before .pre .1 .0)
+mul-clean-2 c = omega (arith, c .before .before .before .before .before .before .before .before .pre .1 .0)
 
 mul-clean-3 : tie.Need-mul-clean-3
 mul-clean-3 c =
-    let s = c .before .before .before in
+    let s = c .before .before .before .before .before .before .before .before in
     let most : 3 * s .args .p .«stream_pairs» * s .args .words ≤ 3 * s .args .p .«stream_pairs» * 1920 = mul-le-mul-left (3 * s .args .p .«stream_pairs») (s .pre .1 .1 .0) in
     omega (arith, s .pre .1 .0)
 
 add-clean : tie.Need-add-clean
 add-clean c =
-    let s = c .before .before .before in
+    let s = c .before .before .before .before .before .before .before .before in
     let most : 3 * s .args .p .«stream_pairs» * s .args .words ≤ 3 * s .args .p .«stream_pairs» * 1920 = mul-le-mul-left (3 * s .args .p .«stream_pairs») (s .pre .1 .1 .0) in
     omega (arith, s .pre .1 .0)
 
@@ -30,15 +34,15 @@ mask-by-requires : tie.Need-mask-by-requires
 mask-by-requires c κs = search needs
 
 first-wrong-requires : tie.Need-first-wrong-requires
-first-wrong-requires c κs = let s = c .before .before .before .before in (s .pre .0, (s .pre .1 .0, rw (c .mask-by .ensures) (s .pre .1 .1 .1)))
+first-wrong-requires c κs = let s = c .before .before .before .before .before .before .before .before .before in (s .pre .0, (s .pre .1 .0, rw (c .mask-by .ensures) (s .pre .1 .1 .1)))
 
-fault-requires : tie.Need-fault-requires
-fault-requires c κs = search needs
+same-length : tie.Need-same-length
+same-length c = search needs
 
 returns : tie.Need-returns
-returns c = let e = c .fault .ensures in (e .0, e .1, e .2 ∙ c .before .first-wrong .ensures)
+returns c = (ap Invalid (c .first-wrong .ensures), c .before .before .before .before .before .before .fill .ensures)
 
 pub fault-after-spec : {M : Type 1} → statement M
 fault-after-spec =
     tie.close
-    (tie.spec mul-clean mul-clean-2 mul-clean-3 add-clean mask-by-requires first-wrong-requires fault-requires returns)
+    (tie.spec fill-requires mul-clean mul-clean-2 mul-clean-3 add-clean mask-by-requires first-wrong-requires same-length returns)

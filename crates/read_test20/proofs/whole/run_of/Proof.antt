@@ -13,7 +13,7 @@ use Rattle.read_test20.proofs.whole.run_of.Statement.{statement}
 use Rattle.read_test20.proofs.whole.run_of.Tie as tie
 
 are-blank-requires : tie.Need-are-blank-requires
-are-blank-requires c κs = (c .before .pre .1 .1 .0, c .before .pre .1 .1 .1 .0)
+are-blank-requires c κs = (c .before .pre .1 .1 .0, (c .before .pre .1 .1 .1 .0, c .before .pre .1 .1 .1 .1 .0))
 
 returns : tie.Need-returns
 returns c =
@@ -21,10 +21,10 @@ returns c =
     let a = s .args in
     let w = a .symbols .now in
     let tied = s .pre .1 .1 .1 .1 .1 in
-    let b = c .before .are-blank .ensures (c .if1 .taken) in
+    let b = c .before .are-blank .ensures .0 (c .if1 .taken) in
     let more : a .to ≡ a .from + 3 * ((a .to - a .from) / 3) = omega (arith, s .pre .1 .1 .0, s .pre .1 .1 .1 .1 .0) in (
       λ _. record { fits = tied .fits; going = blank-going w _ (a .flips) _ b _ (begin w 0 255 (a .from) (maskBy (a .flips)) (tied .bit)) _ more },
-      (λ _. b, λ _. refl),
+      (λ _. b, (λ _. refl, λ _. refl)),
     )
 
 see-run-requires : tie.Need-see-run-requires
@@ -40,7 +40,10 @@ returns-2 : tie.Need-returns-2
 returns-2 c =
     let k = c .before .see-run .ensures in (
       λ t. record { fits = k .fits; going = k .clean (sym (c .passes .ensures) ∙ t) },
-      (λ t. absurd (true≢false (sym t)), λ all. c .passes .ensures ∙ k .kept all),
+      (
+        λ t. absurd (true≢false (sym t)),
+        (λ b. absurd (true≢false (sym (c .before .before .before .are-blank .ensures .1 b) ∙ c .before .before .if1 .left)), λ all. c .passes .ensures ∙ k .kept all),
+      ),
     )
 
 pub run-of-spec : {M : Type 1} → statement M

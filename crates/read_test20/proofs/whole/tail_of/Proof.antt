@@ -1,15 +1,13 @@
 -- `read_test20::whole::tail_of` meets its contract: one run, and then the other.
 -- Assumes nothing.
-use mathlib.Core.Path.{_≡_, refl, sym, _∙_}
+use mathlib.Core.Path.{refl, sym, _∙_}
 use mathlib.Core.Bool.{true≢false}
-use Prim.Native.Nat.{_-_, _*_}
 use native.Mathlib.Omega.{arith}
-use lib.ListN.{length}
 use borrow.Author.Needs.{needs}
 use borrow.Author.Tests.{not-true, not-false}
-use Rattle.read_test20.proofs.Blanks.{blank-fill}
+use Rattle.read_test20.proofs.Blanks.{blank-fill, fill-blank}
 use Rattle.read_test20.proofs.Gathering.{join}
-use Rattle.read_test20.proofs.Kept.{bytes-in}
+use Rattle.read_test20.proofs.Kept.{bytes-in, agree}
 use Rattle.read_test20.proofs.whole.tail_of.Statement.{statement}
 use Rattle.read_test20.proofs.whole.tail_of.Tie as tie
 
@@ -34,10 +32,10 @@ unended-requires c κs = search needs
 returns : tie.Need-returns
 returns c =
     let long = c .before .before .before .before .before .before .before .pre .0 .long in (
-      λ t. absurd (true≢false (sym t ∙ c .unended .ensures .0)),
+      λ t. absurd (true≢false (sym t ∙ c .unended .ensures)),
       (
-        λ t. absurd (true≢false (sym t ∙ c .unended .ensures .1)),
-        λ all. absurd (true≢false (sym (c .before .before .before .run-of .ensures .1 .1 (bytes-in all (omega arith) (omega arith))) ∙ not-true _ (c .before .if1 .taken))),
+        λ t. absurd (true≢false (sym t ∙ c .unended .ensures)),
+        λ all. absurd (true≢false (sym (c .before .before .before .run-of .ensures .1 .1 .1 (bytes-in all (omega arith) (omega arith))) ∙ not-true _ (c .before .if1 .taken))),
       ),
     )
 
@@ -55,8 +53,10 @@ returns-2 c =
     let e = c .run-of2 .ensures in (
       λ t. join w (area .going) (e .0 t .going),
       (
-        λ t. blank-fill (s .args .p) w _ _ (s .pre .0 .half) (s .pre .0 .long) refl (e .1 .0 t),
-        λ all. e .1 .1 (bytes-in all (omega (arith, s .pre .0 .long)) (omega arith)),
+        λ t.
+            agree _ _ (λ b. blank-fill (s .args .p) w _ _ (s .pre .0 .half) (s .pre .0 .long) refl (e .1 .0 b))
+            (λ right. e .1 .1 .0 (fill-blank (s .args .p) w _ _ (s .pre .0 .half) (s .pre .0 .long) refl (area .going .bit) (e .0 t .going .suited) right)),
+        λ all. e .1 .1 .1 (bytes-in all (omega (arith, s .pre .0 .long)) (omega arith)),
       ),
     )
 

@@ -1,13 +1,14 @@
 -- `read_test20::whole::take_window` meets its contract.
 -- Assumes nothing.
-use mathlib.Core.Path.{refl, sym, ap, _∙_}
+use mathlib.Core.Path.{_≡_, refl, sym, ap, _∙_}
 use mathlib.Core.Bool.{true≢false}
+use Prim.Native.Nat.{_*_}
 use native.Mathlib.Omega.{arith}
 use borrow.Author.Needs.{needs}
 use borrow.Author.Tests.{not-true, not-false}
-use Rattle.read_test20.specs.declared.place.Scanned.{Scanned}
+use Rattle.span.specs.Format.{samplesIn}
 use Rattle.read_test20.proofs.Getting.{picture-is, sums-are}
-use Rattle.read_test20.proofs.Kept.{sav-stands, bytes-stand}
+use Rattle.read_test20.proofs.Kept.{sav-stands, bytes-stand, is-fault, are-zero, is-whole, are-picture, is-valid}
 use Rattle.read_test20.proofs.Wholes.{tied, goes-on, scanned-whole, reached-behind}
 use Rattle.read_test20.proofs.whole.take_window.Statement.{statement}
 use Rattle.read_test20.proofs.whole.take_window.Tie as tie
@@ -21,31 +22,29 @@ use Rattle.read_test20.proofs.whole.disparity_by.Reads as disparity-by-
 use Rattle.read_test20.proofs.whole.end_of.Reads as end-of-reads
 use Rattle.read_test20.proofs.whole.fault_after.Reads as fault-after-reads
 use Rattle.read_test20.proofs.whole.fault_somewhere.Reads as fault-somewhere-reads
+use Rattle.row_crc.proofs.Rows.{are-sums, no-other}
 use Rattle.row_crc.proofs.sums.sums_of_rows.Reads as sums-of-rows-reads
-use Rattle.read_test20.specs.Inside.Whole.{Tied}
+use Rattle.read_test20.specs.Inside.Run.{Walked}
+use Rattle.read_test20.specs.Inside.Whole.{AllHold, Tied}
 
 after-sav-requires : tie.Need-after-sav-requires
 after-sav-requires c κs = search needs
 
 fault-somewhere-requires : tie.Need-fault-somewhere-requires
-fault-somewhere-requires c κs = let s = c .before .before .before .before in (s .pre .0 .table, s .pre .0 .small .half)
+fault-somewhere-requires c κs = let s = c .before .before .before .before .before in (s .pre .0 .table, s .pre .0 .small .half)
+
+same-length : tie.Need-same-length
+same-length c = search needs
 
 returns : tie.Need-returns
 returns c =
-    let s = c .before .before .before .before .before in
-    let e = c .fault-somewhere .ensures in (
-      s .pre .1 .1,
-      (
-        λ t. absurd (true≢false (sym t ∙ e .0)),
-        (
-          λ t. absurd (true≢false (sym t ∙ e .1)),
-          (
-            e .2,
-            λ all. absurd (c .before .before .after-sav .ensures .1 (sav-stands (s .args .p) (s .args .symbols .now) all (omega (arith, s .pre .0 .half, s .pre .0 .long))) (c .before .if1 .taken)),
-          ),
-        ),
-      ),
-    )
+    let s = c .before .before .before .before .before .before .before .before in
+    let a = s .args in
+    let w = a .symbols .now in
+    let e = c .before .before .fault-somewhere .ensures in
+    let not-all : AllHold (a .p) w → ⊥ =
+    λ all. c .before .before .before .before .before .after-sav .ensures .1 (sav-stands (a .p) w all (omega (arith, s .pre .0 .half, s .pre .0 .long))) (c .before .before .before .before .if1 .taken) in
+    (is-fault (a .p) w not-all (e .0), are-zero (a .p) w not-all (a .rows .now) _ (e .1) refl)
 
 mul-see-run : tie.Need-mul-see-run
 mul-see-run c = search needs
@@ -62,25 +61,21 @@ passes-requires : tie.Need-passes-requires
 passes-requires c κs = search needs
 
 fault-somewhere-requires-2 : tie.Need-fault-somewhere-requires-2
-fault-somewhere-requires-2 c κs = let s = c .before .before .before .before .before .before .before .before in (s .pre .0 .table, s .pre .0 .small .half)
+fault-somewhere-requires-2 c κs = let s = c .before .before .before .before .before .before .before .before .before in (s .pre .0 .table, s .pre .0 .small .half)
+
+same-length-2 : tie.Need-same-length-2
+same-length-2 c = search needs
 
 returns-2 : tie.Need-returns-2
 returns-2 c =
-    let s = c .before .before .before .before .before .before .before .before .before in
+    let s = c .before .before .before .before .before .before .before .before .before .before .before .before in
+    let a = s .args in
+    let w = a .symbols .now in
     let h = s .pre .0 .half in
-    let e = c .fault-somewhere2 .ensures in (
-      s .pre .1 .1,
-      (
-        λ t. absurd (true≢false (sym t ∙ e .0)),
-        (
-          λ t. absurd (true≢false (sym t ∙ e .1)),
-          (
-            e .2,
-            λ all. absurd (true≢false (sym (c .before .before .passes .ensures ∙ c .before .before .before .see-run .ensures .kept (bytes-stand (s .args .p) (s .args .symbols .now) all _ _ (omega arith) (omega (arith, h, s .pre .0 .long)) (λ i a b e. absurd (omega (arith, h))))) ∙ not-true _ (c .before .if2 .taken))),
-          ),
-        ),
-      ),
-    )
+    let e = c .before .before .fault-somewhere2 .ensures in
+    let not-all : AllHold (a .p) w → ⊥ =
+    λ all. true≢false (sym (c .before .before .before .before .before .passes .ensures ∙ c .before .before .before .before .before .before .see-run .ensures .kept (bytes-stand (a .p) w all _ _ (omega arith) (omega (arith, h, s .pre .0 .long)) (λ i a b e. absurd (omega (arith, h))))) ∙ not-true _ (c .before .before .before .before .if2 .taken)) in
+    (is-fault (a .p) w not-all (e .0), are-zero (a .p) w not-all (a .rows .now) _ (e .1) refl)
 
 take-picture-requires : tie.Need-take-picture-requires
 take-picture-requires c κs =
@@ -95,31 +90,25 @@ passes-requires-2 c κs = search needs
 
 fault-after-requires : tie.Need-fault-after-requires
 fault-after-requires c κs =
-    let s = c .before .before .before .before .before .before .before .before .before .before .before .before .before .before in
-    let right = sym (c .before .before .before .before .before .before .before .passes .ensures) ∙ not-false _ (c .before .before .before .before .before .before .if2 .left) in
-    let come = c .before .before .before .before .take-picture .ensures .1 .1 .0 in
-    (s .pre .0 .table, (s .pre .0 .small .half, (come .some, reached-behind (s .args .p) (s .args .symbols .now) (c .before .before .before .before .before .before .before .before .before .before .before .after-sav .ensures .0 (c .before .before .before .before .before .before .before .before .before .before .if1 .left)) (c .before .before .before .before .before .before .before .before .see-run .ensures) right come (s .pre .0 .long))))
+    let s = c .before .before .before .before .before .before .before .before .before .before .before .before .before .before .before in
+    let right = sym (c .before .before .before .before .before .before .before .before .passes .ensures) ∙ not-false _ (c .before .before .before .before .before .before .before .if2 .left) in
+    let come = c .before .before .before .before .before .take-picture .ensures .1 .1 .0 in
+    (s .pre .0 .table, (s .pre .0 .small .half, (come .some, reached-behind (s .args .p) (s .args .symbols .now) (c .before .before .before .before .before .before .before .before .before .before .before .before .after-sav .ensures .0 (c .before .before .before .before .before .before .before .before .before .before .before .if1 .left)) (c .before .before .before .before .before .before .before .before .before .see-run .ensures) right come (s .pre .0 .long))))
 
-same-length : tie.Need-same-length
-same-length c = search needs
+same-length-3 : tie.Need-same-length-3
+same-length-3 c = search needs
 
 returns-3 : tie.Need-returns-3
 returns-3 c =
-    let s = c .before .before .before .before .before .before .before .before .before .before .before .before .before .before .before in
-    let e = c .before .before .before .before .before .take-picture .ensures in
-    let r = c .fault-after .ensures in (
-      omega (arith, e .0),
-      (
-        λ t. absurd (true≢false (sym t ∙ r .0)),
-        (
-          λ t. absurd (true≢false (sym t ∙ r .1)),
-          (
-            r .2,
-            λ all. absurd (true≢false (sym (c .before .before .passes2 .ensures ∙ e .1 .1 .1 (bytes-stand (s .args .p) (s .args .symbols .now) all _ _ (omega (arith, s .pre .0 .half)) (omega (arith, s .pre .0 .half, s .pre .0 .long)) (λ i a b q. absurd (omega arith)))) ∙ not-true _ (c .before .if3 .taken))),
-          ),
-        ),
-      ),
-    )
+    let s = c .before .before .before .before .before .before .before .before .before .before .before .before .before .before .before .before .before .before in
+    let a = s .args in
+    let w = a .symbols .now in
+    let e = c .before .before .before .before .before .before .before .before .take-picture .ensures in
+    let r = c .before .before .fault-after .ensures in
+    let size : 3840 * a .p .«stream_pairs» ≡ samplesIn (a .p) = omega arith in
+    let not-all : AllHold (a .p) w → ⊥ =
+    λ all. true≢false (sym (c .before .before .before .before .before .passes2 .ensures ∙ e .1 .1 .1 (bytes-stand (a .p) w all _ _ (omega (arith, s .pre .0 .half)) (omega (arith, s .pre .0 .half, s .pre .0 .long)) (λ i a b q. absurd (omega arith)))) ∙ not-true _ (c .before .before .before .before .if3 .taken)) in
+    (is-fault (a .p) w not-all (r .0), are-zero (a .p) w not-all (a .rows .now) _ (r .1) (e .0 ∙ size ∙ sym (s .pre .1 .1)))
 
 end-of-requires : tie.Need-end-of-requires
 end-of-requires c κs =
@@ -130,29 +119,29 @@ end-of-requires c κs =
 
 fault-after-requires-2 : tie.Need-fault-after-requires-2
 fault-after-requires-2 c κs =
-    let s = c .before .before .before .before .before .before .before .before .before .before .before .before .before .before .before .before .before in
-    let right = sym (c .before .before .before .before .before .before .before .before .before .before .passes .ensures) ∙ not-false _ (c .before .before .before .before .before .before .before .before .before .if2 .left) in
-    let come = c .before .before .before .before .before .before .before .take-picture .ensures .1 .1 .0 in
-    (s .pre .0 .table, (s .pre .0 .small .half, (come .some, reached-behind (s .args .p) (s .args .symbols .now) (c .before .before .before .before .before .before .before .before .before .before .before .before .before .before .after-sav .ensures .0 (c .before .before .before .before .before .before .before .before .before .before .before .before .before .if1 .left)) (c .before .before .before .before .before .before .before .before .before .before .before .see-run .ensures) right come (s .pre .0 .long))))
+    let s = c .before .before .before .before .before .before .before .before .before .before .before .before .before .before .before .before .before .before in
+    let right = sym (c .before .before .before .before .before .before .before .before .before .before .before .passes .ensures) ∙ not-false _ (c .before .before .before .before .before .before .before .before .before .before .if2 .left) in
+    let come = c .before .before .before .before .before .before .before .before .take-picture .ensures .1 .1 .0 in
+    (s .pre .0 .table, (s .pre .0 .small .half, (come .some, reached-behind (s .args .p) (s .args .symbols .now) (c .before .before .before .before .before .before .before .before .before .before .before .before .before .before .before .after-sav .ensures .0 (c .before .before .before .before .before .before .before .before .before .before .before .before .before .before .if1 .left)) (c .before .before .before .before .before .before .before .before .before .before .before .before .see-run .ensures) right come (s .pre .0 .long))))
 
-same-length-2 : tie.Need-same-length-2
-same-length-2 c = search needs
+same-length-4 : tie.Need-same-length-4
+same-length-4 c = search needs
 
 returns-4 : tie.Need-returns-4
 returns-4 c =
-    let r = c .fault-after2 .ensures in (
-      omega (arith, c .before .before .before .before .before .before .before .before .take-picture .ensures .0),
-      (
-        λ t. absurd (true≢false (sym t ∙ r .0)),
-        (
-          λ t. absurd (true≢false (sym t ∙ r .1)),
-          (r .2, λ all. absurd (true≢false (sym (c .before .before .before .end-of .ensures .1 .1 all) ∙ not-true _ (c .before .if4 .taken)))),
-        ),
-      ),
-    )
+    let s = c .before .before .before .before .before .before .before .before .before .before .before .before .before .before .before .before .before .before .before .before .before in
+    let a = s .args in
+    let w = a .symbols .now in
+    let r = c .before .before .fault-after2 .ensures in
+    let size : 3840 * a .p .«stream_pairs» ≡ samplesIn (a .p) = omega arith in
+    let not-all : AllHold (a .p) w → ⊥ = λ all. true≢false (sym (c .before .before .before .before .before .before .end-of .ensures .1 .1 all) ∙ not-true _ (c .before .before .before .before .if4 .taken)) in
+    (is-fault (a .p) w not-all (r .0), are-zero (a .p) w not-all (a .rows .now) _ (r .1) (c .before .before .before .before .before .before .before .before .before .before .before .take-picture .ensures .0 ∙ size ∙ sym (s .pre .1 .1)))
 
 sums-of-rows-requires : tie.Need-sums-of-rows-requires
 sums-of-rows-requires c κs = search needs
+
+enum-known-sums : tie.Need-enum-known-sums
+enum-known-sums c = search needs
 
 disparity-by-requires : tie.Need-disparity-by-requires
 disparity-by-requires c κs = search needs
@@ -160,30 +149,38 @@ disparity-by-requires c κs = search needs
 disparity-by-requires-2 : tie.Need-disparity-by-requires-2
 disparity-by-requires-2 c κs = search needs
 
-same-length-3 : tie.Need-same-length-3
-same-length-3 c = search needs
+enum-told : tie.Need-enum-told
+enum-told c = search needs
+
+same-length-5 : tie.Need-same-length-5
+same-length-5 c = search needs
 
 returns-5 : tie.Need-returns-5
 returns-5 c =
-    let s = c .before .before .before .before .before .before .before .before .before .before .before .before .before .before .before .before .before .before .before .before .before in
+    let s = c .before .before .before .before .before .before .before .before .before .before .before .before .before .before .before .before .before .before .before .before .before .before .before .before in
     let w = s .args .symbols .now in
-    let right = sym (c .before .before .before .before .before .before .before .before .before .before .before .before .before .before .passes .ensures) ∙ not-false _ (c .before .before .before .before .before .before .before .before .before .before .before .before .before .if2 .left) in
-    let rights = sym (c .before .before .before .before .before .before .before .before .passes2 .ensures) ∙ not-false _ (c .before .before .before .before .before .before .before .if3 .left) in
-    let got = c .before .before .before .before .before .before .before .before .before .before .before .take-picture .ensures .1 .0 rights in
+    let right = sym (c .before .before .before .before .before .before .before .before .before .before .before .before .before .before .before .before .before .passes .ensures) ∙ not-false _ (c .before .before .before .before .before .before .before .before .before .before .before .before .before .before .before .before .if2 .left) in
+    let rights = sym (c .before .before .before .before .before .before .before .before .before .before .before .passes2 .ensures) ∙ not-false _ (c .before .before .before .before .before .before .before .before .before .before .if3 .left) in
+    let got = c .before .before .before .before .before .before .before .before .before .before .before .before .before .before .take-picture .ensures .1 .0 rights in
     let picture = picture-is (s .args .p) w (s .pre .0 .small .half) (s .pre .0 .half) (s .pre .1 .1) got in
-    let e = c .before .before .before .before .before .before .end-of .ensures in
-    let scanned = scanned-whole (s .args .p) w (c .before .before .before .before .before .before .before .before .before .before .before .before .before .before .before .before .before .before .after-sav .ensures .0 (c .before .before .before .before .before .before .before .before .before .before .before .before .before .before .before .before .before .if1 .left)) (c .before .before .before .before .before .before .before .before .before .before .before .before .before .before .before .see-run .ensures) right (got .clean) rights (e .0 (not-false _ (c .before .before .before .before .if4 .left))) in (
-      omega (arith, c .before .before .before .before .before .before .before .before .before .before .before .take-picture .ensures .0),
-      (
-        λ t.
-            record {
-              scanned = rw (c .before .disparity-by .ensures, c .disparity-by2 .ensures) scanned;
-              sums = c .before .before .sums-of-rows .ensures ∙ sums-are (s .args .p) w picture (s .pre .0 .small .half) (s .pre .0 .half);
-              picture = picture;
-            },
-        (e .1 .0, (ap (λ (x : Scanned). x .place) scanned, e .1 .1)),
-      ),
-    )
+    let e = c .before .before .before .before .before .before .before .before .before .end-of .ensures in
+    let scanned = scanned-whole (s .args .p) w (c .before .before .before .before .before .before .before .before .before .before .before .before .before .before .before .before .before .before .before .before .before .after-sav .ensures .0 (c .before .before .before .before .before .before .before .before .before .before .before .before .before .before .before .before .before .before .before .before .if1 .left)) (c .before .before .before .before .before .before .before .before .before .before .before .before .before .before .before .before .before .before .see-run .ensures) right (got .clean) rights (e .0 (not-false _ (c .before .before .before .before .before .before .before .if4 .left))) in
+    let all = sym (ap (λ (x : Walked). x .place) scanned) in
+    let filled = e .1 .0 (not-false _ (c .before .before .before .before .before .before .before .if4 .left)) in
+    let before = c .before .disparity-by .ensures ∙ ap (λ (x : Walked). x .before) scanned in
+    let after = c .disparity-by2 .ensures ∙ ap (λ (x : Walked). x .after) scanned in
+    let sums =
+    are-sums _ (s .args .p .«stream_pairs») (s .pre .0 .half) (s .pre .0 .small .half) (sym (c .before .before .before .before .before .sums-of-rows .ensures) ∙ c .before .before .before .sums .given .1) (omega (arith, s .pre .1 .1, c .before .before .before .before .before .before .before .before .before .before .before .before .before .before .take-picture .ensures .0))
+    ∙ sums-are (s .args .p) w picture (s .pre .0 .small .half) (s .pre .0 .half) in
+    (is-whole (s .args .p) w all refl (is-valid (s .args .p) w all filled before after sums), are-picture (s .args .p) w all (s .args .rows .now) picture)
+
+same-length-6 : tie.Need-same-length-6
+same-length-6 c = search needs
+
+returns-6 : tie.Need-returns-6
+returns-6 c =
+    let s = c .before .before .before .before .before .before .before .before .before .before .before .before .before .before .before .before .before .before .before .before .before in
+    no-other _ (s .args .p .«stream_pairs») (s .pre .0 .half) (s .pre .0 .small .half) (sym (c .before .before .sums-of-rows .ensures) ∙ c .enum-told .given .1) (omega (arith, s .pre .1 .1, c .before .before .before .before .before .before .before .before .before .before .before .take-picture .ensures .0))
 
 pub take-window-spec : {M : Type 1} → statement M
 take-window-spec =
@@ -191,23 +188,29 @@ take-window-spec =
     (tie.spec
     after-sav-requires
     fault-somewhere-requires
+    same-length
     returns
     mul-see-run
     see-run-requires
     passes-requires
     fault-somewhere-requires-2
+    same-length-2
     returns-2
     take-picture-requires
     passes-requires-2
     fault-after-requires
-    same-length
+    same-length-3
     returns-3
     end-of-requires
     fault-after-requires-2
-    same-length-2
+    same-length-4
     returns-4
     sums-of-rows-requires
+    enum-known-sums
     disparity-by-requires
     disparity-by-requires-2
-    same-length-3
-    returns-5)
+    enum-told
+    same-length-5
+    returns-5
+    same-length-6
+    returns-6)

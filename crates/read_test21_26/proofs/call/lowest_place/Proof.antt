@@ -32,20 +32,20 @@ next-line-requires c κs =
     given _ (sym (v .before .before .before .is-window .ensures) ∙ v .before .before .if1 .taken)
     (v .shape-of .ensures) (v .before .decoding-table .ensures)
 
-mul-first-wrong : tie.Need-mul-first-wrong
-mul-first-wrong c = omega (arith, small _ (c .before .before .before .before .before .shape-of .ensures) .half)
+mul-lowest-in : tie.Need-mul-lowest-in
+mul-lowest-in c = omega (arith, small _ (c .before .before .before .before .before .shape-of .ensures) .half)
 
-mul-first-wrong-2 : tie.Need-mul-first-wrong-2
-mul-first-wrong-2 c = omega (arith, small _ (c .before .before .before .before .before .shape-of .ensures) .half)
+mul-lowest-in-2 : tie.Need-mul-lowest-in-2
+mul-lowest-in-2 c = omega (arith, small _ (c .before .before .before .before .before .shape-of .ensures) .half)
 
-first-wrong-requires : tie.Need-first-wrong-requires
-first-wrong-requires c κs =
+lowest-in-requires : tie.Need-lowest-in-requires
+lowest-in-requires c κs =
     let v = c .before .before .before .before .before in (
       record {
         given =
             given _ (sym (v .before .before .before .is-window .ensures) ∙ v .before .before .if1 .taken)
             (v .shape-of .ensures) (v .before .decoding-table .ensures);
-        named = c .before .before .next-line .ensures;
+        line = c .before .before .next-line .ensures;
       },
       (omega arith, omega arith),
     )
@@ -57,7 +57,7 @@ returns c =
     let w = a .symbols .now in
     let is : isWindow (a .f) (length w) ≡ true = sym (v .before .before .before .is-window .ensures) ∙ v .before .before .if1 .taken in
     let asked : eqb (a .number) 25 ≡ true = eq-eqb (a .number) 25 (c .before .before .if2 .taken) in
-    rw (is, asked) (is-place-25 (a .f) w (v .shape-of .ensures) _ (c .first-wrong .ensures))
+    rw (is, asked) (is-place-25 (a .f) w (v .shape-of .ensures) _ (c .lowest-in .ensures))
 
 add-from : tie.Need-add-from
 add-from c = omega (arith, small _ (c .before .before .before .before .before .shape-of .ensures) .ancillary)
@@ -65,20 +65,20 @@ add-from c = omega (arith, small _ (c .before .before .before .before .before .s
 mul-from : tie.Need-mul-from
 mul-from c = omega (arith, few-words (small _ (c .before .before .before .before .before .shape-of .ensures)))
 
-mul-first-wrong-3 : tie.Need-mul-first-wrong-3
-mul-first-wrong-3 c = omega (arith, small _ (c .before .before .before .before .before .before .before .shape-of .ensures) .fill)
+mul-lowest-in-3 : tie.Need-mul-lowest-in-3
+mul-lowest-in-3 c = omega (arith, small _ (c .before .before .before .before .before .before .before .shape-of .ensures) .fill)
 
-add-first-wrong : tie.Need-add-first-wrong
-add-first-wrong c = omega (arith, few-words (small _ (c .before .before .before .before .before .before .before .shape-of .ensures)))
+add-lowest-in : tie.Need-add-lowest-in
+add-lowest-in c = omega (arith, few-words (small _ (c .before .before .before .before .before .before .before .shape-of .ensures)))
 
-first-wrong-requires-2 : tie.Need-first-wrong-requires-2
-first-wrong-requires-2 c κs =
+lowest-in-requires-2 : tie.Need-lowest-in-requires-2
+lowest-in-requires-2 c κs =
     let v = c .before .before .before .before .before .before .before in (
       record {
         given =
             given _ (sym (v .before .before .before .is-window .ensures) ∙ v .before .before .if1 .taken)
             (v .shape-of .ensures) (v .before .decoding-table .ensures);
-        named = c .before .before .before .before .next-line .ensures;
+        line = c .before .before .before .before .next-line .ensures;
       },
       (omega arith, omega arith),
     )
@@ -90,7 +90,7 @@ returns-2 c =
     let w = a .symbols .now in
     let is : isWindow (a .f) (length w) ≡ true = sym (v .before .before .before .is-window .ensures) ∙ v .before .before .if1 .taken in
     let asked : eqb (a .number) 25 ≡ false = ne-eqb (a .number) 25 (c .before .before .before .before .if2 .left) in
-    rw (is, asked) (is-place-26 (a .f) w (v .shape-of .ensures) _ (c .first-wrong2 .ensures))
+    rw (is, asked) (is-place-26 (a .f) w (v .shape-of .ensures) _ (c .lowest-in2 .ensures))
 
 returns-3 : tie.Need-returns-3
 returns-3 c =
@@ -107,14 +107,14 @@ lowest-place-spec =
     shape-of-requires
     mul-s
     next-line-requires
-    mul-first-wrong
-    mul-first-wrong-2
-    first-wrong-requires
+    mul-lowest-in
+    mul-lowest-in-2
+    lowest-in-requires
     returns
     add-from
     mul-from
-    mul-first-wrong-3
-    add-first-wrong
-    first-wrong-requires-2
+    mul-lowest-in-3
+    add-lowest-in
+    lowest-in-requires-2
     returns-2
     returns-3)

@@ -1,15 +1,15 @@
 -- `read_test21_26::holds::line_holds` meets its contract.
 -- Assumes nothing.
 use mathlib.Core.Path.{_≡_, sym, ap, ap₂, _∙_}
-use mathlib.Core.Bool.{not}
-use Prim.Native.Nat.{ℕ, _+_, _*_, _/_, _%_, _≤_}
+use Prim.Native.Nat.{_+_, _*_, _/_, _%_, _≤_}
 use native.Mathlib.Omega.{arith}
 use lib.Dec.{eqb}
+use Rattle.ground.specs.Search.{isSome}
 use Rattle.span.specs.Format.{streams}
 use Rattle.span.specs.Layout.{lineStart}
 use Rattle.window.specs.Words.{wordAt}
 use Rattle.read_test21_26.proofs.Reading.{here, word-before, first-word, first-stream, not-first}
-use Rattle.read_test21_26.proofs.Tests.{first-22, other-22, else-22, some-line}
+use Rattle.read_test21_26.proofs.Tests.{first-22, other-22, else-22}
 use borrow.Author.Needs.{needs}
 use Rattle.read_test21_26.proofs.holds.line_holds.Statement.{statement}
 use Rattle.read_test21_26.proofs.holds.line_holds.Tie as tie
@@ -23,8 +23,8 @@ div-j c = search needs
 mul-if1 : tie.Need-mul-if1
 mul-if1 c = search needs
 
-number-of-requires : tie.Need-number-of-requires
-number-of-requires c κs = search needs
+names-line-requires : tie.Need-names-line-requires
+names-line-requires c κs = search needs
 
 returns : tie.Need-returns
 returns c =
@@ -32,8 +32,8 @@ returns c =
     let a = s .args in
     let some-streams : 1 ≤ streams (a .p) = omega (arith, s .pre .0 .half) in
     let at = c .before .if1 .taken in
-    ap (λ (x : ℕ). not (eqb x 0)) (c .number-of .ensures ∙ s .pre .1 .1)
-    ∙ some-line (streams (a .p)) (wordAt (a .p) (a .symbols .now))
+    c .names-line .ensures
+    ∙ ap isSome (s .pre .1 .1)
     ∙ sym (first-22 (streams (a .p)) (wordAt (a .p) (a .symbols .now)) (a .k / streams (a .p)) (a .k % streams (a .p)) (first-word (streams (a .p)) some-streams (a .k) lineStart at) (first-stream (streams (a .p)) some-streams (a .k) lineStart at))
 
 word-at-requires : tie.Need-word-at-requires
@@ -81,7 +81,7 @@ line-holds-spec =
     mul-s
     div-j
     mul-if1
-    number-of-requires
+    names-line-requires
     returns
     word-at-requires
     mul-word-at

@@ -1,7 +1,7 @@
 -- `read_test21_26::holds::next_line` meets its contract: both words are stream 1's.
 -- Assumes nothing.
 use mathlib.Core.Path.{_∙_}
-use Rattle.read_test21_26.proofs.Reading.{line-told, no-line-told, next-is}
+use Rattle.read_test21_26.proofs.Reading.{line-told, next-is}
 use borrow.Author.Needs.{needs}
 use Rattle.read_test21_26.proofs.holds.next_line.Statement.{statement}
 use Rattle.read_test21_26.proofs.holds.next_line.Tie as tie
@@ -24,48 +24,12 @@ word-at-requires-2 c κs = search needs
 read-line-words-requires : tie.Need-read-line-words-requires
 read-line-words-requires c κs = search needs
 
-enum-known-l : tie.Need-enum-known-l
-enum-known-l c = search needs
-
-enum-told : tie.Need-enum-told
-enum-told c = search needs
-
-stream-line-requires : tie.Need-stream-line-requires
-stream-line-requires c κs = search needs
-
-enum-told-2 : tie.Need-enum-told-2
-enum-told-2 c = search needs
-
-stream-line-requires-2 : tie.Need-stream-line-requires-2
-stream-line-requires-2 c κs = search needs
-
 returns : tie.Need-returns
 returns c =
-    let a = c .before .before .before .before .before .before .before .before .args in
-    let ln0 = c .before .before .before .before .before .word-at in
-    let ln1 = c .before .before .before .before .word-at2 in
-    line-told (ln0 .result) (ln1 .result) (ln0 .ensures .1) (ln1 .ensures .1) (c .before .l .given .0 .0)
-    (rw (c .before .l .given .1) at (c .before .before .before .read-line-words .ensures))
-    ∙ next-is (a .p) (a .symbols .now) (ln0 .ensures .0) (ln1 .ensures .0)
-
-returns-2 : tie.Need-returns-2
-returns-2 c =
-    let a = c .before .before .before .before .before .before .before .before .args in
-    let ln0 = c .before .before .before .before .before .word-at in
-    let ln1 = c .before .before .before .before .word-at2 in
-    c .stream-line .ensures
-    ∙ no-line-told (ln0 .result) (ln1 .result) (ln0 .ensures .1) (ln1 .ensures .1) 7
-    (rw (c .before .enum-told .given .1) at (c .before .before .before .read-line-words .ensures))
-    ∙ next-is (a .p) (a .symbols .now) (ln0 .ensures .0) (ln1 .ensures .0)
-
-returns-3 : tie.Need-returns-3
-returns-3 c =
-    let a = c .before .before .before .before .before .before .before .before .args in
-    let ln0 = c .before .before .before .before .before .word-at in
-    let ln1 = c .before .before .before .before .word-at2 in
-    c .stream-line2 .ensures
-    ∙ no-line-told (ln0 .result) (ln1 .result) (ln0 .ensures .1) (ln1 .ensures .1) 22
-    (rw (c .before .enum-told2 .given .1) at (c .before .before .before .read-line-words .ensures))
+    let a = c .before .before .before .before .before .args in
+    let ln0 = c .before .before .word-at in
+    let ln1 = c .before .word-at2 in
+    line-told (ln0 .result) (ln1 .result) (ln0 .ensures .1) (ln1 .ensures .1) (c .read-line-words .result) (c .read-line-words .ensures)
     ∙ next-is (a .p) (a .symbols .now) (ln0 .ensures .0) (ln1 .ensures .0)
 
 pub next-line-spec : {M : Type 1} → statement M
@@ -78,11 +42,4 @@ next-line-spec =
     mul-word-at-2
     word-at-requires-2
     read-line-words-requires
-    enum-known-l
-    enum-told
-    stream-line-requires
-    enum-told-2
-    stream-line-requires-2
-    returns
-    returns-2
-    returns-3)
+    returns)

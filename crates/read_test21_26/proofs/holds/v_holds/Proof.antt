@@ -2,12 +2,12 @@
 -- Assumes nothing.
 use mathlib.Core.Path.{sym, ap, ap₂, _∙_}
 use Prim.Native.Nat.{ℕ, _/_, _%_}
-use Rattle.line.specs.Stream.{vOf, lineBefore}
+use Rattle.line.specs.Stream.{vOf}
 use Rattle.span.specs.Format.{streams}
 use Rattle.window.specs.Tests.{same}
 use Rattle.word.specs.Received.{vIn}
 use Rattle.window.specs.Words.{wordAt}
-use Rattle.read_test21_26.proofs.Reading.{here-below, line-is}
+use Rattle.read_test21_26.proofs.Reading.{here-below, next-line, line-read}
 use Rattle.read_test21_26.proofs.Tests.{same-is, sav-23, eav-23, else-23}
 use borrow.Author.Needs.{needs}
 use Rattle.read_test21_26.proofs.holds.v_holds.Statement.{statement}
@@ -25,28 +25,25 @@ word-at-requires c κs = search needs
 v-in-requires : tie.Need-v-in-requires
 v-in-requires c κs = search needs
 
-line-before-requires : tie.Need-line-before-requires
-line-before-requires c κs = search needs
-
-v-of-requires : tie.Need-v-of-requires
-v-of-requires c κs = search needs
+v-before-requires : tie.Need-v-before-requires
+v-before-requires c κs = search needs
 
 returns : tie.Need-returns
 returns c =
-    let s = c .before .before .before .before .before .before .before in
+    let s = c .before .before .before .before .before .before in
     let a = s .args in
-    let v = c .before .before .v-in in
-    let word = here-below (a .p) (a .symbols .now) (a .k) (s .pre .0 .half) (c .before .before .before .before .word-at .ensures .0) in
-    let line = ap lineBefore (s .pre .1 .1) ∙ line-is (streams (a .p)) (wordAt (a .p) (a .symbols .now)) in
-    same-is (v .result) (c .v-of .result)
-    ∙ ap₂ same (v .ensures ∙ ap (λ (x : ℕ). vIn x) word) (c .v-of .ensures ∙ ap (λ (n : ℕ). vOf n) (c .before .line-before .ensures ∙ line))
-    ∙ sym (sav-23 (streams (a .p)) (wordAt (a .p) (a .symbols .now)) (a .k / streams (a .p)) (a .k % streams (a .p)) (c .before .before .before .if1 .taken))
+    let v = c .before .v-in in
+    let word = here-below (a .p) (a .symbols .now) (a .k) (s .pre .0 .half) (c .before .before .before .word-at .ensures .0) in
+    let line = line-read (streams (a .p)) (wordAt (a .p) (a .symbols .now)) (a .next) (s .pre .1 .1) in
+    same-is (v .result) (c .v-before .result)
+    ∙ ap₂ same (v .ensures ∙ ap (λ (x : ℕ). vIn x) word) (c .v-before .ensures ∙ ap (λ (n : ℕ). vOf n) line)
+    ∙ sym (sav-23 (streams (a .p)) (wordAt (a .p) (a .symbols .now)) (a .k / streams (a .p)) (a .k % streams (a .p)) (c .before .before .if1 .taken))
 
 v-in-requires-2 : tie.Need-v-in-requires-2
 v-in-requires-2 c κs = search needs
 
-v-of-requires-2 : tie.Need-v-of-requires-2
-v-of-requires-2 c κs = search needs
+v-named-requires : tie.Need-v-named-requires
+v-named-requires c κs = search needs
 
 returns-2 : tie.Need-returns-2
 returns-2 c =
@@ -54,8 +51,9 @@ returns-2 c =
     let a = s .args in
     let v = c .before .v-in2 in
     let word = here-below (a .p) (a .symbols .now) (a .k) (s .pre .0 .half) (c .before .before .before .before .word-at .ensures .0) in
-    same-is (v .result) (c .v-of2 .result)
-    ∙ ap₂ same (v .ensures ∙ ap (λ (x : ℕ). vIn x) word) (c .v-of2 .ensures ∙ ap (λ (n : ℕ). vOf n) (s .pre .1 .1))
+    let line = next-line (streams (a .p)) (wordAt (a .p) (a .symbols .now)) (a .next) (s .pre .1 .1) in
+    same-is (v .result) (c .v-named .result)
+    ∙ ap₂ same (v .ensures ∙ ap (λ (x : ℕ). vIn x) word) (c .v-named .ensures ∙ ap (λ (n : ℕ). vOf n) line)
     ∙ sym (eav-23 (streams (a .p)) (wordAt (a .p) (a .symbols .now)) (a .k / streams (a .p)) (a .k % streams (a .p)) (c .before .before .if2 .taken))
 
 returns-3 : tie.Need-returns-3
@@ -71,10 +69,9 @@ v-holds-spec =
     div-j
     word-at-requires
     v-in-requires
-    line-before-requires
-    v-of-requires
+    v-before-requires
     returns
     v-in-requires-2
-    v-of-requires-2
+    v-named-requires
     returns-2
     returns-3)

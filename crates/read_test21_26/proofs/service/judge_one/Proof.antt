@@ -6,8 +6,9 @@ use Prim.Native.Nat.{ℕ, _≤_}
 use native.Mathlib.Omega.{arith}
 use borrow.Author.Needs.{needs}
 use Rattle.span.specs.Layout.{ancillaryStart}
+use Rattle.read_test21_26.specs.declared.service.Verdict.the-variants.{AllHold}
 use Rattle.read_test21_26.specs.Inside.Holds.{holdsAt}
-use Rattle.read_test21_26.specs.Inside.Verdict.{passed, verdictOf}
+use Rattle.read_test21_26.specs.Inside.Verdict.{verdictOf}
 use Rattle.read_test21_26.proofs.Searching.{found, not-found}
 use Rattle.read_test21_26.proofs.Sizes.{few-words, rising, within-window}
 use Rattle.read_test21_26.proofs.service.judge_one.Statement.{statement}
@@ -40,14 +41,14 @@ mul-if1 c =
 returns : tie.Need-returns
 returns c =
     let a = c .before .before .before .before .args in
-    ap (λ (o : Option ℕ). verdictOf (a .number) o passed)
+    ap (λ (o : Option ℕ). verdictOf (a .number) o AllHold)
     (sym (found (holdsAt (a .number) (a .f) (a .p) (a .symbols .now) (a .c)) _ _ (c .before .first-wrong .ensures) (c .if1 .taken)))
 
 returns-2 : tie.Need-returns-2
 returns-2 c =
     let s = c .before .before .before .before in
     let a = s .args in
-    ap (λ (o : Option ℕ). verdictOf (a .number) o passed)
+    ap (λ (o : Option ℕ). verdictOf (a .number) o AllHold)
     (sym
     (not-found (holdsAt (a .number) (a .f) (a .p) (a .symbols .now) (a .c)) _ _ (c .before .first-wrong .ensures)
     (rising (a .p) (s .pre .1 .0)) (c .if1 .left)))

@@ -32,8 +32,8 @@ as-put pairs s content m e q =
 line-after-requires : tie.Need-line-after-requires
 line-after-requires c κs = search needs
 
-words-of-requires : tie.Need-words-of-requires
-words-of-requires c κs = search needs
+words-after-requires : tie.Need-words-after-requires
+words-after-requires c κs = search needs
 
 v-of-requires : tie.Need-v-of-requires
 v-of-requires c κs = search needs
@@ -96,9 +96,8 @@ returns c =
     let s = c .before .before .before .before .before .before .before .before .before .before .before .before .before .before .before .before .before .before .before .before .before in
     let a = s .args in
     let next = c .before .before .before .before .before .before .before .before .before .before .before .before .before .before .before .before .before .before .before .line-after in
-    let n = c .before .before .before .before .before .before .before .before .before .before .before .before .before .before .before .before .before .before .words-of in
+    let n = c .before .before .before .before .before .before .before .before .before .before .before .before .before .before .before .before .before .before .words-after in
     let xyz = c .before .before .before .before .before .before .before .before .before .before .before .before .before .before .before .before .timing-word in
-    let number = n .ensures ∙ ap lineWords (next .ensures) in
     let code = xyz .ensures ∙ ap (λ (v : Bool). timing v true) (c .before .before .before .before .before .before .before .before .before .before .before .before .before .before .before .before .before .v-of .ensures ∙ ap vOf (next .ensures)) in
     let l = length-timing (a .pairs) 266 (a .content .eav1) (a .content .eav2) (xyz .result) (s .pre .1 .1 .0) (s .pre .1 .1 .1 .0) in
     let g0 = length-group (a .pairs) (λ _. n .result .ln0) in
@@ -106,7 +105,7 @@ returns c =
     let p = made (c .before .before .before .before .before .before .before .before .before .before .before .before .before .before .put-timing .ensures) in
     let q = made (c .before .before .before .before .before .before .before .before .before .before .put-same .ensures) in
     let r = made (c .before .before .before .before .before .before .put-same2 .ensures) in
-    let e = renamed (as-put (a .pairs) (a .sums) (a .content) (lineAfter (a .l .0)) number code)
+    let e = renamed (as-put (a .pairs) (a .sums) (a .content) (lineAfter (a .l .0)) (n .ensures) code)
     (then p (omega (arith, l)) (then q (omega (arith, g0)) (then r (omega (arith, g1)) (made (c .before .before .put-crcc .ensures))))) in
     (e .offset, e .out)
 
@@ -115,7 +114,7 @@ put-after-picture-spec =
     tie.close
     (tie.spec
     line-after-requires
-    words-of-requires
+    words-after-requires
     v-of-requires
     timing-word-requires
     put-timing-requires
