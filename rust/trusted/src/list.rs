@@ -26,6 +26,9 @@ one outside of it is reached from no root.
 const PARTS: [(Part, &str); 2] =
     [(Part::Calls, "what the calls, the demands and the values reach"), (Part::Programs, "what only the programs' contracts reach")];
 
+/// The files of specs/ that state what is proved: they say what the other definitions are, and nothing is made of them.
+const STATEMENTS: &[&str] = &["Demands", "Examples", "Face", "Paper", "Values"];
+
 /// Definitions or types: how many, and their lines.
 #[derive(Default, Clone, Copy)]
 pub struct Count {
@@ -109,7 +112,10 @@ impl List<'_> {
             writeln!(out, "| {told} | {} | {} | {} | {} |", d.number, d.lines, t.number, t.lines)?;
         }
         let [d, t] = self.totals(None);
-        writeln!(out, "| together | {} | {} | {} | {} |\n", d.number, d.lines, t.number, t.lines)
+        writeln!(out, "| together | {} | {} | {} | {} |", d.number, d.lines, t.number, t.lines)?;
+        let stated = self.project.files.iter().filter(|file| STATEMENTS.contains(&file.module.as_str()));
+        let s = self.count(stated.flat_map(|file| self.nodes(file, None)));
+        writeln!(out, "| of these, what is stated and proved: {} | {} | {} | | |\n", STATEMENTS.join(", "), s.number, s.lines)
     }
 
     fn roots(&self, out: &mut String) -> std::fmt::Result {
