@@ -11,14 +11,11 @@ use Rattle.ground.specs.Range.{within}
 use Rattle.ground.proofs.Cases.{on-test}
 use Rattle.ground.proofs.Ranges.{is-within}
 use Rattle.ground.proofs.Writing.{length-table, getD-table}
-use Rattle.line.specs.Picture.{basicLineOf}
 use Rattle.line.specs.Stream.{isLine, isActive}
-use Rattle.picture.specs.Division.{lineFrom, sampleFrom}
 use Rattle.symbol.specs.declared.disparity.Disparity.{Disparity}
 use Rattle.span.specs.declared.content.Content.{Content}
 use Rattle.span.specs.declared.format.Format.{Format}
 use Rattle.span.specs.Format.{isKnown, shapeOf, samplesIn, symbolsIn}
-use Rattle.span.specs.Image.{imageOf}
 use Rattle.span.specs.Sample.{blankWord}
 use Rattle.span.specs.Span.{spanAfter}
 use Rattle.request.specs.Send.{request, sendOf}
@@ -28,7 +25,7 @@ use Rattle.span.specs.Blanking.{blankRow}
 use Rattle.span.specs.Inside.Sample.{boundsOf}
 use Rattle.test_picture.specs.TestPicture.{codeStep, sampleBy, testSamples}
 use Rattle.test_picture.proofs.Codes.{code-low, code-high}
-use Rattle.test_picture.proofs.Images.{picture-long, sample-is}
+use Rattle.test_picture.proofs.Images.{picture-long, sample-at}
 
 module _ (f : Format) (n : ℕ) where
   -- a number that the line may carry
@@ -62,10 +59,8 @@ module _ (f : Format) (n : ℕ) where
       let j = i % 1920 in
       let place : 1920 * t + j ≡ i = omega arith in
       let few : t < 2 * shapeOf f .«stream_pairs» = omega (arith, samples-long) in
-      let u = imageOf f 1 t in
-      let is = sample-is f n active t j few (omega arith) in
-      subst (λ (k : ℕ). Inside (getD (testSamples f n) k 0)) place
-      (subst Inside (sym is) (code-inside active (lineFrom u (basicLineOf n)) (sampleFrom u j))))
+      let is = sample-at f n active t j few (omega arith) in
+      subst (λ (k : ℕ). Inside (getD (testSamples f n) k 0)) place (subst Inside (sym is) (code-inside active _ _)))
       (λ t.
       let inside : i < samplesIn (shapeOf f) = omega (arith, samples-long) in
       rw (are-blanking t, getD-table (samplesIn (shapeOf f)) (λ k. blankWord f) i 0 inside)

@@ -1,12 +1,13 @@
 // The samples of the test picture that a link carries: those of the first images.
 use crate::answer::Put;
+use line::picture::Carries;
 use line::picture::PictureLine;
 use line::stream::StreamLine;
 use span::format::Format;
 ghost use mathlib.Core.Path.{_≡_};
 ghost use mathlib.Core.Bool.{true};
 ghost use mathlib.Core.List.{_++_};
-ghost use Prim.Native.Nat.{_+_, _-_, _*_, _≤_};
+ghost use Prim.Native.Nat.{_+_, _≤_};
 ghost use lib.ListN.{length};
 ghost use lib.Seq.{sets};
 ghost use Rattle.line.specs.Stream.{isActive};
@@ -23,16 +24,6 @@ fn step_of(f: Format) -> u16
         return 4;
     }
     1
-}
-
-// The first or the second of the two picture lines that make up a line of the basic images.
-fn picture_line_of(basic: PictureLine, second: usize) -> PictureLine
-    requires { ⌜ 1 ≤ basic .0 ⌝ }
-    requires { ⌜ basic .0 ≤ 1080 ⌝ }
-    requires { ⌜ second ≤ 1 ⌝ }
-    ensures { λ r. ⌜ r .0 ≡ 2 * basic .0 - 1 + second ⌝ }
-{
-    line::picture::picture_line(2 * line::picture::number_of(basic) - 1 + second as u16)
 }
 
 // A row of the picture, divided: the row of its first image and then that of its second, from a place on.
@@ -75,11 +66,13 @@ fn put_picture(
     ensures { λ _. ⌜ now (samples .exit) ≡ testSamples f (l .0) ⌝ }
 {
     let step = step_of(f);
-    let basic = line::picture::basic_line_of(l);
     let rows = span::format::shape_of(f).stream_pairs;
     let mut i = 0;
     while i < rows {
-        let line = picture_line_of(basic, i);
+        // images 2i + 1 and 2i + 2 are those of one line; an active line carries it
+        let Carries::Line(line) = picture::place::picture_line_on(l, (2 * i + 1) as u8) else {
+            return;
+        };
         put_images(line, step, row, first, second, samples, 3840 * i);
         i += 1;
     }
