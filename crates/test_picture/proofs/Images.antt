@@ -1,9 +1,9 @@
 -- The images that streams carry of the test picture, row by row: what the loop puts for two streams at a time, and which sample stands where.
 -- Assumes nothing.
 use mathlib.Core.Path.{_≡_, refl, sym, ap, ap₂, _∙_}
-use mathlib.Core.Bool.{true}
+use mathlib.Core.Bool.{true, false}
 use mathlib.Core.List.{List, _++_, append-assoc}
-use mathlib.Core.Option.{some}
+use mathlib.Core.Option.{none, some}
 use Prim.Native.Nat.{ℕ, suc, _+_, _-_, _*_, _/_, _%_, _≤_, _<_}
 use native.Mathlib.Nat.{add-zero}
 use native.Mathlib.Omega.{arith}
@@ -22,7 +22,7 @@ use Rattle.line.specs.Picture.{basicLineOf, numberCarried}
 use Rattle.line.specs.Stream.{isActive}
 use Rattle.picture.specs.Division.{h, w, lineFrom, sampleFrom}
 use Rattle.picture.specs.Place.{pictureLineOn}
-use Rattle.picture.proofs.Places.{line-on}
+use Rattle.picture.proofs.Places.{nothing-on, line-on}
 use Rattle.dividing.specs.Row.{divided, splitFirst, splitSecond}
 use Rattle.dividing.proofs.Lengths.{splits}
 use Rattle.dividing.proofs.Rows.{length-divided, sample-divided}
@@ -107,18 +107,29 @@ line-at n active t few =
     let basic : basicLineOf n ≡ some (n - 41) = simp active in
     sym (line-on n (t + 1) (n - 41) basic (omega arith) (omega arith) (omega arith))
 
--- what the library's call answers for the images of row i
-module _ (n i : ℕ) (active : isActive n ≡ true) (few : i < 2) (r : Carries) (e : numberCarried r ≡ pictureLineOn n (2 * i + 1)) where
-  row-there : numberCarried r ≡ some (2 * (n - 41) - 1 + i)
-  row-there =
+-- what the library's call answers for the images of row i: a line on an active line, and nothing on any other
+module _ (n i : ℕ) (few : i < 2) (r : Carries) (e : numberCarried r ≡ pictureLineOn n (2 * i + 1)) where
+  row-there : isActive n ≡ true → numberCarried r ≡ some (2 * (n - 41) - 1 + i)
+  row-there active =
       let half : 2 * i / 2 ≡ i = omega arith in
       e ∙ line-at n active (2 * i) (omega arith) ∙ ap (λ (k : ℕ). some (2 * (n - 41) - 1 + k)) half
 
-  pub row-line : {line : PictureLine} → r ≡ Line line → line .0 ≡ 2 * (n - 41) - 1 + i
-  row-line is = cc (sym (ap numberCarried is) ∙ row-there)
+  none-there : isActive n ≡ false → numberCarried r ≡ none
+  none-there t = let nothing : basicLineOf n ≡ none = simp t in e ∙ nothing-on n (2 * i + 1) nothing
 
-  pub some-row : r ≡ Nothing → ⊥
-  some-row is = let z : _≡_ {A = ℕ} 0 1 = cc (sym (ap numberCarried is) ∙ row-there) in omega arith
+  pub row-active : {line : PictureLine} → r ≡ Line line → isActive n ≡ true
+  row-active is =
+      on-test (isActive n) (λ t. t)
+      (λ t. let z : _≡_ {A = ℕ} 0 1 = cc (sym (ap numberCarried is) ∙ none-there t) in absurd (omega arith))
+
+  pub row-line : {line : PictureLine} → r ≡ Line line → line .0 ≡ 2 * (n - 41) - 1 + i
+  row-line is = cc (sym (ap numberCarried is) ∙ row-there (row-active is))
+
+  pub row-blanking : r ≡ Nothing → isActive n ≡ false
+  row-blanking is =
+      on-test (isActive n)
+      (λ t. let z : _≡_ {A = ℕ} 0 1 = cc (sym (ap numberCarried is) ∙ row-there t) in absurd (omega arith))
+      (λ t. t)
 
 module _ (f : Format) (n : ℕ) (active : isActive n ≡ true) where
   module _ (t : ℕ) (few : t < streams (shapeOf f)) where

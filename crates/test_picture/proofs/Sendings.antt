@@ -1,7 +1,8 @@
 -- The samples of the test picture may be sent, on every line of a stream.
 -- Assumes nothing.
-use mathlib.Core.Path.{_≡_, refl, sym, subst}
-use mathlib.Core.Bool.{true, false}
+use mathlib.Core.Path.{_≡_, refl, sym, ap, subst, _∙_}
+use mathlib.Core.Bool.{Bool, true, false, cond}
+use mathlib.Core.List.{List}
 use Prim.Native.Nat.{ℕ, _+_, _*_, _/_, _%_, _<_}
 use native.Mathlib.Omega.{arith}
 use lib.Dec.{eqb}
@@ -12,6 +13,7 @@ use Rattle.ground.proofs.Cases.{on-test}
 use Rattle.ground.proofs.Ranges.{is-within}
 use Rattle.ground.proofs.Writing.{length-table, getD-table}
 use Rattle.line.specs.Stream.{isLine, isActive}
+use Rattle.picture.specs.Choice.{rowOn}
 use Rattle.symbol.specs.declared.disparity.Disparity.{Disparity}
 use Rattle.span.specs.declared.content.Content.{Content}
 use Rattle.span.specs.declared.format.Format.{Format}
@@ -74,3 +76,12 @@ module _ (f : Format) (n : ℕ) where
   is-sent d content known line =
       sends d f (request n content (testSamples f n)) (symbolsIn (shapeOf f)) known line samples-long refl (length (testSamples f n))
       (sym (outside-never _ _ _ each-inside)) (omega arith)
+
+-- the row that the choice gives of the picture's row, which is only there on an active line, and a blanking row
+pub is-chosen :
+    (f : Format) (n : ℕ) {R : Type 0} (now : R → List ℕ) (shown blanking : R) {row : R} (old : List ℕ)
+    → row ≡ rowOn n shown blanking → now shown ≡ rowOn n (testSamples f n) old → now blanking ≡ blankRow f → now row ≡ testSamples f n
+is-chosen f n {R} now shown blanking old e p q =
+    on-test (isActive n)
+    (λ t. ap now (e ∙ ap (λ (b : Bool). cond b shown blanking) t) ∙ p ∙ ap (λ (b : Bool). cond b (testSamples f n) old) t)
+    (λ t. ap now (e ∙ ap (λ (b : Bool). cond b shown blanking) t) ∙ q ∙ sym (are-blanking f n t))

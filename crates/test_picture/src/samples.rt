@@ -10,7 +10,7 @@ ghost use mathlib.Core.List.{_++_};
 ghost use Prim.Native.Nat.{_+_, _≤_};
 ghost use lib.ListN.{length};
 ghost use lib.Seq.{sets};
-ghost use Rattle.line.specs.Stream.{isActive};
+ghost use Rattle.picture.specs.Choice.{rowOn};
 ghost use Rattle.dividing.specs.Row.{divided};
 ghost use Rattle.span.specs.Format.{isKnown, shapeOf, samplesIn};
 ghost use Rattle.test_picture.specs.Putting.{paperPut, samplesAnswer, samplesPut};
@@ -49,7 +49,8 @@ fn put_images(
     crate::copy::copy_to(second, samples, at + 1920);
 }
 
-// The samples of an active line: the rows of the picture lines that its images have there, a row for each two streams.
+// The picture's samples on a stream line: the rows of the picture lines that it carries, a row for each two streams. A blanking line carries
+// none, and leaves the samples as they were.
 fn put_picture(
     f: Format,
     l: StreamLine,
@@ -58,18 +59,17 @@ fn put_picture(
     second: &mut [u16],
     samples: &mut [u16],
 )
-    requires { ⌜ isActive (l .0) ≡ true ⌝ }
     requires { ⌜ length (now row) ≡ 3840 ⌝ }
     requires { ⌜ length (now first) ≡ 1920 ⌝ }
     requires { ⌜ length (now second) ≡ 1920 ⌝ }
     requires { ⌜ length (now samples) ≡ samplesIn (shapeOf f) ⌝ }
-    ensures { λ _. ⌜ now (samples .exit) ≡ testSamples f (l .0) ⌝ }
+    ensures { λ _. ⌜ now (samples .exit) ≡ rowOn (l .0) (testSamples f (l .0)) (now (samples .entry)) ⌝ }
 {
     let step = step_of(f);
     let rows = span::format::shape_of(f).stream_pairs;
     let mut i = 0;
     while i < rows {
-        // images 2i + 1 and 2i + 2 are those of one line; an active line carries it
+        // images 2i + 1 and 2i + 2 are those of one line
         let Carries::Line(line) = picture::place::picture_line_on(l, (2 * i + 1) as u8) else {
             return;
         };
@@ -78,20 +78,54 @@ fn put_picture(
     }
 }
 
-// The samples of a line into a row that has room for them: the picture on active lines, blanking on all others.
+// The samples of a line, by the choice of row (01, "Sending"): the picture's or a blanking row, each made in memory lent for it.
+fn put_chosen(
+    f: Format,
+    l: StreamLine,
+    row: &mut [u16],
+    first: &mut [u16],
+    second: &mut [u16],
+    shown: &mut [u16],
+    blanking: &mut [u16],
+    samples: &mut [u16],
+)
+    requires { ⌜ isKnown f ≡ true ⌝ }
+    requires { ⌜ length (now row) ≡ 3840 ⌝ }
+    requires { ⌜ length (now first) ≡ 1920 ⌝ }
+    requires { ⌜ length (now second) ≡ 1920 ⌝ }
+    requires { ⌜ length (now shown) ≡ samplesIn (shapeOf f) ⌝ }
+    requires { ⌜ length (now blanking) ≡ samplesIn (shapeOf f) ⌝ }
+    requires { ⌜ length (now samples) ≡ samplesIn (shapeOf f) ⌝ }
+    ensures { λ _. ⌜ now (samples .exit) ≡ testSamples f (l .0) ⌝ }
+{
+    put_picture(f, l, row, first, second, shown);
+    span::blanking::fill_blanking(f, blanking);
+    let chosen = picture::choice::row_on(l, shown, blanking);
+    crate::copy::copy_to(chosen, samples, 0);
+}
+
+// The samples of a line into a row that has room for them.
 fn put_line(f: Format, l: StreamLine, samples: &mut [u16])
     requires { ⌜ isKnown f ≡ true ⌝ }
     requires { ⌜ length (now samples) ≡ samplesIn (shapeOf f) ⌝ }
     ensures { λ _. ⌜ now (samples .exit) ≡ testSamples f (l .0) ⌝ }
 {
-    if line::stream::is_active(l) {
-        let mut row = [0u16; 3840];
-        let mut first = [0u16; 1920];
-        let mut second = [0u16; 1920];
-        put_picture(f, l, &mut row, &mut first, &mut second, samples);
-        return;
-    }
-    span::blanking::fill_blanking(f, samples);
+    let mut row = [0u16; 3840];
+    let mut first = [0u16; 1920];
+    let mut second = [0u16; 1920];
+    let mut shown = [0u16; 7680];
+    let mut blanking = [0u16; 7680];
+    let n = samples.len();
+    put_chosen(
+        f,
+        l,
+        &mut row,
+        &mut first,
+        &mut second,
+        &mut shown[..n],
+        &mut blanking[..n],
+        samples,
+    );
 }
 
 // The samples of a stream line, stream by stream.

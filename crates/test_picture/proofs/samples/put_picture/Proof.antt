@@ -1,19 +1,23 @@
 -- `test_picture::samples::put_picture` meets its contract: after i iterations the images of i rows are there.
 -- Assumes nothing.
-use mathlib.Core.Path.{_≡_, refl, ap, ap₂, _∙_}
+use mathlib.Core.Path.{_≡_, refl, sym, ap, ap₂, _∙_}
+use mathlib.Core.Bool.{Bool, true, false, cond, true≢false}
 use mathlib.Core.List.{List, _++_}
-use Prim.Native.Nat.{ℕ, _+_, _*_, _-_, _≤_, _<_}
+use Prim.Native.Nat.{ℕ, zero, suc, _+_, _*_, _-_, _≤_, _<_}
 use native.Mathlib.Omega.{arith}
 use borrow.Author.Needs.{needs}
 use lib.ListN.{length}
 use lib.Seq.{sets}
 use Rattle.ground.specs.Written.{upto}
+use Rattle.ground.proofs.Cases.{on-test}
+use Rattle.line.specs.Stream.{isActive}
+use Rattle.picture.specs.Choice.{rowOn}
 use Rattle.dividing.specs.Row.{divided}
 use Rattle.span.specs.declared.format.Shape.{Shape}
 use Rattle.span.specs.Format.{shapeOf, streams}
 use Rattle.span.proofs.Formats.{small}
-use Rattle.test_picture.specs.TestPicture.{codeStep, rowInSteps}
-use Rattle.test_picture.proofs.Images.{carried, none-carried, row-carried, all-carried, some-step, row-line, some-row, are-carried}
+use Rattle.test_picture.specs.TestPicture.{codeStep, rowInSteps, testSamples}
+use Rattle.test_picture.proofs.Images.{carried, none-carried, row-carried, all-carried, some-step, row-active, row-line, row-blanking, are-carried}
 use Rattle.test_picture.proofs.samples.put_picture.Statement.{statement}
 use Rattle.test_picture.proofs.samples.put_picture.Tie as tie
 
@@ -25,9 +29,18 @@ Inv-loop l row₀ first₀ second₀ samples₀ step rows i₀ row first second 
     × (length second ≡ length second₀)
     × (length samples ≡ length samples₀)
     × (samples ≡ sets samples₀ 0 (upto (2 * i) (carried step (l .0 - 41))))
+    × (1 ≤ i → isActive (l .0) ≡ true)
 
 abbrev μ-loop : tie.MeasureT-loop
 μ-loop l row₀ first₀ second₀ samples₀ step rows i₀ row first second samples i = rows - i
+
+-- nothing was put where the line is not active
+unchanged :
+    (n i step l : ℕ) (o made : List ℕ) {now : List ℕ}
+    → isActive n ≡ false → (1 ≤ i → isActive n ≡ true) → now ≡ sets o 0 (upto (2 * i) (carried step l)) → now ≡ rowOn n made o
+unfolding upto
+unchanged n zero step l o made t some put = put ∙ ap (λ (b : Bool). cond b made o) (sym t)
+unchanged n (suc i) step l o made t some put = absurd (true≢false (sym (some (omega arith)) ∙ t))
 
 step-of-requires : tie.Need-step-of-requires Inv-loop μ-loop
 step-of-requires c κs = search needs
@@ -39,7 +52,7 @@ loop-holds : tie.Need-loop-holds Inv-loop μ-loop
 loop-holds c =
     let s = c .before in
     let a = s .before .before .before .before .before .args in
-    (omega arith, refl, refl, refl, refl, none-carried (s .step-of .result) (a .l .0 - 41) (a .samples .now))
+    (omega arith, refl, refl, refl, refl, none-carried (s .step-of .result) (a .l .0 - 41) (a .samples .now), λ h. absurd (omega arith))
 
 mul-picture-line-on : tie.Need-mul-picture-line-on Inv-loop μ-loop
 mul-picture-line-on c =
@@ -82,9 +95,12 @@ returns c =
     let call = c .before .before in
     let at = call .before .before in
     let k = at .before in
+    let v = at .loop in
     let start = k .before .before .before .before .before .before in
-    let few : at .loop .i < 2 = omega (arith, small (start .args .f) (k .shape-of .ensures) .half) in
-    absurd (some-row (start .args .l .0) (at .loop .i) (start .pre .0) few (call .picture-line-on .result) (call .picture-line-on .ensures) (c .enum-told .given .1))
+    let n = start .args .l .0 in
+    let few : v .i < 2 = omega (arith, small (start .args .f) (k .shape-of .ensures) .half) in
+    let blank = row-blanking n (v .i) few (call .picture-line-on .result) (call .picture-line-on .ensures) (c .enum-told .given .1) in
+    unchanged n (v .i) (k .before .step-of .result) (n - 41) (start .args .samples .now) (testSamples (start .args .f) n) blank (v .inv .6) (v .inv .5)
 
 mul-put-images : tie.Need-mul-put-images Inv-loop μ-loop
 mul-put-images c =
@@ -103,10 +119,10 @@ put-images-requires c κs =
     let f = start .args .f in
     let rows : k .shape-of .result .«stream_pairs» ≡ shapeOf f .«stream_pairs» = ap (λ (p : Shape). p .«stream_pairs») (k .shape-of .ensures) in
     let less : v .i < k .shape-of .result .«stream_pairs» = told .before .before .before .before .loop-test .taken in
-    let long : length (v .samples) ≡ 1920 * streams (shapeOf f) = v .inv .4 ∙ pre .1 .1 .1 .1 in
+    let long : length (v .samples) ≡ 1920 * streams (shapeOf f) = v .inv .4 ∙ pre .1 .1 .1 in
     let room : 3840 * v .i + 3840 ≤ length (v .samples) = omega (arith, rows, less, long) in (
       omega (arith, some-step f, k .before .step-of .ensures),
-      (v .inv .1 ∙ pre .1 .0, (v .inv .2 ∙ pre .1 .1 .0, (v .inv .3 ∙ pre .1 .1 .1 .0, room))),
+      (v .inv .1 ∙ pre .0, (v .inv .2 ∙ pre .1 .0, (v .inv .3 ∙ pre .1 .1 .0, room))),
     )
 
 add-i : tie.Need-add-i Inv-loop μ-loop
@@ -129,7 +145,8 @@ loop-again c =
     let step = k .before .step-of .result in
     let o = start .args .samples .now in
     let few : v .i < 2 = omega (arith, small (start .args .f) (k .shape-of .ensures) .half) in
-    let is = row-line n (v .i) (start .pre .0) few (call .picture-line-on .result) (call .picture-line-on .ensures) (line .line .given .1) in
+    let r = call .picture-line-on .result in
+    let is = row-line n (v .i) few r (call .picture-line-on .ensures) (line .line .given .1) in
     let put : List ℕ → ℕ → List ℕ = λ s m. sets s (3840 * v .i) (divided 0 1920 (rowInSteps step m) ++ divided 1 1920 (rowInSteps step m)) in (
       omega arith,
       c .before .before .before .before .before .before .before .row .given ∙ v .inv .1,
@@ -137,6 +154,7 @@ loop-again c =
       c .before .before .before .second .given ∙ v .inv .3,
       c .before .samples .given ∙ v .inv .4,
       p .put-images .ensures ∙ ap₂ put (v .inv .5) is ∙ row-carried step (n - 41) o (v .i),
+      λ h. row-active n (v .i) few r (call .picture-line-on .ensures) (line .line .given .1),
     )
 
 same-length-5 : tie.Need-same-length-5 Inv-loop μ-loop
@@ -160,12 +178,17 @@ returns-2 c =
     let n = start .args .l .0 in
     let o = start .args .samples .now in
     let s = streams (shapeOf f) in
+    let step = k .before .step-of .result in
     let end : 2 * v .i ≡ s = omega (arith, ap (λ (p : Shape). p .«stream_pairs») (k .shape-of .ensures)) in
+    on-test (isActive n)
+    (λ active.
     v .inv .5
-    ∙ ap (λ (m : ℕ). sets o 0 (upto m (carried (k .before .step-of .result) (n - 41)))) end
-    ∙ ap (λ (step : ℕ). sets o 0 (upto s (carried step (n - 41)))) (k .before .step-of .ensures)
-    ∙ all-carried (codeStep f) (n - 41) o s (omega (arith, start .pre .1 .1 .1 .1))
-    ∙ are-carried f n (start .pre .0)
+    ∙ ap (λ (m : ℕ). sets o 0 (upto m (carried step (n - 41)))) end
+    ∙ ap (λ (t : ℕ). sets o 0 (upto s (carried t (n - 41)))) (k .before .step-of .ensures)
+    ∙ all-carried (codeStep f) (n - 41) o s (omega (arith, start .pre .1 .1 .1))
+    ∙ are-carried f n active
+    ∙ ap (λ (b : Bool). cond b (testSamples f n) o) (sym active))
+    (λ t. unchanged n (v .i) step (n - 41) o (testSamples f n) t (v .inv .6) (v .inv .5))
 
 pub put-picture-spec : {M : Type 1} → statement M
 put-picture-spec =
