@@ -3,7 +3,7 @@ use libc::STDOUT_FILENO;
 use symbol::disparity::Disparity;
 use symbol::special::Special;
 
-pub struct Line {
+pub(crate) struct Line {
     bytes: [u8; 32],
     len: usize,
 }
@@ -26,7 +26,7 @@ fn write_first(bytes: &[u8], n: usize) {
 }
 
 impl Line {
-    pub fn new() -> Self {
+    pub(crate) fn new() -> Self {
         Line {
             bytes: [0; 32],
             len: 0,
@@ -34,7 +34,7 @@ impl Line {
     }
 
     // Adds a byte; nothing is added to a full line.
-    pub fn push(self, b: u8) -> Self {
+    pub(crate) fn push(self, b: u8) -> Self {
         let at = self.len;
         if 32 <= at {
             return self;
@@ -45,12 +45,12 @@ impl Line {
         next
     }
 
-    pub fn space(self) -> Self {
+    pub(crate) fn space(self) -> Self {
         self.push(b' ')
     }
 
     // At least `digits` hexadecimal digits, two or three; four if the number has them.
-    pub fn hex(self, n: u16, digits: u8) -> Self {
+    pub(crate) fn hex(self, n: u16, digits: u8) -> Self {
         let mut l = self;
         if 4095 < n {
             l = l.push(digit(n / 4096));
@@ -61,7 +61,7 @@ impl Line {
         l.push(digit(n / 16)).push(digit(n))
     }
 
-    pub fn sign(self, d: Disparity) -> Self {
+    pub(crate) fn sign(self, d: Disparity) -> Self {
         match d {
             Disparity::Negative => self.push(b'-'),
             Disparity::Positive => self.push(b'+'),
@@ -73,7 +73,7 @@ impl Line {
         self.push(b'K').push(tens).push(units).push(b'.').push(y)
     }
 
-    pub fn name(self, k: Special) -> Self {
+    pub(crate) fn name(self, k: Special) -> Self {
         match k {
             Special::K28_0 => self.k(b'2', b'8', b'0'),
             Special::K28_1 => self.k(b'2', b'8', b'1'),
@@ -91,7 +91,7 @@ impl Line {
     }
 
     // Writes the line with its newline to standard output.
-    pub fn write(self) {
+    pub(crate) fn write(self) {
         let whole = self.push(b'\n');
         let n = whole.len;
         let bytes = whole.bytes;

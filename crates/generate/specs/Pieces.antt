@@ -1,17 +1,22 @@
 -- What is written, piece by piece: the start, and then what is left, span by span. That the pieces make up the whole is the law `pieces`.
 -- Assumes nothing.
-use Prim.Native.Nat.{ℕ, _<_}
+use Prim.Native.Nat.{ℕ, zero, suc, _<_}
 use mathlib.Core.Path.{_≡_}
 use mathlib.Core.Bool.{true}
 use mathlib.Core.List.{List}
 use lib.ListN.{take}
 use Rattle.ground.specs.Answer.{Answer, refused, given}
-use Rattle.line.specs.Stream.{isLine}
+use Rattle.line.specs.Stream.{isLine, lineAfter}
+use Rattle.symbol.specs.declared.disparity.Disparity.{Disparity}
 use Rattle.symbol.specs.Disparity.{fresh}
+use Rattle.span.specs.declared.format.Format.{Format}
 use Rattle.span.specs.Format.{formatFrom, isKnown}
+use Rattle.span.specs.Span.{spanAfter}
 use Rattle.generate.specs.declared.left.Left.{Left}
 use Rattle.generate.specs.declared.parameters.Parameters.{Parameters}
-use Rattle.generate.specs.Generated.{refusedWith}
+use Rattle.generate.specs.declared.write.Written.{Written}
+use Rattle.generate.specs.declared.write.Written.the-variants.{All, Stopped}
+use Rattle.generate.specs.Generated.{refusedWith, spanOn}
 use Rattle.generate.specs.Parameters.{wantedOf}
 
 -- the start: the format and depth bytes, or the refusal
@@ -40,3 +45,16 @@ leftOf input = leftBy (wantedOf input)
 pub record Ready (s : Left) : Type 0 where
   pub known : 0 < s .count → isKnown (s .format) ≡ true
   pub line : 0 < s .count → isLine (s .line .0) ≡ true
+
+-- the disparity after all that is left
+unfoldable pub afterSpans : Disparity → Format → ℕ → ℕ → Disparity
+afterSpans d f n zero = d
+afterSpans d f n (suc count) = afterSpans (spanAfter d f (spanOn f n)) f (lineAfter n) count
+
+abbrev pub afterLeft : Left → Disparity
+afterLeft s = afterSpans (s .disparity) (s .format) (s .line .0) (s .count)
+
+-- what the answer says if all of it was written
+abbrev pub WrittenTold : Left → Written → Type 0
+WrittenTold s (All after) = after ≡ afterLeft s
+WrittenTold s Stopped = Unit

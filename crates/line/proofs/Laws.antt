@@ -1,9 +1,8 @@
 -- What holds of lines, proved: each field cites the law that says it.
 -- Assumes nothing.
-use Rattle.ground.proofs.Ranges.{is-within}
 use Rattle.line.specs.Laws.{LineLaws}
 use Rattle.line.proofs.Lines.{active, blanking-before, blanking-behind, after-last, before-first, after-is-line, before-is-line, before-after, after-before, line-one-to-one}
-use Rattle.line.proofs.Travel.{travels, there-and-back, back-and-there, picture-one-to-one}
+use Rattle.line.proofs.Travel.{travels, travels-nowhere, carries, carries-nothing, there-and-back, back-and-there, picture-one-to-one, travels-one-to-one, carries-one-to-one}
 
 pub line-laws : LineLaws
 line-laws = record {
@@ -17,8 +16,13 @@ line-laws = record {
   beforeAfter = before-after;
   afterBefore = after-before;
   travels = travels;
+  travelsNowhere = travels-nowhere;
+  carries = carries;
+  carriesNothing = carries-nothing;
   thereAndBack = there-and-back;
-  backAndThere = λ n p q. back-and-there n (is-within 42 1121 n p q);
+  backAndThere = back-and-there;
   streamLineTold = line-one-to-one;
   pictureLineTold = picture-one-to-one;
+  travelsTold = travels-one-to-one;
+  carriesTold = carries-one-to-one;
 }

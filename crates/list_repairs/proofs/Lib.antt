@@ -1,2 +1,5 @@
+pub mod Example
+pub mod Laws
+pub mod Limits
 pub mod Lines
 pub mod Pieces

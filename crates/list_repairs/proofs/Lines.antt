@@ -21,7 +21,7 @@ use Rattle.text.proofs.Numbers.{length-digits, places-below, places-most-16}
 use Rattle.word.specs.declared.repair.Repaired.{Repaired}
 use Rattle.word.specs.Repair.{distance, legalWord, near, nearest, repairOf}
 use Rattle.word.specs.Word.{isWord}
-use Rattle.list_repairs.specs.Text.{outcome, repairLine, lineCount, repairLines}
+use Rattle.list_repairs.specs.Text.{outcome, repairLine, repairLines}
 
 -- how far a word was from the one it is repaired to
 abbrev pub distanceIn : Answer Repaired → ℕ
@@ -65,22 +65,21 @@ line-most index w h =
 
 -- ---- one line after the other
 
-module _ (input : List ℕ) (from : ℕ) where
-  pub none-listed : (out : List ℕ) → Put out out 0 0 (repairLines input from 0)
+module _ (input : List ℕ) where
+  pub none-listed : (out : List ℕ) → Put out out 0 0 (repairLines input 0)
   unfolding upto
   none-listed out = record { written = refl; ends = refl }
 
   -- a line more, of the word that comes next
-  pub one-more : {out₀ out out₁ : List ℕ} {at end index w : ℕ} (i : ℕ) → Put out₀ out 0 at (repairLines input from i)
-      → end ≡ at + length (repairLine index w) → out₁ ≡ sets out at (repairLine index w) → index ≡ from + i → w ≡ wordInBytes input (from + i)
-      → Put out₀ out₁ 0 end (repairLines input from (i + 1))
+  pub one-more : {out₀ out out₁ : List ℕ} {at end index w : ℕ} (i : ℕ) → Put out₀ out 0 at (repairLines input i)
+      → end ≡ at + length (repairLine index w) → out₁ ≡ sets out at (repairLine index w) → index ≡ i → w ≡ wordInBytes input i
+      → Put out₀ out₁ 0 end (repairLines input (i + 1))
   one-more {out₀} {out} {out₁} {at} {end} {index} {w} i f ends written p q =
       let g : Put out out₁ at end (repairLine index w) = record { written = written; ends = ends } in
-      put-as (sym (upto-more i (λ k. repairLine (from + k) (wordInBytes input (from + k))))) (then f (put-as (ap₂ repairLine p q) g))
+      put-as (sym (upto-more i (λ k. repairLine k (wordInBytes input k)))) (then f (put-as (ap₂ repairLine p q) g))
 
-  pub listed-most : (i : ℕ) → i ≤ lineCount (length input) from → length (repairLines input from i) ≤ 19 * i
+  pub listed-most : (i : ℕ) → i ≤ 32768 → length (repairLines input i) ≤ 19 * i
   unfolding upto
   listed-most zero h = omega arith
   listed-most (suc i) h =
-      rw (length-append (repairLines input from i))
-      (omega (arith, listed-most i (omega arith), line-most (from + i) (wordInBytes input (from + i)) (omega arith)))
+      rw (length-append (repairLines input i)) (omega (arith, listed-most i (omega arith), line-most i (wordInBytes input i) (omega arith)))

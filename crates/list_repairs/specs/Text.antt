@@ -1,6 +1,6 @@
 -- What the program that lists repairs prints (document 01, "Values to hold against it"), as ASCII codes.
 -- Assumes nothing.
-use Prim.Native.Nat.{ℕ, _+_, _-_, min}
+use Prim.Native.Nat.{ℕ}
 use mathlib.Core.List.{List, [], _∷_, _++_}
 use lib.ListN.{length}
 use Rattle.ground.specs.Answer.{Answer, refused, given}
@@ -24,17 +24,14 @@ outcome (refused number place) = refusedLine
 abbrev pub repairLine : ℕ → ℕ → List ℕ
 repairLine index w = decimal index ++ (space ∷ []) ++ hexadecimal w ++ (space ∷ []) ++ outcome (repairOf w)
 
--- how many words there are: an odd last byte and everything past 64 KiB are ignored
+-- how many words there are: an odd last byte and everything past 64 KiB, which are 32,768 words, are ignored
 abbrev pub wordCount : ℕ → ℕ
 wordCount len = countOf 32768 len
 
--- how many of them are listed at once, from a given one on
-abbrev pub lineCount : ℕ → ℕ → ℕ
-lineCount len from = min 2048 (wordCount len - from)
+-- the lines of the first n words
+abbrev pub repairLines : List ℕ → ℕ → List ℕ
+repairLines input n = upto n (λ k. repairLine k (wordInBytes input k))
 
--- the lines of the first n of those
-abbrev pub repairLines : List ℕ → ℕ → ℕ → List ℕ
-repairLines input from n = upto n (λ k. repairLine (from + k) (wordInBytes input (from + k)))
-
-abbrev pub repairListing : List ℕ → ℕ → List ℕ
-repairListing input from = repairLines input from (lineCount (length input) from)
+-- all that is printed
+abbrev pub repairListing : List ℕ → List ℕ
+repairListing input = repairLines input (wordCount (length input))

@@ -6,7 +6,7 @@ ghost use lib.ListN.{length};
 ghost use lib.Seq.{sets};
 ghost use Rattle.io.specs.Counts.{Counts};
 ghost use Rattle.word.specs.Repair.{repairOf};
-ghost use Rattle.list_repairs.specs.Text.{outcome, repairLine, lineCount, repairListing};
+ghost use Rattle.list_repairs.specs.Text.{outcome, repairLine, repairListing};
 
 // The outcome of a word, with the end of the line.
 fn put_outcome(w: u16, out: &mut [u8], at: usize) -> usize
@@ -39,31 +39,26 @@ fn put_line(index: u16, w: u16, out: &mut [u8], at: usize) -> usize
     put_outcome(w, out, d)
 }
 
-// How many words there are from a given one on, up to 2,048.
-fn line_count(len: usize, from: usize) -> usize
-    ensures { λ r. ⌜ r ≡ lineCount len from ⌝ }
+// Room for the lines of 32,768 words, of at most 19 bytes each.
+pub(crate) fn room() -> [u8; 622592]
+    ensures { λ r. ⌜ 622592 ≡ length r ⌝ }
 {
-    let words = ground::least::least(32768, len / 2);
-    if words < from {
-        return 0;
-    }
-    ground::least::least(2048, words - from)
+    [0; 622592]
 }
 
-// The lines of up to 2,048 words from a given one on, at the start of the buffer. Answers where they end.
-pub(crate) fn put_lines(input: &[u8], from: usize, out: &mut [u8]) -> usize
-    requires { ⌜ 38912 ≤ length (now out) ⌝ }
+// All that is printed, at the start of the buffer. Answers where it ends.
+pub(crate) fn put_listing(input: &[u8], out: &mut [u8]) -> usize
+    requires { ⌜ 622592 ≤ length (now out) ⌝ }
     ensures counts { λ r. ⌜ Counts r (now (out .exit)) ⌝ }
-    ensures end { λ r. ⌜ r ≡ length (repairListing (now (input .entry)) from) ⌝ }
-    ensures written { λ _. ⌜ now (out .exit) ≡ sets (now (out .entry)) 0 (repairListing (now (input .entry)) from) ⌝ }
+    ensures end { λ r. ⌜ r ≡ length (repairListing (now (input .entry))) ⌝ }
+    ensures written { λ _. ⌜ now (out .exit) ≡ sets (now (out .entry)) 0 (repairListing (now (input .entry))) ⌝ }
 {
-    let count = line_count(input.len(), from);
+    let count = ground::least::least(32768, input.len() / 2);
     let mut at = 0;
     let mut i = 0;
     while i < count {
-        let j = 2 * (from + i);
-        let w = text::words::word_of(input[j], input[j + 1]);
-        at = put_line((from + i) as u16, w, out, at);
+        let w = text::words::word_of(input[2 * i], input[2 * i + 1]);
+        at = put_line(i as u16, w, out, at);
         i += 1;
     }
     at

@@ -1,6 +1,6 @@
 -- Which case of the listing an input is, and that it is what was put.
 -- Assumes nothing.
-use mathlib.Core.Path.{_≡_, refl, sym, ap, ap₂, _∙_}
+use mathlib.Core.Path.{_≡_, refl, sym, ap, _∙_}
 use mathlib.Core.Bool.{true, false}
 use mathlib.Core.List.{List}
 use Prim.Native.Nat.{ℕ, _-_, _≤_, _<_}
@@ -19,7 +19,7 @@ use Rattle.text.specs.Put.{endOf, putOf}
 use Rattle.text.specs.Words.{countOf, wordsInBytes}
 use Rattle.text.proofs.Putting.{put-told}
 use Rattle.text.proofs.WordsRead.{words-read}
-use Rattle.list_spans.specs.Listing.{linesOf, refusedFormat, formatIn, recordedIn, spanListing}
+use Rattle.list_spans.specs.Listing.{linesOf, refusedFormat, formatIn, mostSymbols, recordedIn, spanListing}
 
 -- ---- which case it is
 
@@ -48,12 +48,12 @@ module _ (bytes row : List ℕ) {words : List ℕ} (n : ℕ) where
   pub enough-read : n ≡ countOf (length row) (length bytes) → words ≡ sets row 0 (wordsInBytes n bytes) → n ≤ length words
   enough-read count read = omega (arith, read-length read)
 
--- the symbols, read into a row of 32,767 words
-pub symbols-are : (bytes row : List ℕ) {words : List ℕ} (n : ℕ) → length row ≡ 32767 → n ≡ countOf (length row) (length bytes)
+-- the symbols, read into a row that has room for the most
+pub symbols-are : (bytes row : List ℕ) {words : List ℕ} (n : ℕ) → length row ≡ mostSymbols → n ≡ countOf (length row) (length bytes)
     → words ≡ sets row 0 (wordsInBytes n bytes)
     → take n words ≡ recordedIn bytes
 symbols-are bytes row {words} n room count read =
-    let many : n ≡ countOf 32767 (length bytes) = omega arith in
+    let many : n ≡ countOf mostSymbols (length bytes) = omega arith in
     ap (take n) read ∙ words-read n row bytes (omega arith) ∙ ap (λ (k : ℕ). wordsInBytes k bytes) many
 
 -- a span has no more samples, whatever its format

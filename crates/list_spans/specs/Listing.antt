@@ -36,8 +36,11 @@ abbrev pub formatIn : List ℕ → Format
 formatIn input = formatFrom (getD input 0 0) (getD input 1 0)
 
 -- and then symbols, low byte first, at most 32,767 of them; an odd last byte and what follows that many are ignored
+abbrev pub mostSymbols : ℕ
+mostSymbols = 32767
+
 abbrev pub recordedIn : List ℕ → List ℕ
-recordedIn bytes = wordsInBytes (countOf 32767 (length bytes)) bytes
+recordedIn bytes = wordsInBytes (countOf mostSymbols (length bytes)) bytes
 
 -- what is printed: a line for each span delivered; the refusal if the input is shorter than two bytes, or the format or depth unknown
 abbrev pub spanListing : List ℕ → List ℕ

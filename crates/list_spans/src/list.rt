@@ -9,7 +9,7 @@ ghost use lib.Seq.{sets};
 ghost use Rattle.io.specs.Counts.{Counts};
 ghost use Rattle.span.specs.Format.{isKnown, shapeOf, samplesIn};
 ghost use Rattle.recording.specs.Recording.{deliveryFrom};
-ghost use Rattle.list_spans.specs.Listing.{spanLine, linesOf, recordedIn, spanListing};
+ghost use Rattle.list_spans.specs.Listing.{spanLine, linesOf, mostSymbols, recordedIn, spanListing};
 
 // The line of one span: its place and its line number, of at most 20 digits and 5.
 fn put_line(place: usize, number: u16, out: &mut [u8], at: usize) -> usize
@@ -62,7 +62,7 @@ fn put_recording(
     out: &mut [u8],
 ) -> usize
     requires { ⌜ isKnown f ≡ true ⌝ }
-    requires { ⌜ length (now symbols) ≡ 32767 ⌝ }
+    requires { ⌜ length (now symbols) ≡ mostSymbols ⌝ }
     requires { ⌜ length (now rows) ≡ 7680 ⌝ }
     requires { ⌜ 65536 ≤ length (now out) ⌝ }
     ensures end { λ r. ⌜ r ≡ length (linesOf (deliveryFrom f (recordedIn (now (bytes .entry))) 0)) ⌝ }
@@ -81,7 +81,7 @@ pub(crate) fn put_listing(
     rows: &mut [u16],
     out: &mut [u8],
 ) -> usize
-    requires { ⌜ length (now symbols) ≡ 32767 ⌝ }
+    requires { ⌜ length (now symbols) ≡ mostSymbols ⌝ }
     requires { ⌜ length (now rows) ≡ 7680 ⌝ }
     requires { ⌜ 65536 ≤ length (now out) ⌝ }
     ensures counts { λ r. ⌜ Counts r (now (out .exit)) ⌝ }

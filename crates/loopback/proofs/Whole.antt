@@ -11,14 +11,13 @@ use lib.Seq.{length-take-le, getD-take, getD-drop, ext-getD}
 use Rattle.ground.specs.Written.{upto, table}
 use Rattle.ground.proofs.Ranges.{is-within, not-within}
 use Rattle.ground.proofs.Writing.{upto-split, upto-same, length-upto, getD-upto}
-use Rattle.line.specs.Picture.{basicLineOf}
 use Rattle.line.specs.Stream.{isActive}
 use Rattle.test_picture.specs.TestPicture.{testRow}
 use Rattle.rig.specs.declared.knock.Knock.{Knock}
 use Rattle.rig.specs.Frame.{lineOfPiece}
 use Rattle.rig.specs.Knock.{lost}
 use Rattle.rig.specs.Piece.{black, rowsAt, pictureIn, heardIn}
-use Rattle.rig.proofs.Outcomes.{length-rows}
+use Rattle.rig.proofs.Outcomes.{sent-on-active, length-rows}
 use Rattle.loopback.specs.File.{highFirst, header, rowsOfLine, pieceBytes, fileOf, rowShown}
 use Rattle.loopback.specs.Frame.{heardOf}
 
@@ -96,13 +95,13 @@ module _ (k : Knock) where
   of-active l h =
       let n = 41 + l + 1 in
       let t : isActive n ≡ true = is-within 42 1121 n (omega arith) (omega arith) in
-      let odd : 2 * basicLineOf n - 1 ≡ 2 * l + 0 + 1 = simp t (omega arith) in
-      let even : 2 * basicLineOf n ≡ 2 * l + 1 + 1 = simp t (omega arith) in
+      let odd : 2 * (l + 1) - 1 ≡ 2 * l + 0 + 1 = omega arith in
+      let even : 2 * (l + 1) ≡ 2 * l + 1 + 1 = omega arith in
       let first : n ≡ 41 + (2 * l + 0 + 1 + 1) / 2 = omega arith in
       let second : n ≡ 41 + (2 * l + 1 + 1 + 1) / 2 = omega arith in
       ap (λ (b : Bool). cond b (highFirst (rowsAt k n)) []) t
-      ∙ ap (λ (b : Bool). highFirst (cond (lost k n) black (cond b (testRow (2 * basicLineOf n - 1) ++ testRow (2 * basicLineOf n)) black))) t
-      ∙ two-rows (lost k n) (testRow (2 * basicLineOf n - 1)) (testRow (2 * basicLineOf n))
+      ∙ ap (λ (rows : List ℕ). highFirst (cond (lost k n) black rows)) (sent-on-active (l + 1) n (omega arith) (omega arith) (omega arith))
+      ∙ two-rows (lost k n) (testRow (2 * (l + 1) - 1)) (testRow (2 * (l + 1)))
       ∙ ap₂ (λ (x y : List ℕ). x ++ y)
       (ap₂ (λ (m y : ℕ). highFirst (cond (lost k m) (replicate 3840 0) (testRow y))) first odd)
       (ap₂ (λ (m y : ℕ). highFirst (cond (lost k m) (replicate 3840 0) (testRow y))) second even)

@@ -7,6 +7,7 @@ mod input;
 use frame::Written;
 use libc::STDIN_FILENO;
 use libc::STDOUT_FILENO;
+use reception::summary::Summed;
 use rig::knock::Knock;
 
 // Opens the file that the first argument names, or loopback.pgm, anew; below 0 if it cannot be opened, which is reported.
@@ -34,8 +35,9 @@ fn open_picture() -> i32 {
 // What was lost, as text.
 fn print_summary(heard: &[u16]) {
     let mut text = [0u8; 128];
-    let end = reception::summary::put_summary(heard, &mut text);
-    io::write_all(STDOUT_FILENO, &text[..end]);
+    if let Summed::Bytes(end) = reception::summary::put_summary(heard, &mut text) {
+        io::write_all(STDOUT_FILENO, &text[..end]);
+    }
 }
 
 fn write_header(fd: i32) {

@@ -3,7 +3,7 @@
 use Rattle.picture.specs.Laws.{PictureLaws}
 use Rattle.picture.proofs.Choices.{picture-on, blanking-on}
 use Rattle.picture.proofs.OneToOne.{placed-one-to-one}
-use Rattle.picture.proofs.Places.{place-of-1-1, place-of-2160-3839, placed, meets-2, basic-line, basic-sample}
+use Rattle.picture.proofs.Places.{place-of-1-1, place-of-2160-3839, placed, meets-2, basic-line, basic-sample, place-travels, no-line-on, line-on-active, line-of-place}
 use Rattle.picture.proofs.Steps.{odd-line-even-sample, odd-line-odd-sample, even-line-even-sample, even-line-odd-sample, h-listed, w-listed, one-of-four, line-back, sample-back, step-again}
 
 pub picture-laws : PictureLaws
@@ -24,6 +24,10 @@ picture-laws = record {
   placeOfLast = place-of-2160-3839;
   placed = placed;
   placeMeets2 = meets-2;
+  placeTravels = place-travels;
+  lineOn = line-on-active;
+  noLineOn = no-line-on;
+  lineOfPlace = line-of-place;
   pictureOn = picture-on;
   blankingOn = blanking-on;
   placedTold = placed-one-to-one;

@@ -1,12 +1,15 @@
 -- Laws of dividing a picture into places, for a reader of the papers; `proofs/Laws` proves each.
 -- Assumes nothing.
-use Prim.Native.Nat.{ℕ, _+_, _*_, _≤_}
+use Prim.Native.Nat.{ℕ, _+_, _-_, _*_, _≤_}
+use mathlib.Core.Option.{none, some}
 use mathlib.Core.Path.{_≡_}
 use Rattle.ground.specs.Answer.{refused, given}
 use Rattle.ground.specs.Inside.Answer.{Injective}
+use Rattle.line.specs.Picture.{streamLineOf}
+use Rattle.picture.specs.declared.place.Place.{Place}
 use Rattle.picture.specs.Choice.{rowOn}
 use Rattle.picture.specs.Division.{imageAt, imageLine, imageSample, halved, h, w, lineFrom, sampleFrom}
-use Rattle.picture.specs.Place.{placeOf, paperPlaced, placedOf}
+use Rattle.picture.specs.Place.{placeOf, paperPlaced, placedOf, pictureLineOn}
 
 pub record PictureLaws : Type 1 where
   -- the rule of 004, 5.3, on lines 2a + 1 and 2a + 2 and samples 2b and 2b + 1
@@ -40,6 +43,13 @@ pub record PictureLaws : Type 1 where
   pub placed : (line sample : ℕ) → 1 ≤ line → line ≤ 2160 → sample ≤ 3839 → placedOf line sample ≡ given (placeOf line sample)
   pub placeMeets2 :
       (line sample : ℕ) → (1 ≤ line → line ≤ 2160 → sample ≤ 3839 → ⊥) → placedOf line sample ≡ refused 2 0
+  -- a place's stream line is the one on which its line travels
+  pub placeTravels : (line sample : ℕ) (p : Place) → placedOf line sample ≡ given p → streamLineOf (p .line .0) ≡ some (p .stream .0)
+  -- the way back: stream line l + 41 carries picture line 2l - 1 + h of image u, and any other number nothing; it undoes the place
+  pub lineOn : (l u : ℕ) → 1 ≤ l → l ≤ 1080 → 1 ≤ u → u ≤ 4 → pictureLineOn (l + 41) u ≡ some (2 * l - 1 + h u)
+  pub noLineOn : (n u : ℕ) → (42 ≤ n → n ≤ 1121 → 1 ≤ u → u ≤ 4 → ⊥) → pictureLineOn n u ≡ none
+  pub lineOfPlace :
+      (line sample : ℕ) (p : Place) → placedOf line sample ≡ given p → pictureLineOn (p .stream .0) (p .image) ≡ some line
   -- stream lines 42 to 1121 carry the picture, and every other number the blanking (document 01, "Sending")
   pub pictureOn : {A : Type 0} (n : ℕ) (picture blanking : A) → 42 ≤ n → n ≤ 1121 → rowOn n picture blanking ≡ picture
   pub blankingOn : {A : Type 0} (n : ℕ) (picture blanking : A) → (42 ≤ n → n ≤ 1121 → ⊥) → rowOn n picture blanking ≡ blanking

@@ -1,6 +1,7 @@
 pub mod Bringing
 pub mod Counting
 pub mod Items
+pub mod Laws
 pub mod Links
 pub mod Parts
 pub mod Putting

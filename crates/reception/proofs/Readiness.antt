@@ -1,12 +1,13 @@
 -- What a call has to give, and what it makes of it.
 -- Assumes nothing.
-use mathlib.Core.Path.{_≡_, ap, _∙_}
+use mathlib.Core.Path.{_≡_, sym, ap, _∙_}
 use mathlib.Core.Bool.{Bool, true, false, cond, _&&_}
 use mathlib.Core.List.{List}
 use Prim.Native.Nat.{ℕ, _≤_, _<_}
 use lib.Dec.{eqb, leb}
 use lib.ListN.{length, replicate}
 use borrow.Author.Tests.{le-leb, lt-leb, eq-eqb, ne-eqb, leb-true, eqb-true}
+use Rattle.ground.proofs.Cases.{on-test}
 use Rattle.ground.proofs.Tests.{both-left, both-right}
 use Rattle.recording.specs.Recording.{deliveryFrom}
 use Rattle.reception.specs.Link.{link}
@@ -48,27 +49,36 @@ module _ (first symbols heard picture : ℕ) where
   pub is-ready : Ready → receivable first symbols heard picture ≡ true
   is-ready r = by-rows (r .line) (r .short) (r .flags) ∙ eq-eqb picture 38400 (r .rows)
 
+  pub not-ready : (first ≤ 1121 → symbols ≤ 95040 → heard ≡ 5 → picture ≡ 38400 → ⊥) → receivable first symbols heard picture ≡ false
+  not-ready x =
+      on-test (receivable first symbols heard picture)
+      (λ t. let r = ready-told t in absurd (x (r .line) (r .short) (r .flags) (r .rows)))
+      (λ t. t)
+
 -- the call, where it was ready and where it was not
 module _ (first : ℕ) (symbols heard picture : List ℕ) where
   abbrev wasReady : Bool
   wasReady = receivable first (length symbols) (length heard) (length picture)
 
-  abbrev Made : List ℕ → List ℕ → Type 0
-  Made heardExit pictureExit =
-      (heardExit ≡ cond wasReady (heardBy first symbols) heard) × (pictureExit ≡ cond wasReady (shownBy first symbols) picture)
+  abbrev Made : Bool → List ℕ → List ℕ → Type 0
+  Made r heardExit pictureExit =
+      (r ≡ wasReady) × ((heardExit ≡ cond wasReady (heardBy first symbols) heard) × (pictureExit ≡ cond wasReady (shownBy first symbols) picture))
 
-  pub nothing-made : wasReady ≡ false → Made heard picture
-  nothing-made t = (simp t, simp t)
+  pub nothing-made : wasReady ≡ false → Made false heard picture
+  nothing-made t = (sym t, (simp t, simp t))
 
   pub made : {noFlags black heardExit pictureExit : List ℕ} → wasReady ≡ true
       → noFlags ≡ replicate (length heard) 0 → black ≡ replicate (length picture) 0
       → heardExit ≡ heardFrom first noFlags (deliveryFrom link symbols 0)
       → pictureExit ≡ shownFrom first black (deliveryFrom link symbols 0)
-      → Made heardExit pictureExit
+      → Made true heardExit pictureExit
   made t clear dark h p =
       let r = ready-told first (length symbols) (length heard) (length picture) t in
       let flags = clear ∙ ap (λ (n : ℕ). replicate n 0) (r .flags) in
       let rows = dark ∙ ap (λ (n : ℕ). replicate n 0) (r .rows) in (
-        h ∙ ap (λ (l : List ℕ). heardFrom first l (deliveryFrom link symbols 0)) flags ∙ simp t,
-        p ∙ ap (λ (l : List ℕ). shownFrom first l (deliveryFrom link symbols 0)) rows ∙ simp t,
+        sym t,
+        (
+          h ∙ ap (λ (l : List ℕ). heardFrom first l (deliveryFrom link symbols 0)) flags ∙ simp t,
+          p ∙ ap (λ (l : List ℕ). shownFrom first l (deliveryFrom link symbols 0)) rows ∙ simp t,
+        ),
       )

@@ -1,33 +1,59 @@
 -- Where there is room for the summary, and where nothing is put.
 -- Assumes nothing.
-use mathlib.Core.Path.{_≡_, refl, _∙_}
-use mathlib.Core.Bool.{true, false}
+use mathlib.Core.Path.{_≡_, refl, sym, ap, _∙_}
+use mathlib.Core.Bool.{cond}
 use mathlib.Core.List.{List}
 use Prim.Native.Nat.{ℕ, _≤_, _<_}
-use native.Mathlib.Omega.{arith}
+use lib.Dec.{eqb}
 use lib.ListN.{length}
 use lib.Seq.{sets}
 use borrow.Author.Tests.{eq-eqb, ne-eqb, le-leb, lt-leb}
 use Rattle.io.specs.Counts.{Counts}
-use Rattle.reception.specs.Summary.{receivable, summary, summaryEnd, summaryPut}
+use Rattle.ground.specs.Answer.{Answer, refused, given}
+use Rattle.ground.specs.Inside.Answer.{Injective}
+use Rattle.ground.proofs.Answers.{told-again, when-refused, when-given}
+use Rattle.reception.specs.declared.summary.Summed.{Summed}
+use Rattle.reception.specs.declared.summary.Summed.the-variants.{Bytes, WrongInput, WrongOutput}
+use Rattle.reception.specs.Summary.{summary, paperSummed, summedOf, summaryPut, CountsIn}
+
+-- the numbers tell the answers apart
+abbrev summedAgain : Answer ℕ → Summed
+summedAgain (refused number place) = cond (eqb number 3) WrongInput WrongOutput
+summedAgain (given n) = Bytes n
+
+pub summed-one-to-one : Injective paperSummed
+summed-one-to-one = told-again summedAgain again
+  where
+    again : (r : Summed) → summedAgain (paperSummed r) ≡ r
+    again (Bytes n) = refl
+    again WrongInput = refl
+    again WrongOutput = refl
+
+module _ (heard : List ℕ) (out : ℕ) where
+  pub summary-meets-3 : (length heard ≡ 1125 → ⊥) → summedOf heard out ≡ refused 3 0
+  summary-meets-3 x = simp (ne-eqb (length heard) 1125 x)
+
+  module _ (frame : length heard ≡ 1125) where
+    pub summary-meets-4 : out < 128 → summedOf heard out ≡ refused 4 0
+    summary-meets-4 h = simp (eq-eqb (length heard) 1125 frame, lt-leb 128 out h)
+
+    pub sums : 128 ≤ out → summedOf heard out ≡ given (length (summary heard))
+    sums h = simp (eq-eqb (length heard) 1125 frame, le-leb 128 out h)
 
 module _ (heard out : List ℕ) where
   -- what the call promises
-  abbrev Promised : ℕ → List ℕ → Type 0
-  Promised end after = Counts end after × ((end ≡ summaryEnd heard (length out)) × (after ≡ summaryPut heard out))
+  abbrev Promised : Summed → List ℕ → Type 0
+  Promised r after = CountsIn r after × ((paperSummed r ≡ summedOf heard (length out)) × (after ≡ summaryPut heard out))
 
-  nothing : receivable (length heard) (length out) ≡ false → Promised 0 out
-  nothing t = ((omega arith, refl), (simp t, simp t))
-
-  pub no-frame : (length heard ≡ 1125 → ⊥) → Promised 0 out
-  no-frame x = nothing (simp (ne-eqb (length heard) 1125 x))
+  pub no-frame : (length heard ≡ 1125 → ⊥) → Promised WrongInput out
+  no-frame x = let e = summary-meets-3 heard (length out) x in (tt, (sym e, when-refused out (sets out 0 (summary heard)) e))
 
   module _ (frame : length heard ≡ 1125) where
-    pub no-room : length out < 128 → Promised 0 out
-    no-room h = nothing (simp (eq-eqb (length heard) 1125 frame, lt-leb 128 (length out) h))
+    pub no-room : length out < 128 → Promised WrongOutput out
+    no-room h = let e = summary-meets-4 heard (length out) frame h in (tt, (sym e, when-refused out (sets out 0 (summary heard)) e))
 
     pub room : 128 ≤ length out → {end : ℕ} {after : List ℕ} → Counts end after → end ≡ length (summary heard) → after ≡ sets out 0 (summary heard)
-        → Promised end after
+        → Promised (Bytes end) after
     room h counts e w =
-        let t : receivable (length heard) (length out) ≡ true = simp (eq-eqb (length heard) 1125 frame, le-leb 128 (length out) h) in
-        (counts, (e ∙ simp t, w ∙ simp t))
+        let good = sums heard (length out) frame h in
+        (counts, (ap given e ∙ sym good, w ∙ when-given out (sets out 0 (summary heard)) good))

@@ -1,3 +1,4 @@
+pub mod Laws
 pub mod Link
 pub mod Receiving
 pub mod Summary

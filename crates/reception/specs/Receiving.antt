@@ -56,7 +56,7 @@ shownFrom = putAll 7680 brings
 
 -- ---- the call: what a piece of symbols brings into cleared memory
 
--- a line with four lines after it, no more symbols than five spans have, and room for five flags and ten rows
+-- whether it is done: a line with four lines after it, no more symbols than five spans have, and room for five flags and ten rows
 abbrev pub receivable : ℕ → ℕ → ℕ → ℕ → Bool
 receivable first symbols heard picture = leb first 1121 && (leb symbols 95040 && (eqb heard 5 && eqb picture 38400))
 

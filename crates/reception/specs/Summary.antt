@@ -1,15 +1,19 @@
 -- What is printed: how many lines were sent, delivered and lost, and which were the first and the last lost.
 -- Assumes nothing.
 use Prim.Native.Nat.{ℕ, zero, suc, _+_, _-_}
-use mathlib.Core.Bool.{Bool, cond, _&&_}
+use mathlib.Core.Bool.{Bool, cond}
 use mathlib.Core.List.{List, [], _∷_, _++_}
 use mathlib.Core.Option.{Option·getD}
 use lib.Dec.{eqb, leb}
 use lib.ListN.{length, getD}
 use lib.Seq.{sets}
+use Rattle.ground.specs.Answer.{Answer, refused, given, unless, checked, unlessRefused}
 use Rattle.ground.specs.Search.{firstBelow}
+use Rattle.io.specs.Counts.{Counts}
 use Rattle.text.specs.Number.{decimal}
 use Rattle.text.specs.Put.{newline}
+use Rattle.reception.specs.declared.summary.Summed.{Summed}
+use Rattle.reception.specs.declared.summary.Summed.the-variants.{Bytes, WrongInput, WrongOutput}
 
 -- flags, one for each line from line 1 on: 0 for a lost line
 abbrev pub isLost : List ℕ → ℕ → Bool
@@ -65,12 +69,23 @@ summary heard =
     ++ (item lostLabel (length heard - delivered heard)
     ++ cond (eqb (length heard - delivered heard) 0) [] (which heard)))
 
--- ---- the call: the flags of a frame's 1,125 lines, and room for the text; otherwise nothing is put
-abbrev pub receivable : ℕ → ℕ → Bool
-receivable heard out = eqb heard 1125 && leb 128 out
+-- ---- the call
 
-abbrev pub summaryEnd : List ℕ → ℕ → ℕ
-summaryEnd heard out = cond (receivable (length heard) out) (length (summary heard)) 0
+-- the paper's number for each answer
+abbrev pub paperSummed : Summed → Answer ℕ
+paperSummed (Bytes n) = given n
+paperSummed WrongInput = refused 3 0
+paperSummed WrongOutput = refused 4 0
+
+-- 3 if these are not the flags of a frame's 1,125 lines, then 4 if there is no room for 128 bytes; otherwise how many bytes were put
+abbrev pub summedOf : List ℕ → ℕ → Answer ℕ
+summedOf heard out = checked (unless 3 (eqb (length heard) 1125) ∷ unless 4 (leb 128 out) ∷ []) (length (summary heard))
 
 abbrev pub summaryPut : List ℕ → List ℕ → List ℕ
-summaryPut heard out = cond (receivable (length heard) (length out)) (sets out 0 (summary heard)) out
+summaryPut heard out = unlessRefused (summedOf heard (length out)) out (sets out 0 (summary heard))
+
+-- so many bytes there are in the buffer
+abbrev pub CountsIn : Summed → List ℕ → Type 0
+CountsIn (Bytes n) out = Counts n out
+CountsIn WrongInput out = Unit
+CountsIn WrongOutput out = Unit

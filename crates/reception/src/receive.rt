@@ -106,8 +106,9 @@ fn is_ready(first: StreamLine, symbols: usize, heard: usize, picture: usize) -> 
 }
 
 // Takes the symbols of five lines as received, and the first line's number. Gives 1 for each line delivered, else 0; and ten rows of the
-// picture, black where a line is not delivered and on blanking lines. Anything else leaves the lent memory as it was.
-pub fn receive(first: StreamLine, symbols: &[u16], heard: &mut [u16], picture: &mut [u16])
+// picture, black where a line is not delivered and on blanking lines. Answers whether that was done: otherwise the lent memory is as it was.
+pub fn receive(first: StreamLine, symbols: &[u16], heard: &mut [u16], picture: &mut [u16]) -> bool
+    ensures done { λ r. ⌜ r ≡ receivable (first .0) (length (now (symbols .entry))) (length (now (heard .entry))) (length (now (picture .entry))) ⌝ }
     ensures heard { λ _. ⌜ now (heard .exit) ≡ flagsReceived (first .0) (now (symbols .entry)) (now (heard .entry)) (length (now (picture .entry))) ⌝ }
     ensures picture { λ _. ⌜ now (picture .exit) ≡ rowsReceived (first .0) (now (symbols .entry)) (length (now (heard .entry))) (now (picture .entry)) ⌝ }
 {
@@ -116,5 +117,7 @@ pub fn receive(first: StreamLine, symbols: &[u16], heard: &mut [u16], picture: &
         ground::fill::fill(heard, 0);
         ground::fill::fill(picture, 0);
         receive_all(first, symbols, &mut rows, heard, picture);
+        return true;
     }
+    false
 }

@@ -4,7 +4,15 @@ ghost use Prim.Native.Nat.{_+_, _≤_};
 ghost use lib.ListN.{length};
 ghost use lib.Seq.{sets};
 ghost use Rattle.io.specs.Counts.{Counts};
-ghost use Rattle.reception.specs.Summary.{delivered, firstLost, lastLost, item, which, summary, summaryEnd, summaryPut};
+ghost use Rattle.reception.specs.Summary.{delivered, firstLost, lastLost, item, which, summary, paperSummed, summedOf, summaryPut, CountsIn};
+
+pub enum Summed {
+    Bytes(usize),
+    // 3: these are not the flags of a frame's 1,125 lines.
+    WrongInput,
+    // 4: there is no room for 128 bytes.
+    WrongOutput,
+}
 
 // How many lines were delivered.
 fn count(heard: &[u16]) -> usize
@@ -99,17 +107,17 @@ fn put_all(heard: &[u16], out: &mut [u8]) -> usize
     put_which(heard, out, c)
 }
 
-// The summary of a frame's flags, from the start of a lent buffer on; answers how many bytes were put.
-pub fn put_summary(heard: &[u16], out: &mut [u8]) -> usize
-    ensures counts { λ r. ⌜ Counts r (now (out .exit)) ⌝ }
-    ensures end { λ r. ⌜ r ≡ summaryEnd (now (heard .entry)) (length (now (out .entry))) ⌝ }
+// The summary of a frame's flags, from the start of a lent buffer on; answers how many bytes were put. A refusal leaves the buffer.
+pub fn put_summary(heard: &[u16], out: &mut [u8]) -> Summed
+    ensures counts { λ r. ⌜ CountsIn r (now (out .exit)) ⌝ }
+    ensures answer { λ r. ⌜ paperSummed r ≡ summedOf (now (heard .entry)) (length (now (out .entry))) ⌝ }
     ensures written { λ _. ⌜ now (out .exit) ≡ summaryPut (now (heard .entry)) (now (out .entry)) ⌝ }
 {
     if heard.len() != 1125 {
-        return 0;
+        return Summed::WrongInput;
     }
     if out.len() < 128 {
-        return 0;
+        return Summed::WrongOutput;
     }
-    put_all(heard, out)
+    Summed::Bytes(put_all(heard, out))
 }

@@ -1,7 +1,8 @@
 -- Accepted calls are sent, and no others, in document 01's own numbers.
 -- Assumes nothing.
-use mathlib.Core.Path.{_≡_, refl, sym, _∙_}
+use mathlib.Core.Path.{_≡_, refl, sym, subst, _∙_}
 use mathlib.Core.Bool.{Bool, true, false}
+use mathlib.Core.List.{List}
 use mathlib.Core.Logic.{_⊎_, inl, inr, ⊎-elim}
 use Prim.Native.Nat.{ℕ, zero, suc, _≤_, _<_}
 use native.Mathlib.Omega.{arith}
@@ -12,15 +13,20 @@ use Rattle.ground.specs.Answer.{Answer, refused, given}
 use Rattle.ground.specs.Range.{within}
 use Rattle.ground.proofs.Cases.{on-test}
 use Rattle.ground.proofs.Ranges.{is-within, not-within, from-low, to-high, outside}
+use Rattle.ground.proofs.Writing.{length-table, getD-table}
 use Rattle.line.specs.Stream.{isLine, isActive}
+use Rattle.picture.specs.Choice.{rowOn}
 use Rattle.symbol.specs.declared.disparity.Disparity.{Disparity}
+use Rattle.span.specs.declared.content.Content.{Content}
 use Rattle.span.specs.declared.format.Format.{Format}
+use Rattle.span.specs.Blanking.{blankRow}
 use Rattle.span.specs.Format.{isKnown, numbered, shapeOf, samplesIn, symbolsIn}
 use Rattle.span.specs.Inside.Sample.{boundsOf}
+use Rattle.span.specs.Sample.{blankWord}
 use Rattle.span.specs.Span.{spanAfter}
 use Rattle.span.specs.Stream.{Request}
 use Rattle.span.proofs.Formats.{is-known, known-told}
-use Rattle.request.specs.Laws.{Sized, GoodCall}
+use Rattle.request.specs.Laws.{Sized, GoodCall, chosenRequest}
 use Rattle.request.specs.Send.{sendOf}
 use Rattle.request.specs.Inside.Check.{firstOutside}
 use Rattle.request.specs.Inside.Send.{Accepted}
@@ -169,3 +175,43 @@ module _ (d : Disparity) (f : Format) (a : Request) (room : ℕ) where
               let t = sym (in-blanking f n _ (not-within 42 1121 n x)) ∙ was-inside i h in
               omega (arith, from-low 0x100 0x100 _ t, to-high 0x100 0x100 _ t);
         }
+
+-- ---- the row that the choice gives
+
+module _ (d : Disparity) (f : Format) (content : Content) (picture : List ℕ) (room active n : ℕ) (p : 42 ≤ active) (q : active ≤ 1121)
+    (g : GoodCall (f .number) (f .depth) active picture room) (low : 1 ≤ n) (high : n ≤ 1125) where
+  -- it is as long as the picture row
+  blank-long : length (blankRow f) ≡ length picture
+  blank-long = length-table (samplesIn (shapeOf f)) (λ i. blankWord f) ∙ sym (sized f (length picture) room (g .format) .samples)
+
+  -- it is a good call in either case
+  chosen-good : GoodCall (f .number) (f .depth) n (rowOn n picture (blankRow f)) room
+  chosen-good =
+      on-test (isActive n)
+      (λ t.
+      let is : rowOn n picture (blankRow f) ≡ picture = simp t in
+      subst (λ (row : List ℕ). GoodCall (f .number) (f .depth) n row room) (sym is)
+      (record {
+        format = g .format;
+        bits = g .bits;
+        first = low;
+        last = high;
+        ten = λ e a b i h. g .ten e p q i h;
+        twelve = λ e a b i h. g .twelve e p q i h;
+        blanking = λ x i h. absurd (x (from-low 42 1121 n t) (to-high 42 1121 n t));
+      }))
+      (λ t.
+      let is : rowOn n picture (blankRow f) ≡ blankRow f = simp t in
+      subst (λ (row : List ℕ). GoodCall (f .number) (f .depth) n row room) (sym is)
+      (record {
+        format = subst (λ (long : ℕ). Sized (f .number) long room) (sym blank-long) (g .format);
+        bits = g .bits;
+        first = low;
+        last = high;
+        ten = λ e a b i h. absurd (outside 42 1121 n t a b);
+        twelve = λ e a b i h. absurd (outside 42 1121 n t a b);
+        blanking = λ x i h. getD-table (samplesIn (shapeOf f)) (λ k. blankWord f) i 0 (omega (arith, length-table (samplesIn (shapeOf f)) (λ k. blankWord f)));
+      }))
+
+  pub chosen-is-sent : sendOf d f (chosenRequest f content picture n) room ≡ given (spanAfter d f (chosenRequest f content picture n))
+  chosen-is-sent = good-is-sent d f (chosenRequest f content picture n) room chosen-good

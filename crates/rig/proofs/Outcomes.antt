@@ -4,9 +4,10 @@ use mathlib.Core.Path.{_≡_, refl, sym, ap, ap₂, _∙_}
 use mathlib.Core.Bool.{Bool, true, false, cond}
 use mathlib.Core.List.{List, [], _∷_, _++_, append-assoc, append-nil}
 use mathlib.Core.Logic.{inr}
+use mathlib.Core.Option.{Option, none, some}
 use Prim.Native.Nat.{ℕ, _+_, _-_, _*_, _≤_, _<_}
 use native.Mathlib.Omega.{arith}
-use lib.ListN.{length, getD, replicate, length-append, length-replicate}
+use lib.ListN.{length, getD, replicate, length-append, length-replicate, replicate-append-replicate}
 use Rattle.ground.specs.Written.{upto, table}
 use Rattle.ground.proofs.Cases.{on-test}
 use Rattle.ground.proofs.Ranges.{from-low, to-high}
@@ -14,6 +15,9 @@ use Rattle.ground.proofs.Writing.{is-table, length-table}
 use Rattle.symbol.specs.declared.disparity.Disparity.{Disparity}
 use Rattle.line.specs.Picture.{basicLineOf}
 use Rattle.line.specs.Stream.{isActive}
+use Rattle.line.proofs.Travel.{carries}
+use Rattle.picture.specs.Place.{pictureLineOn}
+use Rattle.picture.proofs.Places.{nothing-on, line-on}
 use Rattle.dividing.specs.Row.{divided}
 use Rattle.span.specs.declared.content.Content.the-variants.{NoneNamed}
 use Rattle.span.specs.Format.{shapeOf, streams}
@@ -31,7 +35,7 @@ use Rattle.rig.specs.declared.knock.Knock.{Knock}
 use Rattle.reception.specs.Link.{link}
 use Rattle.rig.specs.Frame.{lineOfPiece}
 use Rattle.rig.specs.Knock.{lost}
-use Rattle.rig.specs.Piece.{black, sentRows, rowsAt, pictureIn, heardIn}
+use Rattle.rig.specs.Piece.{black, rowFor, sentRows, rowsAt, pictureIn, heardIn}
 use Rattle.reception.specs.Receiving.{joinedRow, bothRows, brings, flag, putAll, receivable, heardBy, shownBy}
 use Rattle.rig.specs.Sending.{requestOn, afterFrom}
 use Rattle.rig.proofs.Arriving.{sending, placeOf}
@@ -74,19 +78,32 @@ words-are row = sym (is-table (length row) (λ i. getD row i 0) 0 row refl (λ i
 codes : (line : ℕ) → wordsFor link (rowAt link line) ≡ testRow line
 codes line = words-are (rowAt link line) ∙ row-of-codes line
 
+-- the rows that are sent: lines 2l - 1 and 2l on stream line l + 41, and black ones in frame blanking
+pub sent-on-active : (l n : ℕ) → 1 ≤ l → l ≤ 1080 → l + 41 ≡ n → sentRows n ≡ testRow (2 * l - 1) ++ testRow (2 * l)
+sent-on-active l n p q e =
+    let basic : basicLineOf n ≡ some l = ap basicLineOf (sym e) ∙ carries l p q in
+    ap₂ (λ (x y : Option ℕ). rowFor x ++ rowFor y)
+    (sym (line-on n 1 l basic (omega arith) (omega arith) {line = 2 * l - 1} (omega arith)))
+    (sym (line-on n 3 l basic (omega arith) (omega arith) {line = 2 * l} (omega arith)))
+
+pub sent-in-blanking : (n : ℕ) → isActive n ≡ false → sentRows n ≡ black
+sent-in-blanking n t =
+    let nothing : basicLineOf n ≡ none = simp t in
+    ap₂ (λ (x y : Option ℕ). rowFor x ++ rowFor y) (nothing-on n 1 nothing) (nothing-on n 3 nothing)
+    ∙ replicate-append-replicate 3840 3840 0
+
 module _ (n : ℕ) (active : isActive n ≡ true) where
   -- the words of its span
   abbrev words : List ℕ
   words = upto (streams (shapeOf link)) (picture link (requestOn n))
 
-  rows-back : bothRows words ≡ testRow (2 * basicLineOf n - 1) ++ testRow (2 * basicLineOf n)
+  rows-back : bothRows words ≡ sentRows n
   unfolding joinedRow
   rows-back =
       let l = n - 41 in
       let p : 1 ≤ l = omega (arith, from-low 42 1121 n active) in
       let q : l ≤ 1080 = omega (arith, to-high 42 1121 n active) in
       let line : l + 41 ≡ n = omega (arith, from-low 42 1121 n active) in
-      let basic : l ≡ basicLineOf n = simp active in
       let odd = rowAt link (2 * l - 1) in
       let even = rowAt link (2 * l) in
       let samples = divided 0 1920 odd ++ (divided 1 1920 odd ++ (divided 0 1920 even ++ divided 1 1920 even)) in
@@ -96,7 +113,7 @@ module _ (n : ℕ) (active : isActive n ≡ true) where
       let back = four-back link odd even l at-twelve refl p q (is-row (2 * l - 1)) (is-row (2 * l)) NoneNamed in
       ap (λ (a : Request). bothRows (upto (streams (shapeOf link)) (picture link a))) (sym is)
       ∙ ap₂ (λ (x y : List ℕ). x ++ y) (back .0 ∙ codes (2 * l - 1)) (back .1 ∙ codes (2 * l))
-      ∙ ap (λ (i : ℕ). testRow (2 * i - 1) ++ testRow (2 * i)) basic
+      ∙ sym (sent-on-active l n p q line)
 
 -- ---- how long they are
 
@@ -110,8 +127,13 @@ length-black = length-replicate {A = ℕ} 7680 0
 length-both : (l : List ℕ) → length (bothRows l) ≡ 7680
 length-both l = rw (length-append, length-row 0 l, length-row 2 l)
 
-length-two : (a b : ℕ) → length (testRow a ++ testRow b) ≡ 7680
-length-two a b = rw (length-append, length-table 3840 (testSample a), length-table 3840 (testSample b))
+length-for : (line : Option ℕ) → length (rowFor line) ≡ 3840
+length-for (some line) = length-table 3840 (testSample line)
+length-for none = length-replicate {A = ℕ} 3840 0
+
+length-sent-rows : (n : ℕ) → length (sentRows n) ≡ 7680
+length-sent-rows n =
+    omega (arith, length-append (rowFor (pictureLineOn n 1)) (rowFor (pictureLineOn n 3)), length-for (pictureLineOn n 1), length-for (pictureLineOn n 3))
 
 whole-slot : (c : List ℕ) → length c ≡ 7680 → c ≡ padded 7680 c
 whole-slot c e =
@@ -122,8 +144,7 @@ whole-slot c e =
 
 pub length-rows : (k : Knock) (n : ℕ) → length (rowsAt k n) ≡ 7680
 length-rows k n =
-    length-cond (lost k n) black (sentRows n) length-black
-    (length-cond (isActive n) _ black (length-two (2 * basicLineOf n - 1) (2 * basicLineOf n)) length-black)
+    length-cond (lost k n) black (sentRows n) length-black (length-sent-rows n)
 
 module _ (k : Knock) where
   rows : Slots k 7680 brings (rowsAt k)
@@ -138,12 +159,11 @@ module _ (k : Knock) where
         ap (λ (b : Bool). cond b black (sentRows n)) t
         ∙ on-test (isActive n)
         (λ a.
-        ap (λ (b : Bool). cond b (testRow (2 * basicLineOf n - 1) ++ testRow (2 * basicLineOf n)) black) a
-        ∙ sym (rows-back n a)
+        sym (rows-back n a)
         ∙ whole-slot (bothRows (words n a)) (length-both (words n a))
         ∙ ap (λ (b : Bool). padded 7680 (cond b (bothRows (words n a)) [])) (sym a))
         (λ a.
-        ap (λ (b : Bool). cond b (testRow (2 * basicLineOf n - 1) ++ testRow (2 * basicLineOf n)) black) a
+        sent-in-blanking n a
         ∙ ap (λ (b : Bool). padded 7680 (cond b (bothRows (readingOf link (sending d n) .words)) [])) (sym a));
   }
 

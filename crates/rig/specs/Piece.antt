@@ -1,14 +1,14 @@
 -- A piece of the frame, sent, knocked, delivered and joined: what comes of it, in terms of the knock alone.
 -- Assumes nothing.
-use Prim.Native.Nat.{ℕ, _-_, _*_}
+use Prim.Native.Nat.{ℕ}
 use mathlib.Core.Bool.{cond, _&&_}
 use mathlib.Core.List.{List, [], _∷_, _++_}
+use mathlib.Core.Option.{Option, none, some}
 use lib.Dec.{eqb, ltb}
 use lib.ListN.{length, replicate}
 use Rattle.ground.specs.Answer.{Answer, refused, given, unless, checked, unlessRefused}
 use Rattle.ground.specs.Written.{upto, table}
-use Rattle.line.specs.Picture.{basicLineOf}
-use Rattle.line.specs.Stream.{isActive}
+use Rattle.picture.specs.Place.{pictureLineOn}
 use Rattle.symbol.specs.declared.disparity.Disparity.{Disparity}
 use Rattle.test_picture.specs.TestPicture.{testRow}
 use Rattle.rig.specs.declared.carry.Carried.{Carried}
@@ -22,10 +22,14 @@ use Rattle.rig.specs.Sending.{afterFrom}
 abbrev pub black : List ℕ
 black = replicate 7680 0
 
--- the two lines of the test picture that stream line n carries: 2l - 1 and 2l, where l is the basic images' line on it (004, 5.3 and 6.1).
--- A blanking line carries none.
+-- a line of the test picture; black where there is none
+abbrev pub rowFor : Option ℕ → List ℕ
+rowFor (some line) = testRow line
+rowFor none = replicate 3840 0
+
+-- the two lines of the test picture that stream line n carries: those of images 1 and 3. A blanking line carries none.
 abbrev pub sentRows : ℕ → List ℕ
-sentRows n = cond (isActive n) (testRow (2 * basicLineOf n - 1) ++ testRow (2 * basicLineOf n)) black
+sentRows n = rowFor (pictureLineOn n 1) ++ rowFor (pictureLineOn n 3)
 
 -- those that arrive: black ones for a lost line
 abbrev pub rowsAt : Knock → ℕ → List ℕ

@@ -1,8 +1,9 @@
 -- The images that streams carry of the test picture, row by row: what the loop puts for two streams at a time, and which sample stands where.
 -- Assumes nothing.
-use mathlib.Core.Path.{_≡_, refl, sym, ap, ap₂, fun-ext, _∙_}
-use mathlib.Core.Bool.{true}
+use mathlib.Core.Path.{_≡_, refl, sym, ap, ap₂, _∙_}
+use mathlib.Core.Bool.{true, false}
 use mathlib.Core.List.{List, _++_, append-assoc}
+use mathlib.Core.Option.{none, some}
 use Prim.Native.Nat.{ℕ, suc, _+_, _-_, _*_, _/_, _%_, _≤_, _<_}
 use native.Mathlib.Nat.{add-zero}
 use native.Mathlib.Omega.{arith}
@@ -12,19 +13,24 @@ use lib.Seq.{sets}
 use Rattle.ground.specs.Written.{upto}
 use Rattle.ground.proofs.Answers.{when-given}
 use Rattle.ground.proofs.Cases.{on-test}
-use Rattle.ground.proofs.Ranges.{is-within, from-low, to-high}
-use Rattle.ground.proofs.Writing.{sets-append, sets-whole, length-upto, getD-upto, getD-table}
-use Rattle.line.specs.Picture.{basicLineOf}
+use Rattle.ground.proofs.Ranges.{is-within}
+use Rattle.ground.proofs.Writing.{sets-append, sets-whole, length-upto, getD-upto, getD-table, upto-same}
+use Rattle.line.specs.declared.picture.Carries.{Carries}
+use Rattle.line.specs.declared.picture.Carries.the-variants.{Line, Nothing}
+use Rattle.line.specs.declared.picture.PictureLine.{PictureLine}
+use Rattle.line.specs.Picture.{basicLineOf, numberCarried}
 use Rattle.line.specs.Stream.{isActive}
-use Rattle.line.proofs.Travel.{carries}
 use Rattle.picture.specs.Division.{h, w, lineFrom, sampleFrom}
+use Rattle.picture.specs.Place.{pictureLineOn}
+use Rattle.picture.proofs.Places.{nothing-on, line-on}
 use Rattle.dividing.specs.Row.{divided, splitFirst, splitSecond}
 use Rattle.dividing.proofs.Lengths.{splits}
 use Rattle.dividing.proofs.Rows.{length-divided, sample-divided}
 use Rattle.span.specs.declared.format.Format.{Format}
 use Rattle.span.specs.Format.{shapeOf, streams, samplesIn}
 use Rattle.span.specs.Image.{imageOf}
-use Rattle.test_picture.specs.TestPicture.{codeStep, sampleBy, rowInSteps, rowAt, imageRow, testSamples}
+use Rattle.span.proofs.Formats.{small}
+use Rattle.test_picture.specs.TestPicture.{codeStep, sampleBy, rowInSteps, rowAt, imageFrom, imageRow, testSamples}
 
 -- a row divided by the library's call, and its two parts put one after the other
 module _ (whole first second : List ℕ) {row even odd : List ℕ} (is : row ≡ whole) (long : length whole ≡ 3840) (p : length first ≡ 1920)
@@ -83,61 +89,95 @@ module _ (step l : ℕ) where
   pub all-carried : (o : List ℕ) (s : ℕ) → length o ≡ 1920 * s → sets o 0 (upto s (carried step l)) ≡ upto s (carried step l)
   all-carried o s e = sets-whole o (upto s (carried step l)) (length-upto 1920 (carried step l) sized s ∙ sym e)
 
--- a step is one code or more, and an active line has a line of the basic images
+-- a step is one code or more
 pub some-step : (f : Format) → 1 ≤ codeStep f
 some-step f = on-test (eqb (f .depth) 10) (λ b. simp b (omega arith)) (λ b. simp b (omega arith))
 
-module _ (n : ℕ) (active : isActive n ≡ true) where
-  pub basic-low : 1 ≤ basicLineOf n
-  basic-low = from-low _ _ _ (carries n active)
-
-  pub basic-high : basicLineOf n ≤ 1080
-  basic-high = to-high _ _ _ (carries n active)
-
--- the link of the first images carries image t + 1 on stream t
+-- the link of the first images carries image t + 1 on stream t, and has four streams at most
 image-is : (f : Format) (t : ℕ) → imageOf f 1 t ≡ t + 1
 unfolding imageOf
 image-is f t = on-test (eqb (shapeOf f .«stream_pairs») 1) (λ b. simp b (omega arith)) (λ b. simp b)
 
-module _ (f : Format) (n : ℕ) where
-  line-is : (t : ℕ) → lineFrom (imageOf f 1 t) (basicLineOf n) ≡ 2 * basicLineOf n - 1 + t / 2
-  unfolding lineFrom h
-  line-is t = rw (image-is f t) (omega arith)
+few-streams : (f : Format) (t : ℕ) → t < streams (shapeOf f) → t < 4
+few-streams f t h = omega (arith, small f refl .half)
 
-  side-is : (t : ℕ) → w (imageOf f 1 t) ≡ t % 2
-  unfolding w
-  side-is t = rw (image-is f t) (omega arith)
+-- the lines of the picture that an active line carries: the first for images 1 and 2, the second for images 3 and 4
+pub line-at : (n : ℕ) → isActive n ≡ true → (t : ℕ) → t < 4 → pictureLineOn n (t + 1) ≡ some (2 * (n - 41) - 1 + t / 2)
+line-at n active t few =
+    let basic : basicLineOf n ≡ some (n - 41) = simp active in
+    sym (line-on n (t + 1) (n - 41) basic (omega arith) (omega arith) (omega arith))
 
-  row-is : (t : ℕ) → imageRow f n t ≡ carried (codeStep f) (basicLineOf n) t
-  row-is t = ap₂ (λ (c line : ℕ). divided c 1920 (rowAt f line)) (side-is t) (line-is t)
+-- what the library's call answers for the images of row i: a line on an active line, and nothing on any other
+module _ (n i : ℕ) (few : i < 2) (r : Carries) (e : numberCarried r ≡ pictureLineOn n (2 * i + 1)) where
+  row-there : isActive n ≡ true → numberCarried r ≡ some (2 * (n - 41) - 1 + i)
+  row-there active =
+      let half : 2 * i / 2 ≡ i = omega arith in
+      e ∙ line-at n active (2 * i) (omega arith) ∙ ap (λ (k : ℕ). some (2 * (n - 41) - 1 + k)) half
 
-  module _ (active : isActive n ≡ true) where
-    samples-are : testSamples f n ≡ upto (streams (shapeOf f)) (imageRow f n)
-    unfolding testSamples
-    samples-are = simp active
+  none-there : isActive n ≡ false → numberCarried r ≡ none
+  none-there t = let nothing : basicLineOf n ≡ none = simp t in e ∙ nothing-on n (2 * i + 1) nothing
 
-    pub are-carried : upto (streams (shapeOf f)) (carried (codeStep f) (basicLineOf n)) ≡ testSamples f n
-    are-carried = ap (upto (streams (shapeOf f))) (sym (fun-ext row-is)) ∙ sym samples-are
+  pub row-active : {line : PictureLine} → r ≡ Line line → isActive n ≡ true
+  row-active is =
+      on-test (isActive n) (λ t. t)
+      (λ t. let z : _≡_ {A = ℕ} 0 1 = cc (sym (ap numberCarried is) ∙ none-there t) in absurd (omega arith))
 
-    long : (t : ℕ) → length (imageRow f n t) ≡ 1920
-    long t = length-divided (rowAt f (lineFrom (imageOf f 1 t) (basicLineOf n))) (w (imageOf f 1 t)) 1920
+  pub row-line : {line : PictureLine} → r ≡ Line line → line .0 ≡ 2 * (n - 41) - 1 + i
+  row-line is = cc (sym (ap numberCarried is) ∙ row-there (row-active is))
 
-    pub picture-long : length (testSamples f n) ≡ samplesIn (shapeOf f)
-    picture-long = ap length samples-are ∙ length-upto 1920 (imageRow f n) long (streams (shapeOf f))
+  pub row-blanking : r ≡ Nothing → isActive n ≡ false
+  row-blanking is =
+      on-test (isActive n)
+      (λ t. let z : _≡_ {A = ℕ} 0 1 = cc (sym (ap numberCarried is) ∙ row-there t) in absurd (omega arith))
+      (λ t. t)
 
-    -- sample j of stream t is that of its image: document 01's line 2l - 1 + h, sample 2j + w
-    pub sample-is :
-        (t j : ℕ) → t < streams (shapeOf f) → j < 1920
-        → getD (testSamples f n) (1920 * t + j) 0 ≡ sampleBy (codeStep f) (lineFrom (imageOf f 1 t) (basicLineOf n)) (sampleFrom (imageOf f 1 t) j)
-    unfolding rowInSteps sampleFrom
-    sample-is t j p q =
-        let u = imageOf f 1 t in
-        let line = lineFrom u (basicLineOf n) in
-        let inside : 2 * j + w u < 3840 = omega (arith, side-is t) in
-        ap (λ (l : List ℕ). getD l (1920 * t + j) 0) samples-are
-        ∙ getD-upto 1920 (imageRow f n) long (streams (shapeOf f)) t j 0 p q
-        ∙ sample-divided (rowAt f line) (w u) 1920 j q
-        ∙ getD-table 3840 (sampleBy (codeStep f) line) (2 * j + w u) 0 inside
+module _ (f : Format) (n : ℕ) (active : isActive n ≡ true) where
+  module _ (t : ℕ) (few : t < streams (shapeOf f)) where
+    side-is : w (imageOf f 1 t) ≡ t % 2
+    unfolding w
+    side-is = rw (image-is f t) (omega arith)
+
+    there : pictureLineOn n (imageOf f 1 t) ≡ some (2 * (n - 41) - 1 + t / 2)
+    there = ap (pictureLineOn n) (image-is f t) ∙ line-at n active t (few-streams f t few)
+
+    row-is : imageRow f n t ≡ carried (codeStep f) (n - 41) t
+    row-is =
+        ap (imageFrom f (imageOf f 1 t)) there
+        ∙ ap (λ (c : ℕ). divided c 1920 (rowAt f (2 * (n - 41) - 1 + t / 2))) side-is
+
+  samples-are : testSamples f n ≡ upto (streams (shapeOf f)) (carried (codeStep f) (n - 41))
+  unfolding testSamples
+  samples-are = simp active (upto-same (streams (shapeOf f)) (imageRow f n) (carried (codeStep f) (n - 41)) row-is)
+
+  pub are-carried : upto (streams (shapeOf f)) (carried (codeStep f) (n - 41)) ≡ testSamples f n
+  are-carried = sym samples-are
+
+  pub picture-long : length (testSamples f n) ≡ samplesIn (shapeOf f)
+  picture-long =
+      ap length samples-are ∙ length-upto 1920 (carried (codeStep f) (n - 41)) (sized (codeStep f) (n - 41)) (streams (shapeOf f))
+
+  pub sample-at :
+      (t j : ℕ) → t < streams (shapeOf f) → j < 1920
+      → getD (testSamples f n) (1920 * t + j) 0 ≡ sampleBy (codeStep f) (2 * (n - 41) - 1 + t / 2) (2 * j + t % 2)
+  unfolding rowInSteps
+  sample-at t j p q =
+      let line = 2 * (n - 41) - 1 + t / 2 in
+      let inside : 2 * j + t % 2 < 3840 = omega arith in
+      ap (λ (l : List ℕ). getD l (1920 * t + j) 0) samples-are
+      ∙ getD-upto 1920 (carried (codeStep f) (n - 41)) (sized (codeStep f) (n - 41)) (streams (shapeOf f)) t j 0 p q
+      ∙ sample-divided (rowAt f line) (t % 2) 1920 j q
+      ∙ getD-table 3840 (sampleBy (codeStep f) line) (2 * j + t % 2) 0 inside
+
+-- sample j of stream t is that of its image: document 01's line 2l - 1 + h, sample 2j + w
+pub sample-is :
+    (f : Format) (l : ℕ) → 1 ≤ l → l ≤ 1080 → (t j : ℕ) → t < streams (shapeOf f) → j < 1920
+    → getD (testSamples f (l + 41)) (1920 * t + j) 0 ≡ sampleBy (codeStep f) (lineFrom (imageOf f 1 t) l) (sampleFrom (imageOf f 1 t) j)
+unfolding lineFrom sampleFrom h w
+sample-is f l p q t j few inside =
+    let active : isActive (l + 41) ≡ true = is-within 42 1121 (l + 41) (omega arith) (omega arith) in
+    let line : 2 * (l + 41 - 41) - 1 + t / 2 ≡ lineFrom (imageOf f 1 t) l = omega (arith, image-is f t) in
+    let sample : 2 * j + t % 2 ≡ sampleFrom (imageOf f 1 t) j = omega (arith, image-is f t) in
+    sample-at f (l + 41) active t j few inside ∙ ap₂ (sampleBy (codeStep f)) line sample
 
 -- line l of the basic images, on two streams: the images of picture line 2l - 1; on four: those of lines 2l - 1 and 2l
 module _ (f : Format) (l : ℕ) (p : 1 ≤ l) (q : l ≤ 1080) where
@@ -147,7 +187,7 @@ module _ (f : Format) (l : ℕ) (p : 1 ≤ l) (q : l ≤ 1080) where
   on-line : (half : ℕ) → shapeOf f .«stream_pairs» ≡ half → testSamples f (l + 41) ≡ upto (2 * half) (carried (codeStep f) l)
   on-line half e =
       let active : isActive (l + 41) ≡ true = is-within 42 1121 (l + 41) (omega arith) (omega arith) in
-      let basic : basicLineOf (l + 41) ≡ l = simp active (omega arith) in
+      let basic : l + 41 - 41 ≡ l = omega arith in
       sym (are-carried f (l + 41) active) ∙ ap₂ (λ (h k : ℕ). upto (2 * h) (carried (codeStep f) k)) e basic
 
   one-row : upto (2 * 1) (carried (codeStep f) l) ≡ of (2 * l - 1)

@@ -1,7 +1,8 @@
 -- The samples of the test picture may be sent, on every line of a stream.
 -- Assumes nothing.
-use mathlib.Core.Path.{_≡_, refl, sym, subst}
-use mathlib.Core.Bool.{true, false}
+use mathlib.Core.Path.{_≡_, refl, sym, ap, subst, _∙_}
+use mathlib.Core.Bool.{Bool, true, false, cond}
+use mathlib.Core.List.{List}
 use Prim.Native.Nat.{ℕ, _+_, _*_, _/_, _%_, _<_}
 use native.Mathlib.Omega.{arith}
 use lib.Dec.{eqb}
@@ -11,14 +12,12 @@ use Rattle.ground.specs.Range.{within}
 use Rattle.ground.proofs.Cases.{on-test}
 use Rattle.ground.proofs.Ranges.{is-within}
 use Rattle.ground.proofs.Writing.{length-table, getD-table}
-use Rattle.line.specs.Picture.{basicLineOf}
 use Rattle.line.specs.Stream.{isLine, isActive}
-use Rattle.picture.specs.Division.{lineFrom, sampleFrom}
+use Rattle.picture.specs.Choice.{rowOn}
 use Rattle.symbol.specs.declared.disparity.Disparity.{Disparity}
 use Rattle.span.specs.declared.content.Content.{Content}
 use Rattle.span.specs.declared.format.Format.{Format}
 use Rattle.span.specs.Format.{isKnown, shapeOf, samplesIn, symbolsIn}
-use Rattle.span.specs.Image.{imageOf}
 use Rattle.span.specs.Sample.{blankWord}
 use Rattle.span.specs.Span.{spanAfter}
 use Rattle.request.specs.Send.{request, sendOf}
@@ -28,7 +27,7 @@ use Rattle.span.specs.Blanking.{blankRow}
 use Rattle.span.specs.Inside.Sample.{boundsOf}
 use Rattle.test_picture.specs.TestPicture.{codeStep, sampleBy, testSamples}
 use Rattle.test_picture.proofs.Codes.{code-low, code-high}
-use Rattle.test_picture.proofs.Images.{picture-long, sample-is}
+use Rattle.test_picture.proofs.Images.{picture-long, sample-at}
 
 module _ (f : Format) (n : ℕ) where
   -- a number that the line may carry
@@ -62,10 +61,8 @@ module _ (f : Format) (n : ℕ) where
       let j = i % 1920 in
       let place : 1920 * t + j ≡ i = omega arith in
       let few : t < 2 * shapeOf f .«stream_pairs» = omega (arith, samples-long) in
-      let u = imageOf f 1 t in
-      let is = sample-is f n active t j few (omega arith) in
-      subst (λ (k : ℕ). Inside (getD (testSamples f n) k 0)) place
-      (subst Inside (sym is) (code-inside active (lineFrom u (basicLineOf n)) (sampleFrom u j))))
+      let is = sample-at f n active t j few (omega arith) in
+      subst (λ (k : ℕ). Inside (getD (testSamples f n) k 0)) place (subst Inside (sym is) (code-inside active _ _)))
       (λ t.
       let inside : i < samplesIn (shapeOf f) = omega (arith, samples-long) in
       rw (are-blanking t, getD-table (samplesIn (shapeOf f)) (λ k. blankWord f) i 0 inside)
@@ -79,3 +76,12 @@ module _ (f : Format) (n : ℕ) where
   is-sent d content known line =
       sends d f (request n content (testSamples f n)) (symbolsIn (shapeOf f)) known line samples-long refl (length (testSamples f n))
       (sym (outside-never _ _ _ each-inside)) (omega arith)
+
+-- the row that the choice gives of the picture's row, which is only there on an active line, and a blanking row
+pub is-chosen :
+    (f : Format) (n : ℕ) {R : Type 0} (now : R → List ℕ) (shown blanking : R) {row : R} (old : List ℕ)
+    → row ≡ rowOn n shown blanking → now shown ≡ rowOn n (testSamples f n) old → now blanking ≡ blankRow f → now row ≡ testSamples f n
+is-chosen f n {R} now shown blanking old e p q =
+    on-test (isActive n)
+    (λ t. ap now (e ∙ ap (λ (b : Bool). cond b shown blanking) t) ∙ p ∙ ap (λ (b : Bool). cond b (testSamples f n) old) t)
+    (λ t. ap now (e ∙ ap (λ (b : Bool). cond b shown blanking) t) ∙ q ∙ sym (are-blanking f n t))

@@ -7,7 +7,6 @@ use mathlib.Core.List.{List, _++_}
 use lib.ListN.{length, getD}
 use Rattle.ground.specs.Answer.{refused, given}
 use Rattle.ground.specs.Inside.Answer.{Injective}
-use Rattle.line.specs.Picture.{basicLineOf}
 use Rattle.line.specs.Stream.{isLine, isActive}
 use Rattle.symbol.specs.declared.disparity.Disparity.{Disparity}
 use Rattle.picture.specs.Division.{lineFrom, sampleFrom}
@@ -55,13 +54,14 @@ pub record TestPictureLaws : Type 0 where
       → testSamples f (l + 41) ≡ images f (2 * l - 1) ++ images f (2 * l)
   -- sample j of stream t is the one that its image has there (document 01, "Dividing a picture"); a blanking line carries blanking
   pub sampleIs :
-      (f : Format) (n : ℕ)
-      → isActive n ≡ true
+      (f : Format) (l : ℕ)
+      → 1 ≤ l
+      → l ≤ 1080
       → (t j : ℕ)
       → t < streams (shapeOf f)
       → j < 1920
-      → getD (testSamples f n) (1920 * t + j) 0
-      ≡ sampleBy (codeStep f) (lineFrom (imageOf f 1 t) (basicLineOf n)) (sampleFrom (imageOf f 1 t) j)
+      → getD (testSamples f (l + 41)) (1920 * t + j) 0
+      ≡ sampleBy (codeStep f) (lineFrom (imageOf f 1 t) l) (sampleFrom (imageOf f 1 t) j)
   pub areBlanking : (f : Format) (n : ℕ) → isActive n ≡ false → testSamples f n ≡ blankRow f
   -- there are as many as a span has, and a call with them is not refused
   pub samplesLong : (f : Format) (n : ℕ) → length (testSamples f n) ≡ samplesIn (shapeOf f)

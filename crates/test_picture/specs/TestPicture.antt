@@ -3,12 +3,13 @@
 -- Assumes nothing.
 use Prim.Native.Nat.{ℕ, _+_, _-_, _*_, _/_, _%_}
 use mathlib.Core.Bool.{cond}
-use mathlib.Core.List.{List}
+use mathlib.Core.List.{List, []}
+use mathlib.Core.Option.{Option, none, some}
 use lib.Dec.{eqb}
 use Rattle.ground.specs.Written.{upto, table}
-use Rattle.line.specs.Picture.{basicLineOf}
 use Rattle.picture.specs.Choice.{rowOn}
-use Rattle.picture.specs.Division.{w, lineFrom}
+use Rattle.picture.specs.Division.{w}
+use Rattle.picture.specs.Place.{pictureLineOn}
 use Rattle.dividing.specs.Row.{divided}
 use Rattle.span.specs.declared.format.Format.{Format}
 use Rattle.span.specs.Format.{shapeOf, streams}
@@ -45,11 +46,15 @@ rowInSteps step line = table 3840 (sampleBy step line)
 abbrev pub rowAt : Format → ℕ → List ℕ
 rowAt f line = rowInSteps (codeStep f) line
 
--- what stream t, counted from 0, carries of it on an active line n: the samples of its image's line there. The link is the one of the first
--- images: 1 and 2, and with four streams also 3 and 4.
+-- what image u has of a line of the picture; nothing where there is no line
+abbrev pub imageFrom : Format → ℕ → Option ℕ → List ℕ
+imageFrom f u (some line) = divided (w u) 1920 (rowAt f line)
+imageFrom f u none = []
+
+-- what stream t, counted from 0, carries of it on stream line n: what its image has of the line of the picture there. The link is the one of
+-- the first images: 1 and 2, and with four streams also 3 and 4.
 abbrev pub imageRow : Format → ℕ → ℕ → List ℕ
-imageRow f n t =
-    let u = imageOf f 1 t in divided (w u) 1920 (rowAt f (lineFrom u (basicLineOf n)))
+imageRow f n t = let u = imageOf f 1 t in imageFrom f u (pictureLineOn n u)
 
 -- what is sent on stream line n, stream by stream: the picture on active lines, blanking on all others
 unfoldable pub testSamples : Format → ℕ → List ℕ

@@ -1,15 +1,16 @@
 // The samples of the test picture that a link carries: those of the first images.
 use crate::answer::Put;
+use line::picture::Carries;
 use line::picture::PictureLine;
 use line::stream::StreamLine;
 use span::format::Format;
 ghost use mathlib.Core.Path.{_≡_};
 ghost use mathlib.Core.Bool.{true};
 ghost use mathlib.Core.List.{_++_};
-ghost use Prim.Native.Nat.{_+_, _-_, _*_, _≤_};
+ghost use Prim.Native.Nat.{_+_, _≤_};
 ghost use lib.ListN.{length};
 ghost use lib.Seq.{sets};
-ghost use Rattle.line.specs.Stream.{isActive};
+ghost use Rattle.picture.specs.Choice.{rowOn};
 ghost use Rattle.dividing.specs.Row.{divided};
 ghost use Rattle.span.specs.Format.{isKnown, shapeOf, samplesIn};
 ghost use Rattle.test_picture.specs.Putting.{paperPut, samplesAnswer, samplesPut};
@@ -23,16 +24,6 @@ fn step_of(f: Format) -> u16
         return 4;
     }
     1
-}
-
-// The first or the second of the two picture lines that make up a line of the basic images.
-fn picture_line_of(basic: PictureLine, second: usize) -> PictureLine
-    requires { ⌜ 1 ≤ basic .0 ⌝ }
-    requires { ⌜ basic .0 ≤ 1080 ⌝ }
-    requires { ⌜ second ≤ 1 ⌝ }
-    ensures { λ r. ⌜ r .0 ≡ 2 * basic .0 - 1 + second ⌝ }
-{
-    line::picture::picture_line(2 * line::picture::number_of(basic) - 1 + second as u16)
 }
 
 // A row of the picture, divided: the row of its first image and then that of its second, from a place on.
@@ -58,7 +49,8 @@ fn put_images(
     crate::copy::copy_to(second, samples, at + 1920);
 }
 
-// The samples of an active line: the rows of the picture lines that its images have there, a row for each two streams.
+// The picture's samples on a stream line: the rows of the picture lines that it carries, a row for each two streams. A blanking line carries
+// none, and leaves the samples as they were.
 fn put_picture(
     f: Format,
     l: StreamLine,
@@ -67,38 +59,73 @@ fn put_picture(
     second: &mut [u16],
     samples: &mut [u16],
 )
-    requires { ⌜ isActive (l .0) ≡ true ⌝ }
     requires { ⌜ length (now row) ≡ 3840 ⌝ }
     requires { ⌜ length (now first) ≡ 1920 ⌝ }
     requires { ⌜ length (now second) ≡ 1920 ⌝ }
     requires { ⌜ length (now samples) ≡ samplesIn (shapeOf f) ⌝ }
-    ensures { λ _. ⌜ now (samples .exit) ≡ testSamples f (l .0) ⌝ }
+    ensures { λ _. ⌜ now (samples .exit) ≡ rowOn (l .0) (testSamples f (l .0)) (now (samples .entry)) ⌝ }
 {
     let step = step_of(f);
-    let basic = line::picture::basic_line_of(l);
     let rows = span::format::shape_of(f).stream_pairs;
     let mut i = 0;
     while i < rows {
-        let line = picture_line_of(basic, i);
+        // images 2i + 1 and 2i + 2 are those of one line
+        let Carries::Line(line) = picture::place::picture_line_on(l, (2 * i + 1) as u8) else {
+            return;
+        };
         put_images(line, step, row, first, second, samples, 3840 * i);
         i += 1;
     }
 }
 
-// The samples of a line into a row that has room for them: the picture on active lines, blanking on all others.
+// The samples of a line, by the choice of row (01, "Sending"): the picture's or a blanking row, each made in memory lent for it.
+fn put_chosen(
+    f: Format,
+    l: StreamLine,
+    row: &mut [u16],
+    first: &mut [u16],
+    second: &mut [u16],
+    shown: &mut [u16],
+    blanking: &mut [u16],
+    samples: &mut [u16],
+)
+    requires { ⌜ isKnown f ≡ true ⌝ }
+    requires { ⌜ length (now row) ≡ 3840 ⌝ }
+    requires { ⌜ length (now first) ≡ 1920 ⌝ }
+    requires { ⌜ length (now second) ≡ 1920 ⌝ }
+    requires { ⌜ length (now shown) ≡ samplesIn (shapeOf f) ⌝ }
+    requires { ⌜ length (now blanking) ≡ samplesIn (shapeOf f) ⌝ }
+    requires { ⌜ length (now samples) ≡ samplesIn (shapeOf f) ⌝ }
+    ensures { λ _. ⌜ now (samples .exit) ≡ testSamples f (l .0) ⌝ }
+{
+    put_picture(f, l, row, first, second, shown);
+    span::blanking::fill_blanking(f, blanking);
+    let chosen = picture::choice::row_on(l, shown, blanking);
+    crate::copy::copy_to(chosen, samples, 0);
+}
+
+// The samples of a line into a row that has room for them.
 fn put_line(f: Format, l: StreamLine, samples: &mut [u16])
     requires { ⌜ isKnown f ≡ true ⌝ }
     requires { ⌜ length (now samples) ≡ samplesIn (shapeOf f) ⌝ }
     ensures { λ _. ⌜ now (samples .exit) ≡ testSamples f (l .0) ⌝ }
 {
-    if line::stream::is_active(l) {
-        let mut row = [0u16; 3840];
-        let mut first = [0u16; 1920];
-        let mut second = [0u16; 1920];
-        put_picture(f, l, &mut row, &mut first, &mut second, samples);
-        return;
-    }
-    span::blanking::fill_blanking(f, samples);
+    let mut row = [0u16; 3840];
+    let mut first = [0u16; 1920];
+    let mut second = [0u16; 1920];
+    let mut shown = [0u16; 7680];
+    let mut blanking = [0u16; 7680];
+    let n = samples.len();
+    put_chosen(
+        f,
+        l,
+        &mut row,
+        &mut first,
+        &mut second,
+        &mut shown[..n],
+        &mut blanking[..n],
+        samples,
+    );
 }
 
 // The samples of a stream line, stream by stream.

@@ -25,14 +25,17 @@ fn main() {
     let (low, high) = all.split_at(MOST);
     let legal = [xyz(false, false), xyz(false, true), xyz(true, false), xyz(true, true)];
     let near: Vec<u8> = legal.iter().flat_map(|word| (0..16).map(move |bit| word ^ 1 << bit)).flat_map(u16::to_le_bytes).collect();
-    let inputs: [(&str, &[u8]); 9] = [
+    let inputs: [(&str, &[u8]); 12] = [
         ("nothing", &[]),
         ("one byte", &[1]),
         ("the paper's example", &[1, 8, 3, 8]),
         ("an odd last byte", &[1, 8, 3, 8, 0]),
-        ("every word below 8000", low),
+        ("every word below 8000, which are 64 KiB", low),
         ("every word from 8000 on", high),
+        ("a word short of 64 KiB", &low[..MOST - 2]),
         ("a byte short of 64 KiB", &low[..MOST - 1]),
+        ("a byte past 64 KiB", &all[..MOST + 1]),
+        ("a word past 64 KiB", &all[..MOST + 2]),
         ("past 64 KiB", &all),
         ("legal words with each bit inverted", &near),
     ];

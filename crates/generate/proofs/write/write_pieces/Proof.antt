@@ -1,14 +1,16 @@
--- `generate::write::write_pieces` is safe and ends: there is a span less to send after each turn, and what is left may be sent.
+-- `generate::write::write_pieces` meets its contract: there is a span less to send after each turn, what is left may be sent, and the
+-- disparity after all of it stays the same.
 -- Assumes nothing.
 use mathlib.Core.Path.{_≡_, refl, sym, ap, subst, _∙_}
-use Prim.Native.Nat.{_*_}
+use Prim.Native.Nat.{_*_, _<_}
 use native.Mathlib.Omega.{arith}
 use borrow.Author.Needs.{needs}
 use lib.ListN.{length}
 use Rattle.span.specs.declared.format.Format.{Format}
 use Rattle.span.specs.Format.{shapeOf, samplesIn, symbolsIn}
 use Rattle.generate.specs.declared.left.Left.{Left}
-use Rattle.generate.specs.Pieces.{Ready}
+use Rattle.generate.specs.Pieces.{Ready, afterLeft}
+use Rattle.generate.proofs.Lefts.{after-next, after-none}
 use Rattle.generate.proofs.Ready.{next-ready}
 use Rattle.generate.proofs.write.write_pieces.Statement.{statement}
 use Rattle.generate.proofs.write.write_pieces.Tie as tie
@@ -20,12 +22,13 @@ Inv-loop samples₀ symbols₀ out₀ s₀ samples symbols out s =
     × (length samples ≡ length samples₀)
     × (length symbols ≡ length symbols₀)
     × (length out ≡ length out₀)
+    × (afterLeft s ≡ afterLeft s₀)
 
 abbrev μ-loop : tie.MeasureT-loop
 μ-loop samples₀ symbols₀ out₀ s₀ samples symbols out s = s .count
 
 loop-holds : tie.Need-loop-holds Inv-loop μ-loop
-loop-holds c = (c .before .before .before .pre .0, refl, refl, refl, refl)
+loop-holds c = (c .before .before .before .pre .0, refl, refl, refl, refl, refl)
 
 put-next-requires : tie.Need-put-next-requires Inv-loop μ-loop
 put-next-requires c κs =
@@ -35,7 +38,7 @@ put-next-requires c κs =
     let same = sym (v .inv .1) in (
       v .inv .0,
       (
-        t .if1 .taken,
+        omega (arith, t .if1 .taken),
         (
           v .inv .2 ∙ pre .1 .0 ∙ ap (λ (f : Format). samplesIn (shapeOf f)) same,
           (
@@ -78,12 +81,14 @@ loop-again c =
     let p = c .before .before .before .before .before .before .before .before .before in
     let t = p .before .before .before .before in
     let v = t .before .before .loop in
-    let next = p .put-next .ensures .0 in (
-      subst Ready (sym next) (next-ready (v .s) (v .inv .0) (t .if1 .taken)),
+    let next = p .put-next .ensures .0 in
+    let some : 0 < v .s .count = omega (arith, t .if1 .taken) in (
+      subst Ready (sym next) (next-ready (v .s) (v .inv .0) some),
       ap (λ (s : Left). s .format) next ∙ v .inv .1,
       c .before .before .before .before .before .before .before .before .samples .given ∙ v .inv .2,
       c .before .before .before .before .before .before .symbols .given ∙ v .inv .3,
       c .before .before .before .before .out .given ∙ v .inv .4,
+      ap afterLeft next ∙ after-next (v .s) some ∙ v .inv .5,
     )
 
 same-length-4 : tie.Need-same-length-4 Inv-loop μ-loop
@@ -96,7 +101,10 @@ same-length-6 : tie.Need-same-length-6 Inv-loop μ-loop
 same-length-6 c = c .before .before .loop .inv .4
 
 returns-2 : tie.Need-returns-2 Inv-loop μ-loop
-returns-2 c = search needs
+returns-2 c =
+    let v = c .before .before .loop in
+    let none : v .s .count ≡ 0 = omega (arith, c .if1 .left) in
+    sym (after-none (v .s) none) ∙ v .inv .5
 
 pub write-pieces-spec : {M : Type 1} → statement M
 write-pieces-spec =

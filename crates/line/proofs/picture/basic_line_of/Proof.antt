@@ -1,12 +1,10 @@
 -- `line::picture::basic_line_of` meets its contract: the test says which case of the definition holds.
 -- Assumes nothing.
-use mathlib.Core.Path.{_≡_, sym, ap, _∙_}
-use mathlib.Core.Bool.{true, false}
-use Prim.Native.Nat.{ℕ, _-_}
+use mathlib.Core.Path.{sym, _∙_}
 use native.Mathlib.Omega.{arith}
 use borrow.Author.Needs.{needs}
-use Rattle.ground.specs.Range.{within}
-use Rattle.ground.proofs.Ranges.{from-low}
+use Rattle.ground.proofs.Ranges.{from-low, to-high, outside}
+use Rattle.line.proofs.Travel.{is-carried, carries-nothing}
 use Rattle.line.proofs.picture.basic_line_of.Statement.{statement}
 use Rattle.line.proofs.picture.basic_line_of.Tie as tie
 
@@ -24,14 +22,14 @@ sub-t4 c =
 returns : tie.Need-returns
 returns c =
     let n = c .before .before .before .args .l .0 in
-    let t : within 42 1121 n ≡ true = sym (c .before .before .is-active .ensures) ∙ c .before .if1 .taken in
-    simp t (ap (λ (m : ℕ). m - 41) (c .number-of .ensures))
+    let t = sym (c .before .before .is-active .ensures) ∙ c .before .if1 .taken in
+    is-carried n (from-low 42 1121 n t) (to-high 42 1121 n t) (omega (arith, c .number-of .ensures, from-low 42 1121 n t))
 
 returns-2 : tie.Need-returns-2
 returns-2 c =
     let n = c .before .before .args .l .0 in
-    let t : within 42 1121 n ≡ false = sym (c .before .is-active .ensures) ∙ c .if1 .left in
-    simp t
+    let t = sym (c .before .is-active .ensures) ∙ c .if1 .left in
+    sym (carries-nothing n (outside 42 1121 n t))
 
 pub basic-line-of-spec : {M : Type 1} → statement M
 basic-line-of-spec = tie.close (tie.spec is-active-requires number-of-requires sub-t4 returns returns-2)

@@ -1,4 +1,4 @@
--- `crate::summary::put_summary` meets its contract: the tests say whether there is room.
+-- `reception::summary::put_summary` meets its contract: the tests say whether there is room.
 -- Assumes nothing.
 use Prim.Native.Nat.{_≤_, _<_}
 use native.Mathlib.Omega.{arith}

@@ -54,9 +54,9 @@ returns c =
       after-is (a .piece) (a .d) from (sent .send-piece .ensures .0),
       (
         heard-is (a .k) (a .piece) (pre .0) (a .d) from (sent .send-piece .ensures .1) (struck .strike .ensures) (a .heard .now) (a .picture .now)
-            (pre .1 .1 .1 .0) (pre .1 .1 .1 .1) (received .receive .ensures .0),
+            (pre .1 .1 .1 .0) (pre .1 .1 .1 .1) (received .receive .ensures .1 .0),
         picture-is (a .k) (a .piece) (pre .0) (a .d) from (sent .send-piece .ensures .1) (struck .strike .ensures) (a .heard .now) (a .picture .now)
-            (pre .1 .1 .1 .0) (pre .1 .1 .1 .1) (received .receive .ensures .1),
+            (pre .1 .1 .1 .0) (pre .1 .1 .1 .1) (received .receive .ensures .1 .1),
       ),
     )
 
