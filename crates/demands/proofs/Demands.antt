@@ -14,6 +14,8 @@ use Rattle.ground.specs.Written.{upto}
 use Rattle.ground.proofs.Answers.{given-is, when-given}
 use Rattle.symbol.specs.declared.disparity.Disparity.{Disparity}
 use Rattle.symbol.proofs.Paper.{symbol-paper}
+use Rattle.line.proofs.Paper.{line-paper}
+use Rattle.picture.proofs.Paper.{picture-paper}
 use Rattle.word.proofs.Paper.{word-paper}
 use Rattle.crcc.proofs.Paper.{crcc-paper}
 use Rattle.packing.proofs.Paper.{packing-paper}
@@ -151,9 +153,11 @@ module _ (f : Format) (known : IsFormat f) (l : ℕ) (content : Content) (sample
 pub demand-2 : Demand2
 demand-2 = record {
   published = symbol-paper;
+  lines = line-paper;
   words = word-paper;
   crcc = crcc-paper;
   packing = packing-paper;
+  pictures = picture-paper;
   spans = span-paper;
   code = decodes;
   sent = as-asked;

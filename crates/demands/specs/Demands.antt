@@ -12,6 +12,8 @@ use Rattle.ground.specs.Bit.{inverted}
 use Rattle.symbol.specs.declared.disparity.Disparity.{Disparity}
 use Rattle.symbol.specs.Character.{characterOf}
 use Rattle.symbol.specs.Paper.{SymbolPaper}
+use Rattle.line.specs.Paper.{LinePaper}
+use Rattle.picture.specs.Paper.{PicturePaper}
 use Rattle.word.specs.Paper.{WordPaper}
 use Rattle.crcc.specs.Paper.{CrccPaper}
 use Rattle.packing.specs.Paper.{PackingPaper}
@@ -60,8 +62,10 @@ use Rattle.demands.specs.Form.{rule, Tried, Lent, Rows, Sending, WasSent
 
 -- Every public call ends with a defined answer for all input. A bad call, and no good one, returns its refusal number, that of the first
 -- rule of the table that applies, and touches no lent buffer; a refused span returns its number and place and leaves its rows all zero.
--- What is good is stated in document 01's own numbers (`Rules`). A call that is not named here refuses nothing: the disparity before a fresh signal, encoding a character, the tables, a timing word, the CRCC words of a register,
--- three bytes as words, the choice between two rows, and making a reader of a recording and asking its place.
+-- What is good is stated in document 01's own numbers (`Rules`). These are all calls of the library that refuse. The others refuse nothing:
+-- the disparity before a fresh signal, encoding a character, the tables, a timing word, the line on which a line travels and back, the CRCC
+-- words of a register, three bytes as words, the choice between two rows, and making a reader of a recording and asking its place. What the
+-- programs are made of (the test picture, the link with a plug, the receiving end) refuses by its own contracts, as these calls do.
 pub record Demand1 : Type 0 where
   -- the meaning of a symbol: 7
   pub meaning : (s : ℕ) → Tried (meaningOf s) (meaningRules s)
@@ -158,13 +162,15 @@ pub record Delivers (f : Format) (l : ℕ) (content : Content) (samples words : 
 
 -- What is sent is, symbol for symbol, the standard; what is received is read by the same rules, down to the repair of one wrong bit in a
 -- timing word and the refusal of two. Dividing and joining a picture puts each sample back.
-pub record Demand2 : Type 0 where
-  -- the definitions have the papers' own numerals: the published symbols, document 01's values of words, the CRCC by long division, ABC and
-  -- DEF as BC FA DE, and which word, character and symbol stands at each place of a span
+pub record Demand2 : Type 1 where
+  -- the definitions have the papers' own numerals: the published symbols, the lines, document 01's values of words, the CRCC by long division,
+  -- ABC and DEF as BC FA DE, how a picture is divided, and which word, character and symbol stands at each place of a span
   pub published : SymbolPaper
+  pub lines : LinePaper
   pub words : WordPaper
   pub crcc : CrccPaper
   pub packing : PackingPaper
+  pub pictures : PicturePaper
   pub spans : SpanPaper
   -- a character's symbol is decoded to that character
   pub code :

@@ -1,24 +1,15 @@
 -- What holds of lines, proved: each field cites the law that says it.
 -- Assumes nothing.
 use Rattle.line.specs.Laws.{LineLaws}
-use Rattle.line.proofs.Lines.{active, blanking-before, blanking-behind, after-last, before-first, after-is-line, before-is-line, before-after, after-before, line-one-to-one}
-use Rattle.line.proofs.Travel.{travels, travels-nowhere, carries, carries-nothing, there-and-back, back-and-there, picture-one-to-one, travels-one-to-one, carries-one-to-one}
+use Rattle.line.proofs.Lines.{after-is-line, before-is-line, before-after, after-before, line-one-to-one}
+use Rattle.line.proofs.Travel.{there-and-back, back-and-there, picture-one-to-one, travels-one-to-one, carries-one-to-one}
 
 pub line-laws : LineLaws
 line-laws = record {
-  active = active;
-  blankingBefore = blanking-before;
-  blankingAfter = blanking-behind;
-  afterLast = after-last;
-  beforeFirst = before-first;
   afterIsLine = after-is-line;
   beforeIsLine = before-is-line;
   beforeAfter = before-after;
   afterBefore = after-before;
-  travels = travels;
-  travelsNowhere = travels-nowhere;
-  carries = carries;
-  carriesNothing = carries-nothing;
   thereAndBack = there-and-back;
   backAndThere = back-and-there;
   streamLineTold = line-one-to-one;

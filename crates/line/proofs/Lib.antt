@@ -1,3 +1,4 @@
 pub mod Laws
 pub mod Lines
+pub mod Paper
 pub mod Travel

@@ -1,3 +1,4 @@
 pub mod Laws
+pub mod Paper
 pub mod Picture
 pub mod Stream

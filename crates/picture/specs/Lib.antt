@@ -1,4 +1,5 @@
 pub mod Choice
 pub mod Division
 pub mod Laws
+pub mod Paper
 pub mod Place
