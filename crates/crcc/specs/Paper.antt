@@ -8,9 +8,9 @@ use Rattle.crcc.specs.declared.crcc.CrccWords.{CrccWords}
 use Rattle.crcc.specs.Crcc.{crccWords, crccOf}
 
 -- the two words of a run of words
-abbrev pub wordsFor : Answer ℕ → Answer CrccWords
-wordsFor (refused number place) = refused number place
-wordsFor (given c) = given (crccWords c)
+abbrev pub asWords : Answer ℕ → Answer CrccWords
+asWords (refused number place) = refused number place
+asWords (given c) = given (crccWords c)
 
 infixl 20 _then_
 abbrev _then_ : ℕ → ℕ → Answer CrccWords
@@ -20,7 +20,7 @@ pub record CrccPaper : Type 0 where
   -- the remainders of X^18 M for runs of one, two and three words, M from the lowest bit of the first word on: by a program that shares
   -- nothing with the definitions (rust/plain divides; so does any long division by X^18 + X^5 + X^4 + 1 on paper)
   pub longDivision :
-      map (λ (ws : List ℕ). wordsFor (crccOf ws))
+      map (λ (ws : List ℕ). asWords (crccOf ws))
       ((0x001 ∷ [])
       ∷ (0x100 ∷ [])
       ∷ (0x800 ∷ [])

@@ -34,7 +34,7 @@ use Rattle.recording.specs.Steps.{runFrom}
 use Rattle.span.specs.Numbers.{IsFormat, Symbols, Samples}
 use Rattle.request.specs.Send.{request, sendOf, sentBuffer}
 use Rattle.demands.specs.Demands.{IsRow}
-use Rattle.demands.specs.Examples.{lowest, onLine42, blankLine, threeLines, IsNext, At, Examples}
+use Rattle.demands.specs.Examples.{lowestSample, onLine42, blankLine, threeLines, IsNext, At, Examples}
 use Rattle.demands.specs.Form.{MaySend, Sending, WasSent, sentSymbols, readingOf, spanFound, onward, stepsFrom, DeliveredFrom}
 use Rattle.demands.proofs.Demands.{demand-1, demand-3}
 use Rattle.demands.proofs.Refusing.{known-says, symbols-say, samples-say}
@@ -66,17 +66,17 @@ nothing-added (some s) words more x = let z : _≡_ {A = ℕ} 0 1 = cc x in absu
 
 module _ (f : Format) (n m : ℕ) (known : IsFormat f) (symbols : Symbols f n) (samples : Samples f m) where
   -- the lowest sample may be sent
-  at-ten : f .depth ≡ 10 → lowest f ≡ 4
+  at-ten : f .depth ≡ 10 → lowestSample f ≡ 4
   at-ten e = simp (eq-eqb (f .depth) 10 e)
 
-  at-twelve : f .depth ≡ 12 → lowest f ≡ 16
+  at-twelve : f .depth ≡ 12 → lowestSample f ≡ 16
   at-twelve e = simp (ne-eqb (f .depth) 10 (λ z. omega arith))
 
-  row : IsRow f (replicate 3840 (lowest f))
+  row : IsRow f (replicate 3840 (lowestSample f))
   row = record {
-    long = length-replicate 3840 (lowest f);
-    ten = λ e i h. rw (getD-replicate 3840 i (lowest f) 0 h) (omega (arith, at-ten e), omega (arith, at-ten e));
-    twelve = λ e i h. rw (getD-replicate 3840 i (lowest f) 0 h) (omega (arith, at-twelve e), omega (arith, at-twelve e));
+    long = length-replicate 3840 (lowestSample f);
+    ten = λ e i h. rw (getD-replicate 3840 i (lowestSample f) 0 h) (omega (arith, at-ten e), omega (arith, at-ten e));
+    twelve = λ e i h. rw (getD-replicate 3840 i (lowestSample f) 0 h) (omega (arith, at-twelve e), omega (arith, at-twelve e));
   }
 
   -- a call of a line with as many samples as a span has, equal to one that may be sent there, is answered (demand 1)
@@ -97,7 +97,7 @@ module _ (f : Format) (n m : ℕ) (known : IsFormat f) (symbols : Symbols f n) (
         content = record { sav1 = omega arith; sav2 = omega arith; eav1 = omega arith; eav2 = omega arith };
       }
 
-  lowest-may : MaySend f 42 (lowest f)
+  lowest-may : MaySend f 42 (lowestSample f)
   lowest-may = record {
     ten = λ e _ _. (omega (arith, at-ten e), omega (arith, at-ten e));
     twelve = λ e _ _. (omega (arith, at-twelve e), omega (arith, at-twelve e));
@@ -105,7 +105,7 @@ module _ (f : Format) (n m : ℕ) (known : IsFormat f) (symbols : Symbols f n) (
   }
 
   sent-42 : (d : Disparity) → WasSent f (onLine42 f m d)
-  sent-42 d = answered d 42 (lowest f) (omega arith) (omega arith) lowest-may
+  sent-42 d = answered d 42 (lowestSample f) (omega arith) (omega arith) lowest-may
 
   sent-blank : (line : ℕ) → 1 ≤ line → line ≤ 41 → WasSent f (blankLine m line)
   sent-blank line p q =
@@ -183,7 +183,7 @@ module _ (f : Format) (n m : ℕ) (known : IsFormat f) (symbols : Symbols f n) (
       length-upto 1920 (picture f (x .asked)) (length-picture f (x .asked)) (streams (shapeOf f)) ∙ sym m-is
 
   -- the words of line 42 are 16
-  lowest-word : (t : ℕ) → sampleWord f 42 t (lowest f) ≡ 16
+  lowest-word : (t : ℕ) → sampleWord f 42 t (lowestSample f) ≡ 16
   unfolding within
   lowest-word t =
       ⊎-elim
@@ -191,17 +191,17 @@ module _ (f : Format) (n m : ℕ) (known : IsFormat f) (symbols : Symbols f n) (
       (λ e. ap (sampleWord f 42 t) (at-twelve e) ∙ simp (ne-eqb (f .depth) 10 (λ z. omega arith)))
       (known .2)
 
-  dark-word : (t j : ℕ) → j < 1920 → 1920 * t + j < m → getD (picture f (request 42 NoneNamed (replicate m (lowest f))) t) j 0 ≡ 16
+  dark-word : (t j : ℕ) → j < 1920 → 1920 * t + j < m → getD (picture f (request 42 NoneNamed (replicate m (lowestSample f))) t) j 0 ≡ 16
   unfolding picture
   dark-word t j h inside =
-      getD-table 1920 (λ k. sampleWord f 42 t (getD (replicate m (lowest f)) (1920 * t + k) 0)) j 0 h
-      ∙ ap (sampleWord f 42 t) (getD-replicate m (1920 * t + j) (lowest f) 0 inside)
+      getD-table 1920 (λ k. sampleWord f 42 t (getD (replicate m (lowestSample f)) (1920 * t + k) 0)) j 0 h
+      ∙ ap (sampleWord f 42 t) (getD-replicate m (1920 * t + j) (lowestSample f) 0 inside)
       ∙ lowest-word t
 
   dark : (d : Disparity) → readingOf f (onLine42 f m d) .words ≡ replicate m 16
   dark d =
       let s = streams (shapeOf f) in
-      let a = request 42 NoneNamed (replicate m (lowest f)) in
+      let a = request 42 NoneNamed (replicate m (lowestSample f)) in
       let words = upto s (picture f a) in
       let long : length words ≡ m = as-many-words (onLine42 f m d) in
       ext-getD 0 words (replicate m 16) (long ∙ sym (length-replicate m 16))
@@ -322,18 +322,18 @@ module _ (f : Format) (n m : ℕ) (known : IsFormat f) (symbols : Symbols f n) (
   -- ---- a sample that may not be sent
   module _ (d : Disparity) (i : ℕ) (entry : List ℕ) (h : i < m) (room : length entry ≡ n) where
     abbrev wrong : Request
-    wrong = request 42 NoneNamed (set (replicate m (lowest f)) i 3)
+    wrong = request 42 NoneNamed (set (replicate m (lowestSample f)) i 3)
 
     abbrev given-there : ℕ → ℕ
     given-there k = getD (wrong .samples) k 0
 
     size : length (wrong .samples) ≡ m
-    size = length-set (replicate m (lowest f)) i 3 ∙ length-replicate m (lowest f)
+    size = length-set (replicate m (lowestSample f)) i 3 ∙ length-replicate m (lowestSample f)
 
     -- at its index, and at no other, is a sample that may not be sent
     not-there : MaySend f 42 (given-there i) → ⊥
     not-there may =
-        let three : given-there i ≡ 3 = getD-set-same (replicate m (lowest f)) i 3 0 (omega (arith, length-replicate m (lowest f))) in
+        let three : given-there i ≡ 3 = getD-set-same (replicate m (lowestSample f)) i 3 0 (omega (arith, length-replicate m (lowestSample f))) in
         ⊎-elim
         (λ e. absurd (omega (arith, may .ten e (omega arith) (omega arith) .0, three)))
         (λ e. absurd (omega (arith, may .twelve e (omega arith) (omega arith) .0, three)))
@@ -341,7 +341,7 @@ module _ (f : Format) (n m : ℕ) (known : IsFormat f) (symbols : Symbols f n) (
 
     elsewhere : (k : ℕ) → k < m → (k ≡ i → ⊥) → MaySend f 42 (given-there k)
     elsewhere k b other =
-        let same : given-there k ≡ lowest f = getD-set-other (replicate m (lowest f)) i k 3 0 other ∙ getD-replicate m k (lowest f) 0 b in
+        let same : given-there k ≡ lowestSample f = getD-set-other (replicate m (lowestSample f)) i k 3 0 other ∙ getD-replicate m k (lowestSample f) 0 b in
         rw same lowest-may
 
     refused-6 : (sendOf d f wrong n ≡ refused 6 i) × (sentBuffer d f wrong entry ≡ entry)

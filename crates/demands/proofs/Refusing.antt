@@ -113,10 +113,6 @@ both {a} {b} x y = record {
   holds = λ g. rw (x .holds (g .0)) (y .holds (g .1));
 }
 
--- a test as it stands
-pub as-is : (b : Bool) → Reflects b (b ≡ true)
-as-is b = record { told = λ t. t; holds = λ t. t }
-
 -- some number below n is good
 pub some-below : (n : ℕ) (p : ℕ → Bool) {Good : ℕ → Type 0} → ((k : ℕ) → Reflects (p k) (Good k))
     → Reflects (isSome (firstBelow n p)) ((k : ℕ) × (k < n) × Good k)

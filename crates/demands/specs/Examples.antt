@@ -30,12 +30,12 @@ use Rattle.demands.specs.Demands.{IsRow}
 use Rattle.demands.specs.Form.{Sending, WasSent, sentSymbols}
 
 -- the lowest sample that may be sent: 4 at ten bits, 16 at twelve. Its word is 16 either way.
-abbrev pub lowest : Format → ℕ
-lowest f = cond (eqb (f .depth) 10) 4 16
+abbrev pub lowestSample : Format → ℕ
+lowestSample f = cond (eqb (f .depth) 10) 4 16
 
 -- a span of n symbols and m samples on line 42, the first of the picture, every sample the lowest; and one on a blanking line
 abbrev pub onLine42 : Format → ℕ → Disparity → Sending
-onLine42 f m d = record { before = d; asked = request 42 NoneNamed (replicate m (lowest f)) }
+onLine42 f m d = record { before = d; asked = request 42 NoneNamed (replicate m (lowestSample f)) }
 
 abbrev pub blankLine : ℕ → ℕ → Sending
 blankLine m line = record { before = Negative; asked = request line NoneNamed (replicate m 0x100) }
@@ -61,7 +61,7 @@ withXyz f m d x =
 -- at format f, where a span has n symbols and m samples
 pub record At (f : Format) (n m : ℕ) : Type 0 where
   -- a row of the picture, and calls that were sent
-  pub row : IsRow f (replicate 3840 (lowest f))
+  pub row : IsRow f (replicate 3840 (lowestSample f))
   pub sent42 : (d : Disparity) → WasSent f (onLine42 f m d)
   pub sentBlank : (line : ℕ) → 1 ≤ line → line ≤ 41 → WasSent f (blankLine m line)
   -- a sent span among noise, less than a span of it before and after: the calls answer it at its place, with its line and words, and then
@@ -102,7 +102,7 @@ pub record At (f : Format) (n m : ℕ) : Type 0 where
       (d : Disparity) (i : ℕ) (entry : List ℕ)
       → i < m
       → length entry ≡ n
-      → let a = request 42 NoneNamed (set (replicate m (lowest f)) i 3) in
+      → let a = request 42 NoneNamed (set (replicate m (lowestSample f)) i 3) in
       (sendOf d f a n ≡ refused 6 i) × (sentBuffer d f a entry ≡ entry)
 
 pub record Examples : Type 0 where

@@ -7,7 +7,7 @@ mod input;
 use frame::Written;
 use libc::STDIN_FILENO;
 use libc::STDOUT_FILENO;
-use reception::summary::Summed;
+use reception::summary::Summarised;
 use rig::knock::Knock;
 
 // Opens the file that the first argument names, or loopback.pgm, anew; below 0 if it cannot be opened, which is reported.
@@ -35,7 +35,7 @@ fn open_picture() -> i32 {
 // What was lost, as text.
 fn print_summary(heard: &[u16]) {
     let mut text = [0u8; 128];
-    if let Summed::Bytes(end) = reception::summary::put_summary(heard, &mut text) {
+    if let Summarised::Bytes(end) = reception::summary::put_summary(heard, &mut text) {
         io::write_all(STDOUT_FILENO, &text[..end]);
     }
 }

@@ -41,7 +41,7 @@ use Rattle.read_test21_26.specs.Inside.Call.{serviceOf, judgedBy, serviceIf, lo
 use Rattle.read_test21_26.specs.Inside.Verdict.{firstRow}
 use Rattle.window.specs.Inside.Window.{IsWindow}
 use Rattle.window.proofs.Windows.{long, read-is}
-use Rattle.read.specs.Inside.Picture.{lineTests, pictureTests, wrongAt}
+use Rattle.read.specs.Inside.Picture.{lineTests, pictureTests, wrongPlace}
 use Rattle.read.proofs.Summing.{sums-right}
 use Rattle.read.proofs.Verdicts.{answerBy, checked-by, thenBy, then-by, in-range}
 
@@ -69,7 +69,7 @@ module _ (f : Format) (w : List ℕ) (is : IsWindow f w) where
       (ap (λ (rs : List Row). judgedBy (firstRow rs) (serviceOf p w))
       (sums-right p w (known-has-streams f (is .known)) (small f refl .half) f refl))
 
-  pub lowest-is : (number : ℕ) → lowestIf number f w ≡ lowestOf (wrongAt number f w)
+  pub lowest-is : (number : ℕ) → lowestIf number f w ≡ lowestOf (wrongPlace number f w)
   lowest-is number = rw (is .known, long)
 
   -- ---- test 20

@@ -13,7 +13,7 @@ ghost use Rattle.window.specs.Inside.Fill.{fillRight};
 ghost use Rattle.read_test21_26.specs.declared.service.Verdict.the-variants.{AllHold};
 ghost use Rattle.read_test21_26.specs.Inside.Verdict.{verdictOf, firstRow};
 ghost use Rattle.window.specs.Inside.Window.{IsWindow};
-ghost use Rattle.read.specs.Inside.Picture.{pictureTests, wrongAt, rightPicture};
+ghost use Rattle.read.specs.Inside.Picture.{pictureTests, wrongPlace, rightPicture};
 
 // Whether every word of the picture may be a sample's; on a blanking line any word may.
 fn picture_is_right(f: Format, line: StreamLine, rows: &[u16]) -> bool
@@ -28,7 +28,7 @@ fn picture_is_right(f: Format, line: StreamLine, rows: &[u16]) -> bool
 // A test whose lowest place is searched for. The lengths were judged before, so it is a window.
 fn verdict_at(number: u8, f: Format, symbols: &[u16]) -> Verdict
     requires { ⌜ IsWindow f (now symbols) ⌝ }
-    ensures { λ r. ⌜ r ≡ verdictOf number (wrongAt number f (now (symbols .entry))) AllHold ⌝ }
+    ensures { λ r. ⌜ r ≡ verdictOf number (wrongPlace number f (now (symbols .entry))) AllHold ⌝ }
 {
     match read_test21_26::call::lowest_place(number, f, symbols) {
         Lowest::Place(place) => Verdict::Fails(Fault { number, place }),

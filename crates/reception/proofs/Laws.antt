@@ -11,5 +11,5 @@ reception-laws = record {
   sums = sums;
   summaryMeets3 = summary-meets-3;
   summaryMeets4 = summary-meets-4;
-  summedTold = summed-one-to-one;
+  summarisedTold = summed-one-to-one;
 }

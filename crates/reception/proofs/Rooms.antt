@@ -12,38 +12,38 @@ use Rattle.io.specs.Counts.{Counts}
 use Rattle.ground.specs.Answer.{Answer, refused, given}
 use Rattle.ground.specs.Inside.Answer.{Injective}
 use Rattle.ground.proofs.Answers.{told-again, when-refused, when-given}
-use Rattle.reception.specs.declared.summary.Summed.{Summed}
-use Rattle.reception.specs.declared.summary.Summed.the-variants.{Bytes, WrongInput, WrongOutput}
-use Rattle.reception.specs.Summary.{summary, paperSummed, summedOf, summaryPut, CountsIn}
+use Rattle.reception.specs.declared.summary.Summarised.{Summarised}
+use Rattle.reception.specs.declared.summary.Summarised.the-variants.{Bytes, WrongInput, WrongOutput}
+use Rattle.reception.specs.Summary.{summary, paperSummarised, summarisedOf, summaryPut, CountsIn}
 
 -- the numbers tell the answers apart
-abbrev summedAgain : Answer ℕ → Summed
+abbrev summedAgain : Answer ℕ → Summarised
 summedAgain (refused number place) = cond (eqb number 3) WrongInput WrongOutput
 summedAgain (given n) = Bytes n
 
-pub summed-one-to-one : Injective paperSummed
+pub summed-one-to-one : Injective paperSummarised
 summed-one-to-one = told-again summedAgain again
   where
-    again : (r : Summed) → summedAgain (paperSummed r) ≡ r
+    again : (r : Summarised) → summedAgain (paperSummarised r) ≡ r
     again (Bytes n) = refl
     again WrongInput = refl
     again WrongOutput = refl
 
 module _ (heard : List ℕ) (out : ℕ) where
-  pub summary-meets-3 : (length heard ≡ 1125 → ⊥) → summedOf heard out ≡ refused 3 0
+  pub summary-meets-3 : (length heard ≡ 1125 → ⊥) → summarisedOf heard out ≡ refused 3 0
   summary-meets-3 x = simp (ne-eqb (length heard) 1125 x)
 
   module _ (frame : length heard ≡ 1125) where
-    pub summary-meets-4 : out < 128 → summedOf heard out ≡ refused 4 0
+    pub summary-meets-4 : out < 128 → summarisedOf heard out ≡ refused 4 0
     summary-meets-4 h = simp (eq-eqb (length heard) 1125 frame, lt-leb 128 out h)
 
-    pub sums : 128 ≤ out → summedOf heard out ≡ given (length (summary heard))
+    pub sums : 128 ≤ out → summarisedOf heard out ≡ given (length (summary heard))
     sums h = simp (eq-eqb (length heard) 1125 frame, le-leb 128 out h)
 
 module _ (heard out : List ℕ) where
   -- what the call promises
-  abbrev Promised : Summed → List ℕ → Type 0
-  Promised r after = CountsIn r after × ((paperSummed r ≡ summedOf heard (length out)) × (after ≡ summaryPut heard out))
+  abbrev Promised : Summarised → List ℕ → Type 0
+  Promised r after = CountsIn r after × ((paperSummarised r ≡ summarisedOf heard (length out)) × (after ≡ summaryPut heard out))
 
   pub no-frame : (length heard ≡ 1125 → ⊥) → Promised WrongInput out
   no-frame x = let e = summary-meets-3 heard (length out) x in (tt, (sym e, when-refused out (sets out 0 (summary heard)) e))

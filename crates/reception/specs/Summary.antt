@@ -12,8 +12,8 @@ use Rattle.ground.specs.Search.{firstBelow}
 use Rattle.io.specs.Counts.{Counts}
 use Rattle.text.specs.Number.{decimal}
 use Rattle.text.specs.Put.{newline}
-use Rattle.reception.specs.declared.summary.Summed.{Summed}
-use Rattle.reception.specs.declared.summary.Summed.the-variants.{Bytes, WrongInput, WrongOutput}
+use Rattle.reception.specs.declared.summary.Summarised.{Summarised}
+use Rattle.reception.specs.declared.summary.Summarised.the-variants.{Bytes, WrongInput, WrongOutput}
 
 -- flags, one for each line from line 1 on: 0 for a lost line
 abbrev pub isLost : List ℕ → ℕ → Bool
@@ -72,20 +72,20 @@ summary heard =
 -- ---- the call
 
 -- the paper's number for each answer
-abbrev pub paperSummed : Summed → Answer ℕ
-paperSummed (Bytes n) = given n
-paperSummed WrongInput = refused 3 0
-paperSummed WrongOutput = refused 4 0
+abbrev pub paperSummarised : Summarised → Answer ℕ
+paperSummarised (Bytes n) = given n
+paperSummarised WrongInput = refused 3 0
+paperSummarised WrongOutput = refused 4 0
 
 -- 3 if these are not the flags of a frame's 1,125 lines, then 4 if there is no room for 128 bytes; otherwise how many bytes were put
-abbrev pub summedOf : List ℕ → ℕ → Answer ℕ
-summedOf heard out = checked (unless 3 (eqb (length heard) 1125) ∷ unless 4 (leb 128 out) ∷ []) (length (summary heard))
+abbrev pub summarisedOf : List ℕ → ℕ → Answer ℕ
+summarisedOf heard out = checked (unless 3 (eqb (length heard) 1125) ∷ unless 4 (leb 128 out) ∷ []) (length (summary heard))
 
 abbrev pub summaryPut : List ℕ → List ℕ → List ℕ
-summaryPut heard out = unlessRefused (summedOf heard (length out)) out (sets out 0 (summary heard))
+summaryPut heard out = unlessRefused (summarisedOf heard (length out)) out (sets out 0 (summary heard))
 
 -- so many bytes there are in the buffer
-abbrev pub CountsIn : Summed → List ℕ → Type 0
+abbrev pub CountsIn : Summarised → List ℕ → Type 0
 CountsIn (Bytes n) out = Counts n out
 CountsIn WrongInput out = Unit
 CountsIn WrongOutput out = Unit

@@ -4,9 +4,9 @@ ghost use Prim.Native.Nat.{_+_, _≤_};
 ghost use lib.ListN.{length};
 ghost use lib.Seq.{sets};
 ghost use Rattle.io.specs.Counts.{Counts};
-ghost use Rattle.reception.specs.Summary.{delivered, firstLost, lastLost, item, which, summary, paperSummed, summedOf, summaryPut, CountsIn};
+ghost use Rattle.reception.specs.Summary.{delivered, firstLost, lastLost, item, which, summary, paperSummarised, summarisedOf, summaryPut, CountsIn};
 
-pub enum Summed {
+pub enum Summarised {
     Bytes(usize),
     // 3: these are not the flags of a frame's 1,125 lines.
     WrongInput,
@@ -108,16 +108,16 @@ fn put_all(heard: &[u16], out: &mut [u8]) -> usize
 }
 
 // The summary of a frame's flags, from the start of a lent buffer on; answers how many bytes were put. A refusal leaves the buffer.
-pub fn put_summary(heard: &[u16], out: &mut [u8]) -> Summed
+pub fn put_summary(heard: &[u16], out: &mut [u8]) -> Summarised
     ensures counts { λ r. ⌜ CountsIn r (now (out .exit)) ⌝ }
-    ensures answer { λ r. ⌜ paperSummed r ≡ summedOf (now (heard .entry)) (length (now (out .entry))) ⌝ }
+    ensures answer { λ r. ⌜ paperSummarised r ≡ summarisedOf (now (heard .entry)) (length (now (out .entry))) ⌝ }
     ensures written { λ _. ⌜ now (out .exit) ≡ summaryPut (now (heard .entry)) (now (out .entry)) ⌝ }
 {
     if heard.len() != 1125 {
-        return Summed::WrongInput;
+        return Summarised::WrongInput;
     }
     if out.len() < 128 {
-        return Summed::WrongOutput;
+        return Summarised::WrongOutput;
     }
-    Summed::Bytes(put_all(heard, out))
+    Summarised::Bytes(put_all(heard, out))
 }

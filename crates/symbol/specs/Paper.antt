@@ -15,34 +15,34 @@ use Rattle.symbol.specs.Character.{numberOf}
 use Rattle.symbol.specs.Code.{reversed, symbolOf}
 
 -- a row of a published table: the bits abcdei fghj of a character at negative and at positive disparity, a on the left
-pub record Row : Type 0 where
+pub record Printed : Type 0 where
   pub negative : ℕ
   pub positive : ℕ
 
 -- the same of a character's symbols, whose lowest bit is a
-abbrev pub rowOf : ℕ → Row
-rowOf c = record { negative = reversed 10 (symbolOf Negative c); positive = reversed 10 (symbolOf Positive c) }
+abbrev pub printedOf : ℕ → Printed
+printedOf c = record { negative = reversed 10 (symbolOf Negative c); positive = reversed 10 (symbolOf Positive c) }
 
 -- Dx.y and Kx.y
-abbrev pub d : ℕ → ℕ → Row
-d x y = rowOf (32 * y + x)
+abbrev pub d : ℕ → ℕ → Printed
+d x y = printedOf (32 * y + x)
 
-abbrev pub k : Special → Row
-k special = rowOf (numberOf special)
+abbrev pub k : Special → Printed
+k special = printedOf (numberOf special)
 
 infixl 20 _is_
-abbrev _is_ : ℕ → ℕ → Row
+abbrev _is_ : ℕ → ℕ → Printed
 n is p = record { negative = n; positive = p }
 
 -- each x whose six bits are not the same at both disparities, and among these each y
-abbrev pub dataRows : List Row
+abbrev pub dataRows : List Printed
 dataRows = d 0 0 ∷ d 1 1 ∷ d 2 2 ∷ d 4 3 ∷ d 7 4 ∷ d 8 5 ∷ d 15 6 ∷ d 16 7 ∷ d 23 0 ∷ d 24 1 ∷ d 27 2 ∷ d 29 3 ∷ d 30 4 ∷ d 31 5 ∷ []
 
 -- the six bytes with the alternate form of .7, at the disparity that takes it and at the other
-abbrev pub alternateRows : List Row
+abbrev pub alternateRows : List Printed
 alternateRows = d 17 7 ∷ d 18 7 ∷ d 20 7 ∷ d 11 7 ∷ d 13 7 ∷ d 14 7 ∷ []
 
-abbrev pub specialRows : List Row
+abbrev pub specialRows : List Printed
 specialRows =
     k «K28_0» ∷ k «K28_1» ∷ k «K28_2» ∷ k «K28_3» ∷ k «K28_4» ∷ k «K28_5» ∷ k «K28_6» ∷ k «K28_7»
     ∷ k «K23_7» ∷ k «K27_7» ∷ k «K29_7» ∷ k «K30_7» ∷ []

@@ -35,8 +35,8 @@ use Rattle.window.specs.Read.{placed, wordTests, spanTests, contentIn, d
 use Rattle.window.specs.Scan.{meant, byteOf, symbolAt, startOf, runningAt, holds20}
 use Rattle.window.specs.Tests.{holds21, lineRead, repairCount, rows}
 use Rattle.window.specs.Words.{fixedByte, byteAt, pairAt, wordAt}
-use Rattle.window.specs.Inside.Encoded.{Restored, Passes, answered}
-use Rattle.window.proofs.Accepting.{Accepted, none-fails, passes}
+use Rattle.window.specs.Inside.Encoded.{Restored, answered}
+use Rattle.window.proofs.Accepting.{none-fails, passes}
 use Rattle.window.proofs.Bytes.{bytes-below, byte-sav, byte-eav, byte-else}
 use Rattle.window.proofs.Characters.{length-chars, char-sav, char-eav, char-byte, chars-below, chars-fit}
 use Rattle.window.proofs.Meeting.{sav-told, eav-told}
@@ -362,11 +362,3 @@ module _ (f : Format) (known : isKnown f ≡ true) (w : List ℕ) (d : Disparity
     pub encoded-picture : pictureOf f w ≡ rows (streams (shapeOf f)) (wordIn words)
     unfolding pictureOf
     encoded-picture = ap (rows (streams (shapeOf f))) (encoded-word f known w d c words e r)
-
-  -- where the words meet the tests, all tests of the window hold
-  pub passes-accepted : Passes f (wordIn words) → Accepted f w
-  passes-accepted m =
-      record {
-        scan = encoded-scan f known w d c words e;
-        words = rw (encoded-word f known w d c words e (restored-told f known words (e .long) (m .timing))) m;
-      }

@@ -7,7 +7,6 @@ use mathlib.Core.Option.{Option, none, some}
 use Prim.Native.Nat.{ℕ, _+_, _*_, _/_, _%_, _≤_, _<_}
 use native.Mathlib.Omega.{arith}
 use lib.Dec.{eqb}
-use borrow.Author.Count.{below-more}
 use borrow.Author.Tests.{eq-eqb, ne-eqb}
 use Rattle.ground.specs.Search.{firstFrom}
 use Rattle.ground.proofs.Cases.{on-test}
@@ -31,18 +30,6 @@ pub record Both (x : TwoWords) : Type 0 where
 pub record Filled (w : List ℕ) (from q : ℕ) : Type 0 where
   pub come : from ≤ q
   pub right : (k : ℕ) → k < q → from ≤ k → Both (plainPair w (3 * k))
-
-pub begin : (w : List ℕ) (from : ℕ) → Filled w from from
-begin w from = record { come = omega arith; right = λ k l h. absurd (omega arith) }
-
-pub turn : {w : List ℕ} {from q : ℕ} {x : TwoWords} → Filled w from q → x ≡ plainPair w (3 * q) → x .a ≡ 0x100 → x .b ≡ 0x100
-    → Filled w from (q + 1)
-turn {w} {from} {q} {x} f is a b =
-    let both : Both x = record { first = a; second = b } in
-    record {
-      come = omega (arith, f .come);
-      right = below-more (λ k. from ≤ k → Both (plainPair w (3 * k))) q (f .right) (λ _. rw is at both);
-    }
 
 module _ (p : Shape) (w : List ℕ) (some-streams : 1 ≤ p .«stream_pairs») where
   -- the fill begins after all words of the streams

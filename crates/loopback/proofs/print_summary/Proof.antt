@@ -5,14 +5,14 @@ use mathlib.Core.List.{List}
 use Prim.Native.Nat.{ℕ}
 use borrow.Author.Needs.{needs}
 use Rattle.io.specs.Counts.{Counts}
-use Rattle.reception.specs.declared.summary.Summed.{Summed}
-use Rattle.reception.specs.declared.summary.Summed.the-variants.{Bytes}
+use Rattle.reception.specs.declared.summary.Summarised.{Summarised}
+use Rattle.reception.specs.declared.summary.Summarised.the-variants.{Bytes}
 use Rattle.reception.specs.Summary.{CountsIn}
 use Rattle.loopback.proofs.print_summary.Statement.{statement}
 use Rattle.loopback.proofs.print_summary.Tie as tie
 
-counted : (r : Summed) (out : List ℕ) {n : ℕ} → r ≡ Bytes n → CountsIn r out → Counts n out
-counted r out e counts = subst (λ (s : Summed). CountsIn s out) e counts
+counted : (r : Summarised) (out : List ℕ) {n : ℕ} → r ≡ Bytes n → CountsIn r out → Counts n out
+counted r out e counts = subst (λ (s : Summarised). CountsIn s out) e counts
 
 slice-aggregate-put-summary : tie.Need-slice-aggregate-put-summary
 slice-aggregate-put-summary c = search needs

@@ -23,8 +23,8 @@ abbrev pub pictureTests : Format → List ℕ → List Row
 pictureTests f w = drop 4 (wordTests f (wordAt (shapeOf f) w))
 
 -- where the second two do not hold, at the lowest place
-abbrev pub wrongAt : ℕ → Format → List ℕ → Option ℕ
-wrongAt number f w = cond (eqb number 25) (wrong25 f w) (wrong26 f w)
+abbrev pub wrongPlace : ℕ → Format → List ℕ → Option ℕ
+wrongPlace number f w = cond (eqb number 25) (wrong25 f w) (wrong26 f w)
 
 -- line n may carry this picture
 abbrev pub rightPicture : Format → ℕ → List ℕ → Bool
