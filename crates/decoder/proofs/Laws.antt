@@ -2,7 +2,7 @@
 -- Assumes nothing.
 use Rattle.decoder.specs.Laws.{DecoderLaws}
 use Rattle.decoder.proofs.Entries.{entry-at}
-use Rattle.decoder.proofs.Paper.{meets-7, meets-20, meaning-told, meaning-meets-7, decoded-one-to-one, meaning-one-to-one}
+use Rattle.decoder.proofs.Answers.{meets-7, meets-20, meaning-told, meaning-meets-7, decoded-one-to-one, meaning-one-to-one}
 use Rattle.decoder.proofs.Reading.{legal-is, number-is, after-is}
 
 pub decoder-laws : DecoderLaws

@@ -1,3 +1,4 @@
+pub mod Answers
 pub mod Entries
 pub mod Laws
 pub mod Masks

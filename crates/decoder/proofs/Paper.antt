@@ -1,92 +1,80 @@
--- The paper's values tell the answers apart, and which calls are refused, in the paper's own numerals.
+-- What a symbol means, said by the symbols of the characters alone, proved.
 -- Assumes nothing.
-use mathlib.Core.Path.{_≡_, refl}
-use mathlib.Core.Bool.{cond}
+use mathlib.Core.Path.{_≡_, refl, sym, ap, _∙_}
+use mathlib.Core.Bool.{true, false, true≢false}
 use mathlib.Core.Option.{Option, none, some, Option·map}
-use Prim.Native.Nat.{ℕ, _≤_, _<_}
+use Prim.Native.Nat.{ℕ, _<_}
 use native.Mathlib.Omega.{arith}
-use lib.Dec.{eqb}
-use borrow.Author.Tests.{lt-ltb, le-ltb}
+use lib.Dec.{ltb}
+use borrow.Author.Tests.{ltb-true, ltb-false}
 use Rattle.ground.specs.Answer.{Answer, refused, given}
 use Rattle.ground.specs.Search.{isSome}
-use Rattle.ground.specs.Inside.Answer.{Injective}
-use Rattle.ground.proofs.Answers.{told-again}
+use Rattle.ground.proofs.Cases.{on-test}
 use Rattle.symbol.specs.declared.disparity.Disparity.{Disparity}
 use Rattle.symbol.specs.declared.disparity.Disparity.the-variants.{Negative, Positive}
-use Rattle.decoder.specs.declared.decode.Decoded.{Decoded}
-use Rattle.decoder.specs.declared.decode.Decoded.the-variants as Decoded
-use Rattle.decoder.specs.declared.meaning.Legal.{Legal}
-use Rattle.decoder.specs.declared.meaning.Meaning.{Meaning}
-use Rattle.decoder.specs.declared.meaning.Meaning.the-variants as Meaning
-use Rattle.symbol.specs.Character.{Character, byte, special, characterOf}
-use Rattle.symbol.specs.Code.{symbolOf, charOf, afterOf}
-use Rattle.decoder.specs.Decode.{After, paperDecoded, decodeOf}
-use Rattle.decoder.specs.Meaning.{Means, paperMeaning, meantBy, meaningOf}
-use Rattle.symbol.proofs.Inverse.{decode-encode, illegal-is}
+use Rattle.symbol.specs.Character.{characterOf}
+use Rattle.symbol.specs.Code.{symbolOf, charOf}
+use Rattle.symbol.proofs.Inverse.{decode-encode, encode-decode, decoded-below, illegal-is, one-meaning}
 use Rattle.symbol.proofs.Ones.{symbol-below}
+use Rattle.decoder.specs.Meaning.{Means, firstOf, meantBy, meaningOf}
+use Rattle.decoder.specs.Paper.{IsSymbol, DecoderPaper}
+use Rattle.decoder.proofs.Answers.{meaning-told, meaning-meets-7}
 
--- ---- the answer is told again from the paper's values
-
-abbrev decodedFrom : Character → Disparity → Decoded
-decodedFrom (byte b) d = Decoded.Byte b d
-decodedFrom (special k) d = Decoded.Special k d
-
-abbrev decodedAgain : Answer After → Decoded
-decodedAgain (refused n place) = cond (eqb n 7) Decoded.Above1023 Decoded.Illegal
-decodedAgain (given a) = decodedFrom (a .character) (a .after)
-
-pub decoded-one-to-one : Injective paperDecoded
-decoded-one-to-one = told-again decodedAgain again
+-- a symbol is a character's where the search finds one
+found : (d : Disparity) (s : ℕ) → isSome (charOf d s) ≡ true → IsSymbol d s
+found d s t = go (charOf d s) refl t
   where
-    again : (r : Decoded) → decodedAgain (paperDecoded r) ≡ r
-    again (Decoded.Byte b d) = refl
-    again (Decoded.Special k d) = refl
-    again Decoded.Above1023 = refl
-    again Decoded.Illegal = refl
+    go : (o : Option ℕ) → charOf d s ≡ o → isSome o ≡ true → IsSymbol d s
+    go none e t = absurd (true≢false (sym t))
+    go (some c) e t = (c, decoded-below d s c e, encode-decode d s c e)
 
-abbrev meaningFrom : Option Character → Legal → Meaning
-meaningFrom none l = Meaning.NoSymbol
-meaningFrom (some (byte b)) l = Meaning.Byte b l
-meaningFrom (some (special k)) l = Meaning.Special k l
+finds : (d : Disparity) (s : ℕ) → IsSymbol d s → isSome (charOf d s) ≡ true
+finds d s (c, h, e) = ap isSome (ap (charOf d) (sym e) ∙ decode-encode d c h)
 
-abbrev meaningAgain : Answer Means → Meaning
-meaningAgain (refused n place) = Meaning.Above1023
-meaningAgain (given m) = meaningFrom (m .character) (record { negative = m .negative; positive = m .positive })
+-- the first of two that is there is the one, where both are the same
+first-of : (a b : Option ℕ) (c : ℕ) → ((x : ℕ) → a ≡ some x → x ≡ c) → b ≡ some c → firstOf a b ≡ some c
+first-of none b c same e = e
+first-of (some x) b c same e = ap some (same x refl)
 
-pub meaning-one-to-one : Injective paperMeaning
-meaning-one-to-one = told-again meaningAgain again
-  where
-    again : (r : Meaning) → meaningAgain (paperMeaning r) ≡ r
-    again (Meaning.Byte b l) = refl
-    again (Meaning.Special k l) = refl
-    again Meaning.NoSymbol = refl
-    again Meaning.Above1023 = refl
+meant-is : (d : Disparity) (c : ℕ) → c < 268 → meantBy (symbolOf d c) ≡ some c
+meant-is Negative c h = rw (decode-encode Negative c h) refl
+meant-is Positive c h =
+    let s = symbolOf Positive c in
+    let here = decode-encode Positive c h in
+    first-of (charOf Negative s) (charOf Positive s) c (λ x e. one-meaning Negative Positive s x c e here) here
 
--- ---- which calls are refused
-
--- a character's symbol is decoded to that character and the disparity after it
-pub decodes : (d : Disparity) (c : ℕ) → c < 268
-    → decodeOf d (symbolOf d c) ≡ given (record { character = characterOf c; after = afterOf d c })
-decodes d c h = simp (lt-ltb (symbolOf d c) 1024 (symbol-below d c h), decode-encode d c h)
-
--- a number up to 1023 that is no character's symbol meets 20
-pub meets-20 : (d : Disparity) (s : ℕ) → s ≤ 1023 → ((c : ℕ) → c < 268 → symbolOf d c ≡ s → ⊥) → decodeOf d s ≡ refused 20 0
-meets-20 d s h f = let l : s < 1024 = omega arith in simp (lt-ltb s 1024 l, illegal-is d s f)
-
--- any other meets 7, here and where its meaning is asked
-pub meets-7 : (d : Disparity) (s : ℕ) → 1023 < s → decodeOf d s ≡ refused 7 0
-meets-7 d s h = simp (le-ltb s 1024 h)
-
-pub meaning-meets-7 : (s : ℕ) → 1023 < s → meaningOf s ≡ refused 7 0
-meaning-meets-7 s h = simp (le-ltb s 1024 h)
-
--- up to 1023 the meaning of a number is told
-pub meaning-told : (s : ℕ) → s ≤ 1023
-    → meaningOf s
-    ≡ given
-    (record {
+-- what is told of a number
+abbrev told : ℕ → Means
+told s =
+    record {
       character = Option·map characterOf (meantBy s);
       negative = isSome (charOf Negative s);
       positive = isSome (charOf Positive s);
-    })
-meaning-told s h = let l : s < 1024 = omega arith in simp (lt-ltb s 1024 l)
+    }
+
+as-told : (s : ℕ) (m : Means) → meaningOf s ≡ given m → (m .negative ≡ isSome (charOf Negative s)) × (m .positive ≡ isSome (charOf Positive s))
+as-told s m e =
+    on-test (ltb s 1024)
+    (λ t.
+    let same : given m ≡ given (told s) = sym e ∙ meaning-told s (omega (arith, ltb-true s 1024 t)) in
+    let is : m ≡ told s = cc same in
+    (ap (λ (x : Means). x .negative) is, ap (λ (x : Means). x .positive) is))
+    (λ t.
+    let z : _≡_ {A = Answer Means} (given m) (refused 7 0) = sym e ∙ meaning-meets-7 s (ltb-false s 1024 t) in
+    let y : _≡_ {A = ℕ} 0 1 = cc z in absurd (omega arith))
+
+pub decoder-paper : DecoderPaper
+decoder-paper = record {
+  means = λ d c h. (
+    told (symbolOf d c),
+    meaning-told (symbolOf d c) (omega (arith, symbol-below d c h)),
+    ap (Option·map characterOf) (meant-is d c h),
+  );
+  negative = λ s m e.
+      let (is, _) = as-told s m e in (λ t. found Negative s (sym is ∙ t), λ x. is ∙ finds Negative s x);
+  positive = λ s m e.
+      let (_, is) = as-told s m e in (λ t. found Positive s (sym is ∙ t), λ x. is ∙ finds Positive s x);
+  nothing = λ s h none-at.
+      let no : (d : Disparity) → charOf d s ≡ none = λ d. illegal-is d s (λ c l e. none-at d (c, l, e)) in
+      meaning-told s h ∙ rw (no Negative, no Positive) refl;
+}

@@ -2,3 +2,4 @@ pub mod Decode
 pub mod Inside
 pub mod Laws
 pub mod Meaning
+pub mod Paper

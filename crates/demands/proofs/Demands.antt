@@ -14,13 +14,14 @@ use Rattle.ground.specs.Written.{upto}
 use Rattle.ground.proofs.Answers.{given-is, when-given}
 use Rattle.symbol.specs.declared.disparity.Disparity.{Disparity}
 use Rattle.symbol.proofs.Paper.{symbol-paper}
+use Rattle.decoder.proofs.Paper.{decoder-paper}
 use Rattle.line.proofs.Paper.{line-paper}
 use Rattle.picture.proofs.Paper.{picture-paper}
 use Rattle.word.proofs.Paper.{word-paper}
 use Rattle.crcc.proofs.Paper.{crcc-paper}
 use Rattle.packing.proofs.Paper.{packing-paper}
 use Rattle.span.proofs.Paper.{span-paper}
-use Rattle.decoder.proofs.Paper.{decodes}
+use Rattle.decoder.proofs.Answers.{decodes}
 use Rattle.word.specs.Repair.{legalWord, repairOf}
 use Rattle.word.specs.Timing.{timing}
 use Rattle.word.proofs.Repairs.{one-wrong, two-wrong}
@@ -153,6 +154,7 @@ module _ (f : Format) (known : IsFormat f) (l : ℕ) (content : Content) (sample
 pub demand-2 : Demand2
 demand-2 = record {
   published = symbol-paper;
+  meanings = decoder-paper;
   lines = line-paper;
   words = word-paper;
   crcc = crcc-paper;

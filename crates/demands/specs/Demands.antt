@@ -12,6 +12,7 @@ use Rattle.ground.specs.Bit.{inverted}
 use Rattle.symbol.specs.declared.disparity.Disparity.{Disparity}
 use Rattle.symbol.specs.Character.{characterOf}
 use Rattle.symbol.specs.Paper.{SymbolPaper}
+use Rattle.decoder.specs.Paper.{DecoderPaper}
 use Rattle.line.specs.Paper.{LinePaper}
 use Rattle.picture.specs.Paper.{PicturePaper}
 use Rattle.word.specs.Paper.{WordPaper}
@@ -163,9 +164,10 @@ pub record Delivers (f : Format) (l : ℕ) (content : Content) (samples words : 
 -- What is sent is, symbol for symbol, the standard; what is received is read by the same rules, down to the repair of one wrong bit in a
 -- timing word and the refusal of two. Dividing and joining a picture puts each sample back.
 pub record Demand2 : Type 1 where
-  -- the definitions have the papers' own numerals: the published symbols, the lines, document 01's values of words, the CRCC by long division,
+  -- the definitions have the papers' own numerals: the published symbols and what each means, the lines, document 01's values of words, the CRCC by long division,
   -- ABC and DEF as BC FA DE, how a picture is divided, and which word, character and symbol stands at each place of a span
   pub published : SymbolPaper
+  pub meanings : DecoderPaper
   pub lines : LinePaper
   pub words : WordPaper
   pub crcc : CrccPaper

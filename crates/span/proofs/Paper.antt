@@ -5,14 +5,14 @@ use mathlib.Core.Bool.{true, false}
 use mathlib.Core.List.{List, _++_}
 use Prim.Native.Nat.{ℕ, zero, suc, _+_, _-_, _*_, _%_, _≤_, _<_}
 use native.Mathlib.Omega.{arith}
-use lib.ListN.{length, getD, length-append}
+use lib.ListN.{length, getD, replicate, length-append}
 use lib.Seq.{ext-getD}
 use lib.Dec.{ltb}
 use borrow.Author.Tests.{eq-eqb, ne-eqb, lt-ltb, ltb-true, ltb-false}
 use Rattle.ground.specs.Written.{table}
 use Rattle.ground.proofs.Cases.{on-test}
 use Rattle.ground.proofs.Ranges.{is-within, not-within}
-use Rattle.ground.proofs.Writing.{length-table, getD-table, getD-first, getD-second}
+use Rattle.ground.proofs.Writing.{replicate-table, length-table, getD-table, getD-first, getD-second}
 use Rattle.line.specs.Stream.{vOf, lineAfter}
 use Rattle.word.specs.LineNumber.{ln0, ln1}
 use Rattle.word.specs.Timing.{timing}
@@ -20,7 +20,7 @@ use Rattle.word.specs.Word.{guarded}
 use Rattle.packing.specs.Bytes.{bytesOf}
 use Rattle.crcc.specs.Crcc.{crc, crccWords}
 use Rattle.span.specs.declared.format.Format.{Format}
-use Rattle.span.specs.Format.{numbered, shapeOf, streams, pairsIn}
+use Rattle.span.specs.Format.{numbered, shapeOf, streams, samplesIn, pairsIn}
 use Rattle.span.specs.Numbers.{IsFormat}
 use Rattle.span.specs.Paper.{Active, wordOf, SpanPaper}
 use Rattle.span.specs.Sample.{sampleWord}
@@ -184,6 +184,7 @@ span-paper = record {
   images50 = images-of-50;
   namedAsGiven = named-as-given;
   noneNamedZeros = none-named-zeros;
+  blankRowIs = λ f m e. sym (replicate-table (samplesIn (shapeOf f)) 0x100) ∙ ap (λ (k : ℕ). replicate k 0x100) (sym e);
   savWords = λ f a t l. let w = sav-words f a t l in (w .0, w .1, w .2);
   savActive = sav-active;
   savBlanking = sav-blanking;

@@ -5,7 +5,7 @@ use Prim.Native.Nat.{ℕ, _+_, _*_, _≤_, _<_}
 use mathlib.Core.Path.{_≡_}
 use mathlib.Core.List.{List, [], _∷_, _++_}
 use mathlib.Core.Logic.{_⊎_}
-use lib.ListN.{length, getD, take}
+use lib.ListN.{length, getD, take, replicate}
 use Rattle.ground.specs.Answer.{given}
 use Rattle.ground.specs.Written.{table}
 use Rattle.symbol.specs.declared.disparity.Disparity.{Disparity}
@@ -19,6 +19,7 @@ use Rattle.word.specs.LineNumber.{ln0, ln1}
 use Rattle.span.specs.declared.content.Content.the-variants.{NoneNamed, Named}
 use Rattle.span.specs.declared.content.ContentBytes.{ContentBytes}
 use Rattle.span.specs.declared.format.Format.{Format}
+use Rattle.span.specs.Blanking.{blankRow}
 use Rattle.span.specs.Content.{contentOf}
 use Rattle.span.specs.Encoding.{symbolsFrom, afterRun}
 use Rattle.span.specs.Format.{shapeOf, streams, samplesIn, pairsIn, symbolsIn, formatFrom}
@@ -81,6 +82,8 @@ pub record SpanPaper : Type 0 where
   -- the content bytes are those that a call names, and zeros if it names none (document 01, "Sending")
   pub namedAsGiven : (f : Format) (c : ContentBytes) → contentOf f (Named c) ≡ c
   pub noneNamedZeros : (f : Format) → contentOf f NoneNamed ≡ record { sav1 = 0; sav2 = 0; eav1 = 0; eav2 = 0 }
+  -- a row of blanking is 100 throughout, as long as the samples of a span (document 01, "Sending")
+  pub blankRowIs : (f : Format) (m : ℕ) → m ≡ samplesIn (shapeOf f) → blankRow f ≡ replicate m 0x100
   -- the words of each stream: FFF 000 000, then XYZ of a SAV, 800 on lines 42 to 1121 and AB0 on any other,
   pub savWords :
       (f : Format) (a : Request) (t : ℕ)
