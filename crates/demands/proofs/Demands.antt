@@ -60,7 +60,7 @@ use Rattle.demands.proofs.Delivering.{steps-are, delivered, accepted, a
 use Rattle.demands.proofs.PictureBack.{images-two, images-four, two-good, two-back, four-good, four-back}
 use Rattle.recording.proofs.Steps.{refused-stays, end-stays, steps-deliver}
 use Rattle.demands.proofs.Refusing.{known-says, samples-say, meaning-tried, decode-tried, repair-tried, line-words-tried, read-line-words-tried, crcc-tried, pack-tried, place-tried, lent, split-tried, join-tried, lengths-tried, fill-tried, send-tried, judge-tried, read-tried, rows-left, find-tried, next-tried, next-some}
-use Rattle.demands.proofs.Sendings.{row-holds, sendable}
+use Rattle.demands.proofs.Sendings.{row-holds, sendable, sent-crcc}
 
 -- ==== 1 ====
 
@@ -163,6 +163,7 @@ demand-2 = record {
   spans = span-paper;
   code = decodes;
   sent = as-asked;
+  crccCall = λ f x t sent l. sent-crcc f x sent t l;
   back = λ f x sent.
       let good = sendable f x sent in
       (round-trip f (x .asked) good (x .before), picture-back f (x .asked) good (x .before));

@@ -5,14 +5,22 @@ use mathlib.Core.Path.{_≡_, refl, ap, _∙_}
 use mathlib.Core.Bool.{Bool, true, false, cond}
 use mathlib.Core.List.{List}
 use mathlib.Core.Option.{Option, none, some}
-use Prim.Native.Nat.{ℕ, _<_}
+use Prim.Native.Nat.{ℕ, _+_, _*_, _≤_, _<_}
 use native.Mathlib.Omega.{arith}
 use lib.ListN.{length, getD, set, length-set}
 use borrow.Author.Tests.{eqb-true, not-false}
 use Rattle.ground.specs.Bit.{inverted}
+use Rattle.ground.specs.Answer.{given}
+use Rattle.ground.specs.Written.{table}
 use Rattle.ground.proofs.Searches.{miss}
+use Rattle.ground.proofs.Writing.{length-table, getD-table}
+use Rattle.crcc.specs.Crcc.{crc, crccWords, crccOf}
+use Rattle.crcc.proofs.Crc.{crcc-good}
+use Rattle.span.specs.Paper.{wordOf}
+use Rattle.span.proofs.Paper.{span-paper}
+use Rattle.window.proofs.Placing.{in-span}
 use Rattle.span.specs.declared.format.Format.{Format}
-use Rattle.span.specs.Format.{shapeOf, samplesIn, symbolsIn}
+use Rattle.span.specs.Format.{shapeOf, streams, samplesIn, pairsIn, symbolsIn}
 use Rattle.span.specs.Span.{spanAfter}
 use Rattle.span.specs.Stream.{Request}
 use Rattle.span.proofs.Lengths.{known-has-streams, length-of-symbols}
@@ -20,7 +28,7 @@ use Rattle.window.specs.Inside.Encoded.{Sendable}
 use Rattle.request.specs.Send.{forbidden, firstForbidden, refusals}
 use Rattle.window.proofs.Accepting.{row-passed}
 use Rattle.window.proofs.Inverted.{inverted-is-refused}
-use Rattle.window.proofs.RoundTrip.{round-trip, picture-back}
+use Rattle.window.proofs.RoundTrip.{sent-encodes, round-trip, picture-back}
 use Rattle.recording.specs.Recording.{reading}
 use Rattle.recording.proofs.Readings.{is-read, not-read}
 use Rattle.demands.specs.Form.{Sending, WasSent, sentSymbols, readingOf}
@@ -70,3 +78,23 @@ module _ (f : Format) (x : Sending) (sent : WasSent f x) where
     harmed-not-read =
         let (number, place, e) = inverted-is-refused f a sendable (x .before) i k h l in
         not-read f harmed harmed-long e
+
+  -- the words before its CRCC have one, which is what stands there
+  module _ (t : ℕ) (l : t < streams (shapeOf f)) where
+    abbrev covered : List ℕ
+    covered = table 1926 (λ i. wordOf f a (4 + i) t)
+
+    small : (i : ℕ) → i < length covered → getD covered i 0 ≤ 4095
+    small i h =
+        let b : i < 1926 = omega (arith, length-table 1926 (λ i. wordOf f a (4 + i) t)) in
+        let encodes = sent-encodes f a sendable (x .before) in
+        let inside : streams (shapeOf f) * (4 + i) + t < 2 * pairsIn (shapeOf f) = in-span (shapeOf f) (4 + i) t (omega arith) l in
+        rw (getD-table 1926 (λ i. wordOf f a (4 + i) t) i 0 b)
+        (omega (arith, encodes .small (streams (shapeOf f) * (4 + i) + t) (omega (arith, encodes .long))))
+
+    pub sent-crcc :
+        (c : ℕ)
+        × (crccOf covered ≡ given c)
+        × (wordOf f a 1930 t ≡ crccWords c .crcc0)
+        × (wordOf f a 1931 t ≡ crccWords c .crcc1)
+    sent-crcc = let words = span-paper .crccPair f a t l in (crc 0 covered, crcc-good 0 covered small, words .0, words .1)

@@ -9,6 +9,7 @@ use mathlib.Core.Option.{none, some}
 use lib.ListN.{length, getD, set, take, drop, replicate}
 use Rattle.ground.specs.Answer.{refused, given}
 use Rattle.ground.specs.Bit.{inverted}
+use Rattle.ground.specs.Written.{table}
 use Rattle.symbol.specs.declared.disparity.Disparity.{Disparity}
 use Rattle.symbol.specs.Character.{characterOf}
 use Rattle.symbol.specs.Paper.{SymbolPaper}
@@ -18,12 +19,12 @@ use Rattle.picture.specs.Paper.{PicturePaper}
 use Rattle.word.specs.Paper.{WordPaper}
 use Rattle.crcc.specs.Paper.{CrccPaper}
 use Rattle.packing.specs.Paper.{PackingPaper}
-use Rattle.span.specs.Paper.{SpanPaper}
+use Rattle.span.specs.Paper.{wordOf, SpanPaper}
 use Rattle.symbol.specs.Code.{symbolOf, afterOf}
 use Rattle.decoder.specs.Decode.{decodeOf}
 use Rattle.decoder.specs.Meaning.{meaningOf}
 use Rattle.packing.specs.Bytes.{packedOf}
-use Rattle.crcc.specs.Crcc.{crccOf}
+use Rattle.crcc.specs.Crcc.{crccWords, crccOf}
 use Rattle.word.specs.LineNumber.{numberedOf, namedOf}
 use Rattle.word.specs.Repair.{distance, repairOf}
 use Rattle.word.specs.Timing.{timing}
@@ -184,6 +185,15 @@ pub record Demand2 : Type 1 where
       (d e : Disparity) (f : Format) (a : Request) (entry : List ℕ)
       → sendOf d f a (length entry) ≡ given e
       → (sentBuffer d f a entry ≡ spanSymbols d f a) × (e ≡ spanAfter d f a)
+  -- the CRCC words of a stream are what the call answers for the 1,926 words before them, from the first after the SAV on
+  pub crccCall :
+      (f : Format) (x : Sending) (t : ℕ)
+      → WasSent f x
+      → t < streams (shapeOf f)
+      → (c : ℕ)
+      × (crccOf (table 1926 (λ i. wordOf f (x .asked) (4 + i) t)) ≡ given c)
+      × (wordOf f (x .asked) 1930 t ≡ crccWords c .crcc0)
+      × (wordOf f (x .asked) 1931 t ≡ crccWords c .crcc1)
   -- what was sent is read as it was sent
   pub back :
       (f : Format) (x : Sending)
