@@ -39,7 +39,7 @@ use Rattle.window.specs.Encoded.{AreContent}
 use Rattle.window.specs.Read.{pictureOf, readOf}
 use Rattle.window.proofs.Accepting.{row-passed}
 use Rattle.window.proofs.Paper.{window-paper}
-use Rattle.window.proofs.RoundTrip.{round-trip, picture-back}
+use Rattle.window.proofs.RoundTrip.{sent-encodes, round-trip, picture-back}
 use Rattle.window.proofs.TimingWords.{repaired-delivered}
 use Rattle.delivery.specs.Delivery.{Found}
 use Rattle.delivery.proofs.Paper.{delivery-paper}
@@ -164,6 +164,7 @@ demand-2 = record {
   code = decodes;
   sent = as-asked;
   crccCall = λ f x t sent l. sent-crcc f x sent t l;
+  encodes = λ f x sent. sent-encodes f (x .asked) (sendable f x sent) (x .before);
   back = λ f x sent.
       let good = sendable f x sent in
       (round-trip f (x .asked) good (x .before), picture-back f (x .asked) good (x .before));

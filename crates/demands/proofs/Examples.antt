@@ -41,6 +41,7 @@ use Rattle.demands.proofs.Refusing.{known-says, symbols-say, samples-sa
 use Rattle.demands.proofs.Delivering.{nothing}
 use Rattle.demands.proofs.PictureBack.{length-picture}
 use Rattle.demands.proofs.Sendings.{sent-long}
+use Rattle.demands.proofs.Used.{refused-20, crcc-stands, divides}
 use Rattle.demands.proofs.WrongBits.{one-wrong, two-wrong}
 
 -- what a step that is not refused adds to the spans
@@ -365,6 +366,8 @@ module _ (f : Format) (n m : ℕ) (known : IsFormat f) (symbols : Symbols f n) (
     amongNoise = among-noise;
     oneOfThree = one-of-three;
     refused6 = refused-6;
+    refused20 = refused-20 f n m known symbols samples;
+    crccStands = crcc-stands f known;
     repaired = λ d b h. one-wrong f m known d (sent-42 d) b h;
     refused21 = λ d b c h l. two-wrong f m known d (sent-42 d) b c h l;
   }
@@ -377,4 +380,5 @@ examples = record {
       let (k, p, e) =
       demand-1 .lengths (formatFrom 1 11) .0 (λ known. ⊎-elim (λ x. absurd (omega (arith, x))) (λ x. absurd (omega (arith, x))) (known .2)) in
       e ∙ ap (λ (j : ℕ). refused 1 j) p;
+  divides = divides;
 }

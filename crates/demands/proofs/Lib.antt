@@ -5,4 +5,5 @@ pub mod Examples
 pub mod PictureBack
 pub mod Refusing
 pub mod Sendings
+pub mod Used
 pub mod WrongBits

@@ -302,7 +302,7 @@ module _ (f : Format) (known : IsFormat f) (x : ℕ) where
       told : allowed f n t x ≡ true → MaySend f n x
       told ok = record {
         ten = λ e p q. in-range 4 1019 x .told (simp (is-within 42 1121 n p q, eq-eqb (f .depth) 10 e) at ok);
-        twelve = λ e p q. in-range 16 4079 x .told (simp (is-within 42 1121 n p q, twelve-is e, eq-eqb (f .depth) 12 e) at ok);
+        twelve = λ e p q. in-range 16 4079 x .told (simp (is-within 42 1121 n p q, twelve-is e) at ok);
         blanking = λ out. eqb-true x 0x100 (simp (not-within 42 1121 n out) at ok);
       }
 
@@ -314,7 +314,7 @@ module _ (f : Format) (known : IsFormat f) (x : ℕ) where
           let q = to-high 42 1121 n active in
           ⊎-elim
           (λ e. simp (active, eq-eqb (f .depth) 10 e) (in-range 4 1019 x .holds (m .ten e p q)))
-          (λ e. simp (active, twelve-is e, eq-eqb (f .depth) 12 e) (in-range 16 4079 x .holds (m .twelve e p q)))
+          (λ e. simp (active, twelve-is e) (in-range 16 4079 x .holds (m .twelve e p q)))
           (known .2))
           (λ out. simp out (eq-eqb x 0x100 (m .blanking (outside 42 1121 n out))))
 

@@ -39,7 +39,7 @@ use Rattle.span.specs.Encoding.{afterRun}
 use Rattle.span.specs.Format.{shapeOf, streams, pairsIn, symbolsIn}
 use Rattle.span.specs.Image.{imageOf}
 use Rattle.span.specs.Length.{lengthsOf}
-use Rattle.span.specs.Span.{spanSymbols, spanAfter}
+use Rattle.span.specs.Span.{spanWords, spanSymbols, spanAfter}
 use Rattle.span.specs.Stream.{Request}
 use Rattle.span.specs.Numbers.{IsFormat, Symbols, Samples}
 use Rattle.window.specs.declared.delivery.Delivery.{Delivery}
@@ -58,7 +58,7 @@ use Rattle.recording.specs.Steps.{runFrom, spanStep, endStep, lastRows}
 use Rattle.span.specs.Blanking.{fillOf, blankRow, filledRow}
 use Rattle.request.specs.Send.{request, sendOf, sentBuffer}
 use Rattle.demands.specs.Rules.{meaningRules, decodeRules, repairRules, lineWordsRules, readLineWordsRules, crccRules, packRules, placeRules, splitRules, joinRules, lengthsRules, fillRules, sendRules, judgeRules, readRules, findRules, nextRules}
-use Rattle.demands.specs.Form.{rule, Tried, Lent, Rows, Sending, WasSent, sentSymbols, readingOf, stepsFrom, DeliveredFrom, Delivered, wordsFor}
+use Rattle.demands.specs.Form.{Tried, Lent, Rows, Sending, WasSent, sentSymbols, readingOf, stepsFrom, DeliveredFrom, Delivered, wordsFor}
 
 -- ==== 1 ====
 
@@ -165,8 +165,9 @@ pub record Delivers (f : Format) (l : ℕ) (content : Content) (samples words : 
 -- What is sent is, symbol for symbol, the standard; what is received is read by the same rules, down to the repair of one wrong bit in a
 -- timing word and the refusal of two. Dividing and joining a picture puts each sample back.
 pub record Demand2 : Type 1 where
-  -- the definitions have the papers' own numerals: the published symbols and what each means, the lines, document 01's values of words, the CRCC by long division,
-  -- ABC and DEF as BC FA DE, how a picture is divided, and which word, character and symbol stands at each place of a span
+  -- the definitions have the papers' own numerals: the published symbols and what each means, the lines, document 01's values of words, the
+  -- CRCC by long division, ABC and DEF as BC FA DE, how a picture is divided, and which word, character and symbol stands at each place of a
+  -- span. The fault by which a recital was lost stands in `words` and `windows`: `recital`.
   pub published : SymbolPaper
   pub meanings : DecoderPaper
   pub lines : LinePaper
@@ -194,6 +195,11 @@ pub record Demand2 : Type 1 where
       × (crccOf (table 1926 (λ i. wordOf f (x .asked) (4 + i) t)) ≡ given c)
       × (wordOf f (x .asked) 1930 t ≡ crccWords c .crcc0)
       × (wordOf f (x .asked) 1931 t ≡ crccWords c .crcc1)
+  -- what was sent is an encoding of its words, with its content bytes put in
+  pub encodes :
+      (f : Format) (x : Sending)
+      → WasSent f x
+      → Encodes f (sentSymbols f x) (x .before) (contentOf f (x .asked .content)) (spanWords f (x .asked))
   -- what was sent is read as it was sent
   pub back :
       (f : Format) (x : Sending)

@@ -19,8 +19,11 @@ use Rattle.span.specs.Content.{contentOf}
 use Rattle.span.specs.Encoding.{symbolsFrom}
 use Rattle.span.specs.Format.{formatFrom, shapeOf, streams}
 use Rattle.span.specs.Span.{spanWords}
-use Rattle.window.specs.Encoded.{charsOf}
-use Rattle.window.specs.Read.{readSpan}
+use Rattle.window.specs.Encoded.{charsOf, requestOf}
+use Rattle.dividing.specs.Row.{divided, splitFirst, splitSecond}
+use Rattle.span.specs.Paper.{wordOf}
+use Rattle.window.specs.Paper.{wordOfWindow}
+use Rattle.window.specs.Read.{pictureOf, readSpan, readOf, rowsRead}
 use Rattle.span.specs.Length.{lengthsOf}
 use Rattle.span.specs.Numbers.{IsFormat, Symbols, Samples}
 use Rattle.window.specs.declared.delivery.Delivery.{Delivery}
@@ -104,9 +107,26 @@ pub record At (f : Format) (n m : ℕ) : Type 0 where
       → length entry ≡ n
       → let a = request 42 NoneNamed (set (replicate m (lowestSample f)) i 3) in
       (sendOf d f a n ≡ refused 6 i) × (sentBuffer d f a entry ≡ entry)
+  -- as many zeros as a span has symbols are refused with 20 at the first, and the rows are zero afterwards
+  pub refused20 :
+      (rows : List ℕ)
+      → length rows ≡ m
+      → (readOf f (replicate n 0) m ≡ refused 20 0) × (rowsRead f (replicate n 0) rows ≡ replicate m 0)
+  -- a window that is read has the first CRCC word of the span sent for its answer, in stream 1
+  pub crccStands :
+      (w : List ℕ) (r : Delivery)
+      → readSpan f w ≡ given r
+      → wordOfWindow f w 1930 0 ≡ wordOf f (requestOf f r (pictureOf f w)) 1930 0
 
 pub record Examples : Type 0 where
   pub everyFormat : (f : Format) (n m : ℕ) → IsFormat f → Symbols f n → Samples f m → At f n m
   -- format 4 is unknown, and so is a depth of 11
   pub noFormat4 : lengthsOf (formatFrom 4 12) ≡ refused 1 0
   pub noDepth11 : lengthsOf (formatFrom 1 11) ≡ refused 1 0
+  -- a row is divided, and what was in the two rows is gone
+  pub divides :
+      (whole first second : List ℕ)
+      → length whole ≡ 3840
+      → length first ≡ 1920
+      → length second ≡ 1920
+      → (splitFirst whole first second ≡ divided 0 1920 whole) × (splitSecond whole first second ≡ divided 1 1920 whole)

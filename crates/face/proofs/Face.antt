@@ -161,7 +161,21 @@ module _ (f : Format) (symbols : List ℕ) (start : ℕ) (rows : List ℕ) where
 pub face : Face
 face = record {
   crossing = boundary-laws;
-  named = (refl, refl, refl, refl);
+  names = record {
+    decoded = refl;
+    lineWords = refl;
+    readLineWords = refl;
+    repaired = refl;
+    crcc = refl;
+    placed = refl;
+    copied = refl;
+    lengths = refl;
+    filled = refl;
+    sent = refl;
+    read = refl;
+    found = refl;
+    next = refl;
+  };
   decodeNegative = λ c h. ap (λ (r : Answer After). decodeAnswerOf r .character) (demand-2 .code Negative c h) ∙ character-answers-laws .characterTold c h;
   decodePositive = λ c h. ap (λ (r : Answer After). decodeAnswerOf r .character) (demand-2 .code Positive c h) ∙ character-answers-laws .characterTold c h;
   decodeAfter = λ c h. rw (demand-2 .code Negative c h) (says _);

@@ -8,18 +8,9 @@ use mathlib.Core.List.{List, [], _∷_}
 use mathlib.Core.Logic.{_⊎_}
 use mathlib.Core.Option.{none, some}
 use lib.ListN.{length, getD, take, drop}
-use Rattle.ground.specs.Answer.{Answer, given}
+use Rattle.ground.specs.Answer.{given}
 use Rattle.boundary.specs.Laws.{Says, BoundaryLaws}
-use Rattle.boundary.specs.Numbers.{numberIn}
 use Rattle.span_answers.specs.Laws.{AreValues}
-use Rattle.request.specs.declared.sent.Sent.the-variants.{UnknownFormat, NoLine, WrongInput, WrongOutput, NotAllowed}
-use Rattle.request.specs.Send.{paperSent}
-use Rattle.read.specs.Call.{paperRead}
-use Rattle.read.specs.declared.answer.Read.the-variants as Read
-use Rattle.read.specs.declared.answer.Read.the-variants.{WrongSymbol, WrongTiming, WrongLine, WrongV, WrongCrcc, WrongSample, WrongFill}
-use Rattle.recording.specs.Call.{paperFound, paperNext}
-use Rattle.recording.specs.declared.answer.Found.the-variants as Found
-use Rattle.recording.specs.declared.answer.NextSpan.the-variants as Next
 use Rattle.symbol.specs.declared.disparity.Disparity.{Disparity}
 use Rattle.symbol.specs.declared.disparity.Disparity.the-variants.{Negative, Positive}
 use Rattle.symbol.specs.Code.{symbolOf, afterOf}
@@ -45,6 +36,7 @@ use Rattle.recording.specs.Call.{findOf, nextOf, afterNext}
 use Rattle.span_answers.specs.declared.spans.SendAnswer.{SendAnswer}
 use Rattle.demands.specs.Form.{Refusal, rule, Lent, Rows}
 use Rattle.demands.specs.Rules.{repairRules, readLineWordsRules, crccRules, splitRules, joinRules, fillRules, sendRules, judgeRules, readRules, findRules, nextRules}
+use Rattle.face.specs.Names.{Names}
 use Rattle.face.specs.Calls.{decode·answer, encode·answer, lineWords·answer, readLineWords·answer, repair·answer, crcc·answer, place·answer, split·answer, split·first, split·second, join·answer, join·row, carriesPicture·answer, lengths·answer, send·answer, send·symbols, sendNamed·answer, sendNamed·symbols, fillBlanking·answer, fillBlanking·row, read·answer, read·rows, judge·answer, find·answer, next·answer, next·rows}
 
 -- ---- the number and the place of an answer
@@ -53,11 +45,6 @@ use Rattle.face.specs.Calls.{decode·answer, encode·answer, lineWords·
 abbrev pub Told : ℕ → ℕ → List Refusal → Type 0
 Told number place [] = (number ≡ 0) × (place ≡ 0)
 Told number place (x ∷ xs) = ((x .good → ⊥) → (number ≡ x .number) × x .place place) × (x .good → Told number place xs)
-
--- the numbers of some answers
-abbrev pub numbersOf : {A : Type 0} → List (Answer A) → List ℕ
-numbersOf [] = []
-numbersOf (r ∷ more) = numberIn r ∷ numbersOf more
 
 -- a known format, by the two numbers that C gives
 abbrev pub KnownFormat : ℕ → ℕ → Type 0
@@ -77,25 +64,7 @@ Stands r i c = (d : Disparity) × (getD r i 0 ≡ symbolOf d c)
 pub record Face : Type 1 where
   pub crossing : BoundaryLaws
   -- which number is which refusal, by the names that the library's answers have
-  pub named :
-      (numbersOf (paperSent UnknownFormat ∷ paperSent NoLine ∷ paperSent WrongInput ∷ paperSent WrongOutput ∷ paperSent (NotAllowed 0) ∷ [])
-      ≡ 1 ∷ 2 ∷ 3 ∷ 4 ∷ 6 ∷ [])
-      × (numbersOf
-      (paperRead Read.UnknownFormat
-      ∷ paperRead Read.WrongInput
-      ∷ paperRead Read.WrongOutput
-      ∷ paperRead (WrongSymbol 0)
-      ∷ paperRead (WrongTiming 0)
-      ∷ paperRead (WrongLine 0)
-      ∷ paperRead (WrongV 0)
-      ∷ paperRead (WrongCrcc 0)
-      ∷ paperRead (WrongSample 0)
-      ∷ paperRead (WrongFill 0)
-      ∷ [])
-      ≡ 1 ∷ 3 ∷ 4 ∷ 20 ∷ 21 ∷ 22 ∷ 23 ∷ 24 ∷ 25 ∷ 26 ∷ [])
-      × (numbersOf (paperFound Found.UnknownFormat ∷ paperFound Found.WrongInput ∷ paperFound Found.WrongStart ∷ []) ≡ 1 ∷ 3 ∷ 5 ∷ [])
-      × (numbersOf (paperNext Next.UnknownFormat ∷ paperNext Next.WrongInput ∷ paperNext Next.WrongOutput ∷ paperNext Next.WrongStart ∷ [])
-      ≡ 1 ∷ 3 ∷ 4 ∷ 5 ∷ [])
+  pub names : Names
   -- ---- the code: true is positive, a character is its number
   pub decodeNegative : (c : ℕ) → c < 268 → decode·answer false (symbolOf Negative c) .character ≡ c
   pub decodePositive : (c : ℕ) → c < 268 → decode·answer true (symbolOf Positive c) .character ≡ c

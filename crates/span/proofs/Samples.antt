@@ -38,7 +38,7 @@ module _ (f : Format) (k : Known f) (n t x : ℕ) where
       (λ e. simp (active, eq-eqb (f .depth) 10 e))
       (λ e.
       let not-ten : f .depth ≡ 10 → ⊥ = λ ten. omega arith in
-      simp (active, ne-eqb (f .depth) 10 not-ten, eq-eqb (f .depth) 12 e))
+      simp (active, ne-eqb (f .depth) 10 not-ten))
       (k .bits))
       (λ blanking. simp blanking (one-number (blankWord f) x))
 
