@@ -161,7 +161,7 @@ module _ (f : Format) (symbols : List ℕ) (start : ℕ) (rows : List ℕ) where
 pub face : Face
 face = record {
   crossing = boundary-laws;
-  names = record {
+  refusals = record {
     decoded = refl;
     lineWords = refl;
     readLineWords = refl;

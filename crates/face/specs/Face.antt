@@ -36,7 +36,7 @@ use Rattle.recording.specs.Call.{findOf, nextOf, afterNext}
 use Rattle.span_answers.specs.declared.spans.SendAnswer.{SendAnswer}
 use Rattle.demands.specs.Form.{Refusal, rule, Lent, Rows}
 use Rattle.demands.specs.Rules.{repairRules, readLineWordsRules, crccRules, splitRules, joinRules, fillRules, sendRules, judgeRules, readRules, findRules, nextRules}
-use Rattle.face.specs.Names.{Names}
+use Rattle.face.specs.Refusals.{RefusalNumbers}
 use Rattle.face.specs.Calls.{decode·answer, encode·answer, lineWords·answer, readLineWords·answer, repair·answer, crcc·answer, place·answer, split·answer, split·first, split·second, join·answer, join·row, carriesPicture·answer, lengths·answer, send·answer, send·symbols, sendNamed·answer, sendNamed·symbols, fillBlanking·answer, fillBlanking·row, read·answer, read·rows, judge·answer, find·answer, next·answer, next·rows}
 
 -- ---- the number and the place of an answer
@@ -64,7 +64,7 @@ Stands r i c = (d : Disparity) × (getD r i 0 ≡ symbolOf d c)
 pub record Face : Type 1 where
   pub crossing : BoundaryLaws
   -- which number is which refusal, by the names that the library's answers have
-  pub names : Names
+  pub refusals : RefusalNumbers
   -- ---- the code: true is positive, a character is its number
   pub decodeNegative : (c : ℕ) → c < 268 → decode·answer false (symbolOf Negative c) .character ≡ c
   pub decodePositive : (c : ℕ) → c < 268 → decode·answer true (symbolOf Positive c) .character ≡ c

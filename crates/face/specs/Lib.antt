@@ -1,3 +1,3 @@
 pub mod Calls
 pub mod Face
-pub mod Names
+pub mod Refusals

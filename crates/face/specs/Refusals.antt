@@ -35,7 +35,7 @@ abbrev pub numbersOf : {A : Type 0} → List (Answer A) → List ℕ
 numbersOf [] = []
 numbersOf (r ∷ more) = numberIn r ∷ numbersOf more
 
-pub record Names : Type 0 where
+pub record RefusalNumbers : Type 0 where
   pub decoded : numbersOf (paperDecoded Decoded.Above1023 ∷ paperDecoded Decoded.Illegal ∷ []) ≡ 7 ∷ 20 ∷ []
   pub lineWords : numbersOf (paperNumbered Numbered.NoLine ∷ []) ≡ 2 ∷ []
   pub readLineWords : numbersOf (paperNamed Named.Above4095 ∷ paperNamed Named.Nameless ∷ []) ≡ 7 ∷ 22 ∷ []
