@@ -17,6 +17,7 @@ use Rattle.symbol.proofs.Paper.{symbol-paper}
 use Rattle.decoder.proofs.Paper.{decoder-paper}
 use Rattle.line.proofs.Paper.{line-paper}
 use Rattle.picture.proofs.Paper.{picture-paper}
+use Rattle.dividing.proofs.Paper.{dividing-paper}
 use Rattle.word.proofs.Paper.{word-paper}
 use Rattle.crcc.proofs.Paper.{crcc-paper}
 use Rattle.packing.proofs.Paper.{packing-paper}
@@ -160,6 +161,7 @@ demand-2 = record {
   crcc = crcc-paper;
   packing = packing-paper;
   pictures = picture-paper;
+  rows = dividing-paper;
   spans = span-paper;
   code = decodes;
   sent = as-asked;

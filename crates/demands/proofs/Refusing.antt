@@ -37,7 +37,7 @@ use Rattle.span.specs.Length.{lengthsOf}
 use Rattle.span.specs.Sample.{allowed}
 use Rattle.span.specs.Stream.{Request}
 use Rattle.span.specs.Numbers.{IsFormat, Symbols, Samples}
-use Rattle.span.proofs.Formats.{is-known, known-told}
+use Rattle.span.proofs.Formats.{is-format, known-told}
 use Rattle.span.specs.Blanking.{fillOf}
 use Rattle.request.specs.Send.{firstForbidden, sendOf}
 use Rattle.window.specs.Read.{placed, spanTests as testsOf, pictureOf, judgeOf, readOf, rowsLeft}
@@ -271,10 +271,7 @@ join-tried first second whole =
 
 -- formats 1 to 3 at 10 or 12 bits
 pub known-says : (f : Format) → Reflects (isKnown f) (IsFormat f)
-known-says f = record {
-  told = λ t. let k = known-told f t in (k .from, k .to, k .bits);
-  holds = λ g. is-known f (record { from = g .0; to = g .1; bits = g .2 });
-}
+known-says f = record { told = λ t. let k = known-told f t in (k .from, k .to, k .bits); holds = is-format f }
 
 module _ (f : Format) (known : IsFormat f) (x : ℕ) where
   -- a known format has so many symbols, and so many samples

@@ -16,6 +16,7 @@ use Rattle.symbol.specs.Paper.{SymbolPaper}
 use Rattle.decoder.specs.Paper.{DecoderPaper}
 use Rattle.line.specs.Paper.{LinePaper}
 use Rattle.picture.specs.Paper.{PicturePaper}
+use Rattle.dividing.specs.Paper.{DividingPaper}
 use Rattle.word.specs.Paper.{WordPaper}
 use Rattle.crcc.specs.Paper.{CrccPaper}
 use Rattle.packing.specs.Paper.{PackingPaper}
@@ -175,6 +176,7 @@ pub record Demand2 : Type 1 where
   pub crcc : CrccPaper
   pub packing : PackingPaper
   pub pictures : PicturePaper
+  pub rows : DividingPaper
   pub spans : SpanPaper
   -- a character's symbol is decoded to that character
   pub code :

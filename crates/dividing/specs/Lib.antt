@@ -1,3 +1,4 @@
 pub mod Inside
 pub mod Laws
+pub mod Paper
 pub mod Row

@@ -33,7 +33,8 @@ fn verdict_at(number: u8, f: Format, symbols: &[u16]) -> Verdict
     match read_test21_26::call::lowest_place(number, f, symbols) {
         Lowest::Place(place) => Verdict::Fails(Fault { number, place }),
         Lowest::NoneWrong => Verdict::AllHold,
-        Lowest::NoWindow => Verdict::AllHold,
+        // Not met; and if it were, it would be no window that is read.
+        Lowest::NoWindow => Verdict::Fails(Fault { number, place: 0 }),
     }
 }
 

@@ -1,9 +1,54 @@
 -- Recordings in document 01's own terms and numerals, proved: each field cites the law that says it.
 -- Assumes nothing.
-use mathlib.Core.Path.{refl}
+use mathlib.Core.Path.{_≡_, refl}
+use mathlib.Core.List.{List}
+use Prim.Native.Nat.{ℕ, _≤_, _<_}
+use lib.ListN.{length}
+use borrow.Author.Tests.{eq-eqb, ne-eqb, le-leb, lt-leb}
+use Rattle.ground.specs.Answer.{refused}
+use Rattle.span.specs.declared.format.Format.{Format}
+use Rattle.span.specs.Format.{numbered, shapeOf, samplesIn}
+use Rattle.span.specs.Numbers.{IsFormat, Samples}
+use Rattle.span.proofs.Formats.{is-format, no-format}
+use Rattle.window.proofs.Calls.{is-of, of-is}
+use Rattle.recording.specs.Call.{nextOf}
 use Rattle.recording.specs.Paper.{RecordingPaper}
 use Rattle.recording.specs.Recording.{limit}
+use Rattle.recording.proofs.Calling.{find-meets-1, find-meets-3, find-meets-5}
 use Rattle.recording.proofs.Readings.{is-read, not-read, reading-told}
+
+-- rows of a span's length, by the table of formats
+module _ (f : Format) (known : IsFormat f) (room : ℕ) where
+  has-room : Samples f room → room ≡ samplesIn (shapeOf f)
+  unfolding shapeOf
+  has-room h = is-of (λ n. samplesIn (numbered n)) (f .number) room h
+
+  room-told : room ≡ samplesIn (shapeOf f) → Samples f room
+  unfolding shapeOf
+  room-told e = of-is (λ n. samplesIn (numbered n)) (f .number) room (known .0) (known .1) e
+
+-- the refusals of the next span by the room alone
+module _ (f : Format) (r : List ℕ) (start room : ℕ) where
+  next-1 : (IsFormat f → ⊥) → nextOf f r start room ≡ refused 1 0
+  next-1 x = simp (no-format f x)
+
+  module _ (k : IsFormat f) where
+    next-3 : 2097152 < length r → nextOf f r start room ≡ refused 3 0
+    unfolding limit
+    next-3 h = simp (is-format f k, lt-leb (length r) 2097152 h)
+
+    module _ (short : length r ≤ 2097152) where
+      next-4 : (Samples f room → ⊥) → nextOf f r start room ≡ refused 4 0
+      unfolding limit
+      next-4 x =
+          simp
+          (is-format f k, le-leb (length r) 2097152 short, ne-eqb room (samplesIn (shapeOf f)) (λ e. x (room-told f k room e)))
+
+      next-5 : Samples f room → length r < start → nextOf f r start room ≡ refused 5 0
+      unfolding limit
+      next-5 h b =
+          simp
+          (is-format f k, le-leb (length r) 2097152 short, eq-eqb room (samplesIn (shapeOf f)) (has-room f k room h), lt-leb start (length r) b)
 
 pub recording-paper : RecordingPaper
 unfolding limit
@@ -12,4 +57,11 @@ recording-paper = record {
   readIf = λ f w long d e. is-read f w long e;
   readOnlyIf = λ f w x e. let told = reading-told f w x e in (told .long, told .values, told .words);
   notRead = λ f w long number place e. not-read f w long e;
+  findMeets1 = λ f r start x. find-meets-1 f r start (no-format f x);
+  findMeets3 = λ f r start k. find-meets-3 f r start (is-format f k);
+  findMeets5 = λ f r start k. find-meets-5 f r start (is-format f k);
+  nextMeets1 = next-1;
+  nextMeets3 = next-3;
+  nextMeets4 = next-4;
+  nextMeets5 = next-5;
 }

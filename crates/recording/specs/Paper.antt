@@ -3,13 +3,15 @@
 use mathlib.Core.Path.{_≡_}
 use mathlib.Core.List.{List}
 use mathlib.Core.Option.{none, some}
-use Prim.Native.Nat.{ℕ}
+use Prim.Native.Nat.{ℕ, _≤_, _<_}
 use lib.ListN.{length}
 use Rattle.ground.specs.Answer.{refused, given}
 use Rattle.span.specs.declared.format.Format.{Format}
 use Rattle.span.specs.Format.{shapeOf, symbolsIn}
+use Rattle.span.specs.Numbers.{IsFormat, Samples}
 use Rattle.window.specs.declared.delivery.Delivery.{Delivery}
 use Rattle.window.specs.Read.{pictureOf, readSpan}
+use Rattle.recording.specs.Call.{findOf, nextOf}
 use Rattle.recording.specs.Recording.{limit, Reading, reading}
 
 pub record RecordingPaper : Type 0 where
@@ -32,3 +34,25 @@ pub record RecordingPaper : Type 0 where
       → (number place : ℕ)
       → readSpan f w ≡ refused number place
       → reading f w ≡ none
+  -- the refusals of finding a span, in the order tried: 1, 3 beyond that many symbols, 5 for a start beyond the recording
+  pub findMeets1 : (f : Format) (r : List ℕ) (start : ℕ) → (IsFormat f → ⊥) → findOf f r start ≡ refused 1 0
+  pub findMeets3 : (f : Format) (r : List ℕ) (start : ℕ) → IsFormat f → 2097152 < length r → findOf f r start ≡ refused 3 0
+  pub findMeets5 :
+      (f : Format) (r : List ℕ) (start : ℕ) → IsFormat f → length r ≤ 2097152 → length r < start → findOf f r start ≡ refused 5 0
+  -- and of the next span, with 4 for rows of a wrong length before 5
+  pub nextMeets1 : (f : Format) (r : List ℕ) (start room : ℕ) → (IsFormat f → ⊥) → nextOf f r start room ≡ refused 1 0
+  pub nextMeets3 :
+      (f : Format) (r : List ℕ) (start room : ℕ) → IsFormat f → 2097152 < length r → nextOf f r start room ≡ refused 3 0
+  pub nextMeets4 :
+      (f : Format) (r : List ℕ) (start room : ℕ)
+      → IsFormat f
+      → length r ≤ 2097152
+      → (Samples f room → ⊥)
+      → nextOf f r start room ≡ refused 4 0
+  pub nextMeets5 :
+      (f : Format) (r : List ℕ) (start room : ℕ)
+      → IsFormat f
+      → length r ≤ 2097152
+      → Samples f room
+      → length r < start
+      → nextOf f r start room ≡ refused 5 0

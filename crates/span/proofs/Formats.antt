@@ -15,6 +15,7 @@ use Rattle.ground.proofs.Tests.{both-left, both-right}
 use Rattle.span.specs.declared.format.Format.{Format}
 use Rattle.span.specs.declared.format.Shape.{Shape}
 use Rattle.span.specs.Format.{isKnown, tableRow, numbered, shapeOf}
+use Rattle.span.specs.Numbers.{IsFormat}
 use Rattle.span.specs.Inside.Format.{Small}
 use Rattle.span.specs.Layout.{ancillaryStart}
 
@@ -57,6 +58,20 @@ module _ (f : Format) where
 
   pub unknown : (Known f → ⊥) → isKnown f ≡ false
   unknown x = on-test (isKnown f) (λ t. absurd (x (known-told t))) (λ t. t)
+
+-- the same in document 01's numbers
+module _ (f : Format) where
+  pub known : IsFormat f → Known f
+  known k = record { from = k .0; to = k .1; bits = k .2 }
+
+  pub is-format : IsFormat f → isKnown f ≡ true
+  is-format k = is-known f (known k)
+
+  pub not-known : (IsFormat f → ⊥) → Known f → ⊥
+  not-known x k = x (k .from, k .to, k .bits)
+
+  pub no-format : (IsFormat f → ⊥) → isKnown f ≡ false
+  no-format x = unknown f (not-known x)
 
 small-row : (n : ℕ) → Small (numbered n)
 small-row zero = record { half = omega arith; ancillary = omega arith; fill = omega arith; longArea = λ h. omega arith; longFill = λ h. omega arith }

@@ -26,17 +26,18 @@ use Rattle.span.specs.Paper.{Active, wordOf, SpanPaper}
 use Rattle.span.specs.Sample.{sampleWord}
 use Rattle.span.specs.Span.{spanWords, spanChars, bytesListed}
 use Rattle.span.specs.Stream.{Request, sav, picture, eav, lineNumber, register, crcc, ancillary}
+use Rattle.span.proofs.Blank.{fill-meets-1, fill-meets-4}
 use Rattle.span.proofs.Contents.{named-as-given, none-named-zeros}
-use Rattle.span.proofs.Formats.{is-known}
+use Rattle.span.proofs.Formats.{is-format, no-format}
 use Rattle.span.proofs.Images.{images-of-120, images-of-100, images-of-50}
-use Rattle.span.proofs.LengthCalls.{lengths-of-120, lengths-of-100, lengths-of-50}
+use Rattle.span.proofs.LengthCalls.{lengths-refused, lengths-of-120, lengths-of-100, lengths-of-50}
 use Rattle.span.proofs.Lengths.{table-of-formats, known-has-streams, length-of-symbols}
 use Rattle.span.proofs.Places.{sav-words, picture-word, eav-words, line-number-words, crcc-words, ancillary-blank, fill-word, char-at-sync-sav, char-at-sync-eav, char-at, span-symbol-at, word-at-sav, word-at-eav}
 use Rattle.span.proofs.Signals.{signal-is}
 
 -- a format in document 01's numbers has streams
 has-streams : (f : Format) → IsFormat f → 1 ≤ shapeOf f .«stream_pairs»
-has-streams f k = known-has-streams f (is-known f (record { from = k .0; to = k .1; bits = k .2 }))
+has-streams f k = known-has-streams f (is-format f k)
 
 -- ---- V of a line and of the line after
 
@@ -178,6 +179,9 @@ span-paper = record {
   lengths120 = lengths-of-120;
   lengths100 = lengths-of-100;
   lengths50 = lengths-of-50;
+  lengthsMeets1 = λ f x. lengths-refused f (no-format f x);
+  fillMeets1 = λ f row x. fill-meets-1 f row (no-format f x);
+  fillMeets4 = λ f row k. fill-meets-4 f row (is-format f k);
   symbolsOfSpan = λ d f a k. length-of-symbols f a (has-streams f k) d;
   images120 = images-of-120;
   images100 = images-of-100;

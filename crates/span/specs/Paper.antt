@@ -6,7 +6,7 @@ use mathlib.Core.Path.{_≡_}
 use mathlib.Core.List.{List, [], _∷_, _++_}
 use mathlib.Core.Logic.{_⊎_}
 use lib.ListN.{length, getD, take, replicate}
-use Rattle.ground.specs.Answer.{given}
+use Rattle.ground.specs.Answer.{refused, given}
 use Rattle.ground.specs.Written.{table}
 use Rattle.symbol.specs.declared.disparity.Disparity.{Disparity}
 use Rattle.symbol.specs.declared.disparity.Disparity.the-variants.{Negative}
@@ -19,7 +19,7 @@ use Rattle.word.specs.LineNumber.{ln0, ln1}
 use Rattle.span.specs.declared.content.Content.the-variants.{NoneNamed, Named}
 use Rattle.span.specs.declared.content.ContentBytes.{ContentBytes}
 use Rattle.span.specs.declared.format.Format.{Format}
-use Rattle.span.specs.Blanking.{blankRow}
+use Rattle.span.specs.Blanking.{fillOf, blankRow}
 use Rattle.span.specs.Content.{contentOf}
 use Rattle.span.specs.Encoding.{symbolsFrom, afterRun}
 use Rattle.span.specs.Format.{shapeOf, streams, samplesIn, pairsIn, symbolsIn, formatFrom}
@@ -72,6 +72,11 @@ pub record SpanPaper : Type 0 where
       (depth : ℕ) → (depth ≡ 10) ⊎ (depth ≡ 12) → lengthsOf (format 2 depth) ≡ given (record { samples = 3840; symbols = 9504 })
   pub lengths50 :
       (depth : ℕ) → (depth ≡ 10) ⊎ (depth ≡ 12) → lengthsOf (format 3 depth) ≡ given (record { samples = 7680; symbols = 19008 })
+  -- any other format or depth is refused with 1; so it is by the call that fills a row with blanking, which refuses any other length with 4
+  pub lengthsMeets1 : (f : Format) → (IsFormat f → ⊥) → lengthsOf f ≡ refused 1 0
+  pub fillMeets1 : (f : Format) (row : List ℕ) → (IsFormat f → ⊥) → fillOf f row ≡ refused 1 0
+  pub fillMeets4 :
+      (f : Format) (row : List ℕ) → IsFormat f → (length row ≡ samplesIn (shapeOf f) → ⊥) → fillOf f row ≡ refused 4 0
   -- and a span has that many symbols
   pub symbolsOfSpan :
       (d : Disparity) (f : Format) (a : Request) → IsFormat f → length (spanSymbols d f a) ≡ symbolsIn (shapeOf f)

@@ -3,7 +3,8 @@
 use Rattle.span.specs.Format.{shapeOf}
 use Rattle.span.proofs.Lengths.{known-has-streams}
 use Rattle.window.specs.Laws.{WindowRefusals, WindowRules, WindowLaws}
-use Rattle.window.proofs.Numbers.{known, is-format, no-format, is-long}
+use Rattle.window.proofs.Numbers.{is-long}
+use Rattle.span.proofs.Formats.{known, is-format, not-known}
 use Rattle.window.proofs.Accepting.{accepted-told, delivers}
 use Rattle.window.proofs.Areas.{judged-21, judged-22, judged-23, judged-24, judged-25, judged-26, nameless, asked-once}
 use Rattle.window.proofs.Calls.{judge-meets-1, judge-meets-3, judged, read-as-judged, rows-after-1, rows-after-3, rows-after-4, rows-after-refusal, rows-delivered}
@@ -19,11 +20,11 @@ use Rattle.window.proofs.Specials.{k28-5-at, only-k28-5, k29-7-at, only
 
 pub window-refusals : WindowRefusals
 window-refusals = record {
-  judgeMeets1 = λ f w x. judge-meets-1 f w (no-format f x);
+  judgeMeets1 = λ f w x. judge-meets-1 f w (not-known f x);
   judgeMeets3 = λ f w k. judge-meets-3 f w (known f k);
   judged = λ f w k. judged f w (known f k);
   readAsJudged = read-as-judged;
-  rowsAfter1 = λ f w entry x. rows-after-1 f w entry (no-format f x);
+  rowsAfter1 = λ f w entry x. rows-after-1 f w entry (not-known f x);
   rowsAfter3 = λ f w entry k. rows-after-3 f w entry (known f k);
   rowsAfter4 = λ f w entry k. rows-after-4 f w entry (known f k);
   rowsAfterRefusal = λ f w entry k long room number place e. rows-after-refusal f w entry (known f k) long room e;

@@ -24,7 +24,8 @@ use Rattle.window.specs.declared.delivery.Delivery.{Delivery}
 use Rattle.window.specs.Read.{readSpan}
 use Rattle.window.specs.Rules.{Names, Follows}
 use Rattle.window.specs.Paper.{wordOfWindow, WindowPaper}
-use Rattle.window.proofs.Numbers.{is-format, is-long}
+use Rattle.window.proofs.Numbers.{is-long}
+use Rattle.span.proofs.Formats.{is-format}
 
 -- the answer's line is the one before the line that stream 1 names
 answered-line : (f : Format) (w : List ℕ) (r : Delivery) → IsFormat f → readSpan f w ≡ given r
