@@ -1,5 +1,6 @@
 pub mod Cutting
 pub mod Finding
+pub mod Keeping
 pub mod Marks
 pub mod Paper
 pub mod Spans

@@ -9,6 +9,7 @@ ghost use Prim.Native.Nat.{_≤_};
 ghost use lib.ListN.{length};
 ghost use Rattle.ground.specs.Answer.{given};
 ghost use Rattle.span.specs.Format.{isKnown, shapeOf, samplesIn, symbolsIn};
+ghost use Rattle.delivery.specs.Kept.{keptFrom};
 ghost use Rattle.recording.specs.Call.{paperNext, spanned, nextOf, endOr, afterNext, wordsOr, rowsNext};
 ghost use Rattle.recording.specs.Recording.{nextFrom};
 
@@ -24,6 +25,21 @@ fn copy(from: &[u16], to: &mut [u16])
     }
 }
 
+// What to keep of a recording in which no span was found from a start on: nothing before this place can begin one, whatever arrives later.
+fn kept(n: usize, long: usize, start: usize) -> usize
+    requires { ⌜ 1 ≤ n ⌝ }
+    ensures { λ r. ⌜ r ≡ keptFrom n long start ⌝ }
+{
+    if long < n {
+        return start;
+    }
+    let last = long - n + 1;
+    if start < last {
+        return last;
+    }
+    start
+}
+
 // The next span of a recording, with rows and start already checked. It is read into the call's own rows, since the lent ones stay as they
 // were if there is none.
 fn next_from(f: Format, symbols: &[u16], start: usize, own: &mut [u16], rows: &mut [u16]) -> Next
@@ -32,7 +48,7 @@ fn next_from(f: Format, symbols: &[u16], start: usize, own: &mut [u16], rows: &m
     requires { ⌜ length (now own) ≡ samplesIn (shapeOf f) ⌝ }
     requires { ⌜ length (now rows) ≡ samplesIn (shapeOf f) ⌝ }
     ensures answer { λ r. ⌜ paperNext (r .answer) ≡ given (spanned (nextFrom f (now (symbols .entry)) start)) ⌝ }
-    ensures after { λ r. ⌜ r .after ≡ endOr (symbolsIn (shapeOf f)) start (given (spanned (nextFrom f (now (symbols .entry)) start))) ⌝ }
+    ensures after { λ r. ⌜ r .after ≡ endOr (symbolsIn (shapeOf f)) (length (now (symbols .entry))) start (given (spanned (nextFrom f (now (symbols .entry)) start))) ⌝ }
     ensures rows { λ _. ⌜ now (rows .exit) ≡ wordsOr (now (rows .entry)) (nextFrom f (now (symbols .entry)) start) ⌝ }
 {
     match crate::seek::seek(f, symbols, start, own) {
@@ -45,9 +61,10 @@ fn next_from(f: Format, symbols: &[u16], start: usize, own: &mut [u16], rows: &m
             };
         },
         Sought::None => {
+            let n = span::length::span_lengths(f).symbols;
             return Next {
                 answer: NextSpan::Nowhere,
-                after: start,
+                after: kept(n, symbols.len(), start),
             };
         },
     }

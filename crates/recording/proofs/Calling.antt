@@ -38,7 +38,7 @@ module _ (f : Format) (r : List ℕ) (start : ℕ) where
             placeIn none = none
             placeIn (some s) = some (s .place)
 
-    none-found : none ≡ spanned (nextFrom f r start) → findFrom f r start ≡ none
+    pub none-found : none ≡ spanned (nextFrom f r start) → findFrom f r start ≡ none
     unfolding nextBy
     none-found e = go (findFrom f r start) refl e
       where
@@ -128,8 +128,8 @@ module _ (f : Format) (r : List ℕ) (start : ℕ) (entry : List ℕ) where
               simp
               (known, le-leb (length r) limit short, eq-eqb (length entry) (samplesIn (shapeOf f)) room, le-leb start (length r) inside)
 
-          pub next-after : endOr (symbolsIn (shapeOf f)) start (given (spanned (nextFrom f r start))) ≡ afterNext f r start (length entry)
-          next-after = ap (endOr (symbolsIn (shapeOf f)) start) (sym next-given)
+          pub next-after : endOr (symbolsIn (shapeOf f)) (length r) start (given (spanned (nextFrom f r start))) ≡ afterNext f r start (length entry)
+          next-after = ap (endOr (symbolsIn (shapeOf f)) (length r) start) (sym next-given)
 
           pub next-rows : wordsOr entry (nextFrom f r start) ≡ rowsNext f r start entry
           next-rows = rw next-given

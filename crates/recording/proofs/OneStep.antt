@@ -59,7 +59,7 @@ module _ (f : Format) (known : isKnown f ≡ true) (r : List ℕ) where
         some-is = cc given-is
 
         end : after ≡ s .place + n
-        end = at ∙ ap (endOr n start) (answer ∙ sym given-is)
+        end = at ∙ ap (endOr n (length r) start) (answer ∙ sym given-is)
 
         go : (x : Option (Found Reading)) → nextFrom f r start ≡ x → Stepped f r start rows s after
         go none x = let z : _≡_ {A = ℕ} 0 1 = cc (some-is ∙ ap spanned x) in absurd (omega arith)

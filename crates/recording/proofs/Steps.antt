@@ -12,72 +12,129 @@ use Rattle.ground.specs.Answer.{refused, given}
 use Rattle.ground.proofs.Answers.{given-is, when-refused, when-given}
 use Rattle.span.specs.declared.format.Format.{Format}
 use Rattle.span.specs.Format.{isKnown, shapeOf, samplesIn, symbolsIn}
-use Rattle.delivery.specs.Delivery.{Found, followed}
-use Rattle.delivery.proofs.Finding.{next-then}
+use Rattle.delivery.specs.Delivery.{Found, followed, nextBy as nextBy}
+use Rattle.delivery.specs.Kept.{keptFrom}
+use Rattle.delivery.specs.Inside.Ending.{endAfter}
+use Rattle.delivery.proofs.Finding.{found-nowhere, nowhere-told, next-then}
+use Rattle.delivery.proofs.Keeping.{kept-bounds, kept-stays}
 use Rattle.recording.specs.Call.{spanned, nextRows, nextOf, endOr, afterNext, wordsOr, rowsNext}
 use Rattle.recording.specs.Recording.{limit, Reading, reading, nextFrom, deliveryFrom}
-use Rattle.recording.specs.Steps.{Step, runFrom, spanStep, endStep, lastRows}
-use Rattle.recording.proofs.Calling.{next-given}
+use Rattle.recording.specs.Steps.{Step, runFrom, Left, leftBy, spanStep, endStep, lastRows}
+use Rattle.recording.proofs.Calling.{none-found, next-given}
 use Rattle.recording.proofs.Readings.{span-whole}
-use Rattle.recording.proofs.Nexts.{next-is}
+use Rattle.recording.proofs.Nexts.{IsNext, next-is}
 
 module _ (f : Format) where
   abbrev n : ℕ
   n = symbolsIn (shapeOf f)
 
-  -- a refused step, and a step at the end, leave rows and place
+  -- a refused step, and a step at the end, leave the rows; a refused one leaves the place too
   module _ (r : List ℕ) (p : ℕ) (rows : List ℕ) where
     pub refused-stays : (number place : ℕ) → nextOf f r p (length rows) ≡ refused number place
         → (rowsNext f r p rows ≡ rows) × (afterNext f r p (length rows) ≡ p)
-    refused-stays number place e = (sym (when-refused rows _ e), ap (endOr n p) e)
+    refused-stays number place e = (sym (when-refused rows _ e), ap (endOr n (length r) p) e)
 
     no-words : (o : Option (Found Reading)) → spanned o ≡ none → wordsOr rows o ≡ rows
     no-words none e = refl
     no-words (some x) e = cc
 
-    pub end-stays : nextOf f r p (length rows) ≡ given none → (rowsNext f r p rows ≡ rows) × (afterNext f r p (length rows) ≡ p)
+    pub end-stays : nextOf f r p (length rows) ≡ given none → (rowsNext f r p rows ≡ rows) × (afterNext f r p (length rows) ≡ keptFrom n (length r) p)
     end-stays e =
         let none-next = given-is (nextRows f r p (length rows)) (spanned (nextFrom f r p)) none e in
-        (sym (when-given rows _ e) ∙ no-words (nextFrom f r p) none-next, ap (endOr n p) e)
+        (sym (when-given rows _ e) ∙ no-words (nextFrom f r p) none-next, ap (endOr n (length r) p) e)
 
   module _ (known : isKnown f ≡ true) (r : List ℕ) (short : length r ≤ limit) where
     then : (p : ℕ) → deliveryFrom f r p ≡ followed (nextFrom f r p) (λ e. deliveryFrom f r (e .place + n))
     then p = next-then n (reading f) (span-whole f known) r p
 
-    -- at the end each step answers none, and leaves rows and place
-    for-ever : (p : ℕ) (rows : List ℕ) → length rows ≡ samplesIn (shapeOf f) → p ≤ length r → nextFrom f r p ≡ none
-        → (k : ℕ) → runFrom k f r p rows ≡ replicate k (endStep rows)
-    unfolding runFrom
-    for-ever p rows room inside end zero = refl
-    for-ever p rows room inside end (suc k) =
-        rw (next-given f r p rows known short room inside, end) (ap (λ (l : List Step). endStep rows ∷ l) (for-ever p rows room inside end k))
+    least : 1 ≤ n
+    least = span-whole f known .least
+
+    -- where there is none from p on, there is none from a later place on
+    none-later : (p q : ℕ) → p ≤ q → nextFrom f r p ≡ none → nextFrom f r q ≡ none
+    unfolding nextBy
+    none-later p q h e =
+        let whole = span-whole f known in
+        let nowhere = found-nowhere n (reading f) whole r q (λ j l. nowhere-told n (reading f) whole r p (none-found f r p known (sym (ap spanned e))) j (omega arith)) in
+        rw nowhere
+
+    -- at the end each step answers none, and leaves the rows, and the place that is kept
+    module _ (rows : List ℕ) (room : length rows ≡ samplesIn (shapeOf f)) where
+      for-ever : (k p : ℕ) → p ≤ length r → nextFrom f r p ≡ none → runFrom k f r p rows ≡ replicate k (endStep rows)
+      unfolding runFrom
+      for-ever zero p inside end = refl
+      for-ever (suc k) p inside end =
+          let kept = kept-bounds n (length r) p least inside in
+          rw (next-given f r p rows known short room inside, end)
+          (ap (λ (l : List Step). endStep rows ∷ l)
+          (for-ever k (keptFrom n (length r) p) (kept .1) (none-later p (keptFrom n (length r) p) (kept .0) end)))
+
+      kept-left : (k p : ℕ) → p ≤ length r → nextFrom f r p ≡ none
+          → leftBy (suc k) f r p rows ≡ record { place = keptFrom n (length r) p; rows = rows }
+      unfolding leftBy
+      kept-left zero p inside end = rw (next-given f r p rows known short room inside, end)
+      kept-left (suc k) p inside end =
+          let kept = kept-bounds n (length r) p least inside in
+          let q = keptFrom n (length r) p in
+          rw (next-given f r p rows known short room inside, end)
+          (kept-left k q (kept .1) (none-later p q (kept .0) end)
+          ∙ ap (λ (place : ℕ). record { place = place; rows = rows }) (kept-stays n (length r) p least inside))
+
+    -- what a delivery that is known says of the next step
+    end-is : (p : ℕ) → deliveryFrom f r p ≡ [] → nextFrom f r p ≡ none
+    end-is p is = go (nextFrom f r p) refl
+      where
+        go : (o : Option (Found Reading)) → nextFrom f r p ≡ o → nextFrom f r p ≡ none
+        go none e = e
+        go (some x) e = let z : _≡_ {A = ℕ} 0 1 = cc (rw e at (sym (then p) ∙ is)) in absurd (omega arith)
+
+    record First (p : ℕ) (d : Found Reading) (ds : List (Found Reading)) : Type 0 where
+      pub found : nextFrom f r p ≡ some d
+      pub rest : deliveryFrom f r (d .place + n) ≡ ds
+      pub next : IsNext f known r p d
+
+    first-is : (p : ℕ) (d : Found Reading) (ds : List (Found Reading)) → deliveryFrom f r p ≡ d ∷ ds → First p d ds
+    first-is p d ds is = go (nextFrom f r p) refl
+      where
+        go : (o : Option (Found Reading)) → nextFrom f r p ≡ o → First p d ds
+        go none e = let z : _≡_ {A = ℕ} 0 1 = cc (rw e at (sym (then p) ∙ is)) in absurd (omega arith)
+        go (some x) e =
+            let same : x ∷ deliveryFrom f r (x .place + n) ≡ d ∷ ds = rw e at (sym (then p) ∙ is) in
+            let x-is : x ≡ d = cc same in
+            let here : nextFrom f r p ≡ some d = e ∙ ap some x-is in
+            record { found = here; rest = rw (← x-is) (cc same); next = next-is f known r p d here }
 
     steps : (ds : List (Found Reading)) (p : ℕ) (rows : List ℕ) → length rows ≡ samplesIn (shapeOf f) → p ≤ length r → deliveryFrom f r p ≡ ds
         → (k : ℕ) → runFrom (length ds + k) f r p rows ≡ map spanStep ds ++ replicate k (endStep (lastRows rows ds))
     unfolding runFrom
-    steps [] p rows room inside is k = rw (zero-add k) (go (nextFrom f r p) refl)
-      where
-        go : (o : Option (Found Reading)) → nextFrom f r p ≡ o → runFrom k f r p rows ≡ replicate k (endStep rows)
-        go none end = for-ever p rows room inside end k
-        go (some e) found = let z : _≡_ {A = ℕ} 0 1 = cc (rw found at (sym (then p) ∙ is)) in absurd (omega arith)
+    steps [] p rows room inside is k = rw (zero-add k) (for-ever rows room k p inside (end-is p is))
     steps (d ∷ ds) p rows room inside is k =
-        rw (suc-add (length ds) k) (go (nextFrom f r p) refl (λ words size q l m. steps ds q words size l m k))
-      where
-        go : (o : Option (Found Reading)) → nextFrom f r p ≡ o
-            → ((words : List ℕ) → length words ≡ samplesIn (shapeOf f) → (q : ℕ) → q ≤ length r → deliveryFrom f r q ≡ ds
-            → runFrom (length ds + k) f r q words ≡ map spanStep ds ++ replicate k (endStep (lastRows words ds)))
-            → runFrom (suc (length ds + k)) f r p rows ≡ spanStep d ∷ (map spanStep ds ++ replicate k (endStep (lastRows (d .reading .words) ds)))
-        go none end more = let z : _≡_ {A = ℕ} 0 1 = cc (rw end at (sym (then p) ∙ is)) in absurd (omega arith)
-        go (some e) found more =
-            let same : e ∷ deliveryFrom f r (e .place + n) ≡ d ∷ ds = rw found at (sym (then p) ∙ is) in
-            let e-is : e ≡ d = cc same in
-            let rest : deliveryFrom f r (e .place + n) ≡ ds = cc same in
-            let next = next-is f known r p e found in
-            rw (next-given f r p rows known short room inside, found, ← e-is)
-            (ap (λ (l : List Step). spanStep e ∷ l) (more (e .reading .words) (next .room) (e .place + n) (next .inside) rest))
+        let x = first-is p d ds is in
+        rw (suc-add (length ds) k, next-given f r p rows known short room inside, x .found)
+        (ap (λ (l : List Step). spanStep d ∷ l) (steps ds (d .place + n) (d .reading .words) (x .next .room) (x .next .inside) (x .rest) k))
 
     -- from any place on: as many steps as there are spans, and k more
     pub steps-deliver : (p : ℕ) (rows : List ℕ) → length rows ≡ samplesIn (shapeOf f) → p ≤ length r → (k : ℕ)
         → runFrom (length (deliveryFrom f r p) + k) f r p rows
         ≡ map spanStep (deliveryFrom f r p) ++ replicate k (endStep (lastRows rows (deliveryFrom f r p)))
     steps-deliver p rows room inside k = steps (deliveryFrom f r p) p rows room inside refl k
+
+    on-from : (p : ℕ) (rows : List ℕ) → length rows ≡ samplesIn (shapeOf f) → p ≤ length r → (d : Found Reading) → nextFrom f r p ≡ some d
+        → (k : ℕ) → leftBy (suc k) f r p rows ≡ leftBy k f r (d .place + n) (d .reading .words)
+    unfolding leftBy
+    on-from p rows room inside d found k = rw (next-given f r p rows known short room inside, found)
+
+    -- what all of them and one more leave: the place that is kept, and the rows of the last span
+    left : (ds : List (Found Reading)) (p : ℕ) (rows : List ℕ) → length rows ≡ samplesIn (shapeOf f) → p ≤ length r → deliveryFrom f r p ≡ ds
+        → (k : ℕ) → leftBy (length ds + suc k) f r p rows ≡ record { place = keptFrom n (length r) (endAfter n p ds); rows = lastRows rows ds }
+    left [] p rows room inside is k = rw (zero-add (suc k)) (kept-left rows room k p inside (end-is p is))
+    left (d ∷ ds) p rows room inside is k =
+        let x = first-is p d ds is in
+        rw (suc-add (length ds) (suc k))
+        (on-from p rows room inside d (x .found) (length ds + suc k)
+        ∙ left ds (d .place + n) (d .reading .words) (x .next .room) (x .next .inside) (x .rest) k)
+
+    pub steps-leave : (p : ℕ) (rows : List ℕ) → length rows ≡ samplesIn (shapeOf f) → p ≤ length r → (k : ℕ)
+        → leftBy (length (deliveryFrom f r p) + suc k) f r p rows
+        ≡ record { place = keptFrom n (length r) (endAfter n p (deliveryFrom f r p)); rows = lastRows rows (deliveryFrom f r p) }
+    steps-leave p rows room inside k = left (deliveryFrom f r p) p rows room inside refl k

@@ -9,6 +9,7 @@ use Rattle.ground.specs.Answer.{Answer, refused, given, Row, unless, checked, u
 use Rattle.span.specs.declared.format.Format.{Format}
 use Rattle.span.specs.Format.{isKnown, shapeOf, samplesIn, symbolsIn}
 use Rattle.delivery.specs.Delivery.{Found as FoundAt}
+use Rattle.delivery.specs.Kept.{keptFrom}
 use Rattle.recording.specs.declared.answer.Found.{Found}
 use Rattle.recording.specs.declared.answer.Found.the-variants.{At, Nowhere, UnknownFormat, WrongInput, WrongStart}
 use Rattle.recording.specs.declared.answer.NextSpan.{NextSpan}
@@ -60,14 +61,15 @@ nextRows f r start room =
 abbrev pub nextOf : Format → List ℕ → ℕ → ℕ → Answer (Option Spanned)
 nextOf f r start room = checked (nextRows f r start room) (spanned (nextFrom f r start))
 
--- the place after: the end of the span that is delivered, else the start
-abbrev pub endOr : ℕ → ℕ → Answer (Option Spanned) → ℕ
-endOr n start (refused number place) = start
-endOr n start (given none) = start
-endOr n start (given (some s)) = s .place + n
+-- the place after: the end of the span that is delivered; if there is none, the first place at or after the start at which a span may still
+-- begin when more symbols arrive, so that nothing before it need be kept; the start if the call is refused
+abbrev pub endOr : ℕ → ℕ → ℕ → Answer (Option Spanned) → ℕ
+endOr n long start (refused number place) = start
+endOr n long start (given none) = keptFrom n long start
+endOr n long start (given (some s)) = s .place + n
 
 abbrev pub afterNext : Format → List ℕ → ℕ → ℕ → ℕ
-afterNext f r start room = endOr (symbolsIn (shapeOf f)) start (nextOf f r start room)
+afterNext f r start room = endOr (symbolsIn (shapeOf f)) (length r) start (nextOf f r start room)
 
 -- the rows afterwards: the picture of the span that is delivered, else as they were
 abbrev pub wordsOr : List ℕ → Option (FoundAt Reading) → List ℕ

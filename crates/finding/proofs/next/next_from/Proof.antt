@@ -10,10 +10,12 @@ use Rattle.ground.specs.Answer.{given}
 use Rattle.span.specs.declared.length.SpanLengths.{SpanLengths}
 use Rattle.span.specs.Format.{shapeOf, symbolsIn}
 use Rattle.recording.specs.declared.answer.Spanned.{Spanned}
+use Rattle.delivery.specs.Kept.{keptFrom}
 use Rattle.recording.specs.Call.{endOr}
 use Rattle.recording.specs.Recording.{nextFrom}
 use Rattle.finding.specs.Inside.Seek.{soughtOf}
 use Rattle.recording.proofs.Calling.{ends-inside, words-found, none-left}
+use Rattle.recording.proofs.Readings.{span-whole}
 use Rattle.finding.proofs.next.next_from.Statement.{statement}
 use Rattle.finding.proofs.next.next_from.Tie as tie
 
@@ -54,7 +56,7 @@ returns c =
     let n = ap (λ (l : SpanLengths). l .symbols) (c .before .before .span-lengths .ensures) in (
       ap given e,
       (
-        ap (λ (k : ℕ). c .before .before .before .before .before .before .before .before .before .s .given .0 .0 .place + k) n ∙ ap (λ (o : Option Spanned). endOr (symbolsIn (shapeOf f)) start (given o)) e,
+        ap (λ (k : ℕ). c .before .before .before .before .before .before .before .before .before .s .given .0 .0 .place + k) n ∙ ap (λ (o : Option Spanned). endOr (symbolsIn (shapeOf f)) (length (s .args .symbols .now)) start (given o)) e,
         c .before .before .before .before .before .copy .ensures ∙ words-found x (s .args .rows .now) e (c .before .before .before .before .before .before .before .before .before .before .before .before .before .seek .ensures .1),
       ),
     )
@@ -62,17 +64,32 @@ returns c =
 enum-told : tie.Need-enum-told
 enum-told c = search needs
 
+span-lengths-requires-2 : tie.Need-span-lengths-requires-2
+span-lengths-requires-2 c κs = search needs
+
+kept-requires : tie.Need-kept-requires
+kept-requires c κs =
+    let s = c .before .before .before .before .before .before .before .before .before .before in
+    omega (arith, ap (λ (l : SpanLengths). l .symbols) (c .span-lengths2 .ensures), span-whole (s .args .f) (s .pre .0) .least)
+
 same-length-3 : tie.Need-same-length-3
 same-length-3 c = search needs
 
 returns-2 : tie.Need-returns-2
 returns-2 c =
-    let s = c .before .before .before .before .before .before .before .before .before in
+    let s = c .before .before .before .before .before .before .before .before .before .before .before in
     let f = s .args .f in
     let start = s .args .start in
+    let long = length (s .args .symbols .now) in
     let x = nextFrom f (s .args .symbols .now) start in
-    let e = sym (ap soughtOf (c .enum-told .given .1)) ∙ c .before .before .before .before .seek .ensures .0 in
-    (ap given e, (ap (λ (o : Option Spanned). endOr (symbolsIn (shapeOf f)) start (given o)) e, none-left x (s .args .rows .now) e))
+    let e = sym (ap soughtOf (c .before .before .enum-told .given .1)) ∙ c .before .before .before .before .before .before .seek .ensures .0 in
+    let n = ap (λ (l : SpanLengths). l .symbols) (c .before .span-lengths2 .ensures) in (
+      ap given e,
+      (
+        c .kept .ensures ∙ ap (λ (m : ℕ). keptFrom m long start) n ∙ ap (λ (o : Option Spanned). endOr (symbolsIn (shapeOf f)) long start (given o)) e,
+        none-left x (s .args .rows .now) e,
+      ),
+    )
 
 pub next-from-spec : {M : Type 1} → statement M
 next-from-spec =
@@ -87,5 +104,7 @@ next-from-spec =
     same-length-2
     returns
     enum-told
+    span-lengths-requires-2
+    kept-requires
     same-length-3
     returns-2)
