@@ -1,7 +1,7 @@
 -- Delivery step by step: what is skipped, what is found, what is passed over.
 -- Assumes nothing.
 use mathlib.Core.Path.{_≡_, refl, sym, ap, _∙_}
-use mathlib.Core.List.{List, [], _∷_}
+use mathlib.Core.List.{List, [], _∷_, _++_}
 use mathlib.Core.Option.{Option, none, some}
 use Prim.Native.Nat.{ℕ, zero, suc, _+_, _-_, _≤_, _<_}
 use native.Mathlib.Nat.{add-zero, add-suc}
@@ -85,3 +85,25 @@ module _ {A : Type 0} (n : ℕ) (read : List ℕ → Option A) where
   pub few : (r : List ℕ) (p : ℕ) → length (deliverBy n read r p) ≤ length r - p
   unfolding deliverBy
   few r p = rw (← length-drop p r) (few-of p 0 (drop p r))
+
+-- ---- places moved
+
+pub moved-both : {A : Type 0} (k : ℕ) (xs ys : List (Found A)) → movedBy k (xs ++ ys) ≡ movedBy k xs ++ movedBy k ys
+unfolding movedBy
+moved-both k [] ys = refl
+moved-both {A} k (e ∷ xs) ys =
+    ap (λ (l : List (Found A)). record { place = k + e .place; reading = e .reading } ∷ l) (moved-both k xs ys)
+
+pub moved-twice : {A : Type 0} (j k : ℕ) (xs : List (Found A)) → movedBy j (movedBy k xs) ≡ movedBy (j + k) xs
+unfolding movedBy
+moved-twice j k [] = refl
+moved-twice {A} j k (e ∷ xs) =
+    let at : j + (k + e .place) ≡ j + k + e .place = omega arith in
+    rw at (ap (λ (l : List (Found A)). record { place = j + k + e .place; reading = e .reading } ∷ l) (moved-twice j k xs))
+
+pub unmoved : {A : Type 0} (xs : List (Found A)) → movedBy 0 xs ≡ xs
+unfolding movedBy
+unmoved [] = refl
+unmoved {A} (e ∷ xs) =
+    let at : 0 + e .place ≡ e .place = omega arith in
+    rw at (ap (λ (l : List (Found A)). e ∷ l) (unmoved xs))

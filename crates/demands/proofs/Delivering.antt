@@ -153,8 +153,8 @@ module _ (f : Format) (r : List ℕ) (start : ℕ) (entry : List ℕ) (o : Optio
   passed : (i : ℕ) → getD (nextRows f r start (length entry)) i (record { number = 0; fails = none }) .fails ≡ none
   passed = row-passed (nextRows f r start (length entry)) (spanned (nextFrom f r start)) o e
 
-  known : isKnown f ≡ true
-  known = row-holds _ (passed 0)
+  pub known-asked : isKnown f ≡ true
+  known-asked = row-holds _ (passed 0)
 
   short : length r ≤ limit
   short = leb-true (length r) limit (row-holds _ (passed 1))
@@ -162,17 +162,17 @@ module _ (f : Format) (r : List ℕ) (start : ℕ) (entry : List ℕ) (o : Optio
   room : length entry ≡ samplesIn (shapeOf f)
   room = eqb-true (length entry) (samplesIn (shapeOf f)) (row-holds _ (passed 2))
 
-  inside : start ≤ length r
-  inside = leb-true start (length r) (row-holds _ (passed 3))
+  pub start-asked : start ≤ length r
+  start-asked = leb-true start (length r) (row-holds _ (passed 3))
 
-  is : spanned (nextFrom f r start) ≡ o
-  is = given-is (nextRows f r start (length entry)) (spanned (nextFrom f r start)) o e
+  pub next-asked : spanned (nextFrom f r start) ≡ o
+  next-asked = given-is (nextRows f r start (length entry)) (spanned (nextFrom f r start)) o e
 
 pub found-none : (f : Format) (r : List ℕ) (start : ℕ) (entry : List ℕ) → nextOf f r start (length entry) ≡ given none
     → findOf f r start ≡ given none
 found-none f r start entry e =
-    sym (finds-none f r start (known f r start entry none e) (short f r start entry none e) (inside f r start entry none e)
-    (sym (is f r start entry none e)))
+    sym (finds-none f r start (known-asked f r start entry none e) (short f r start entry none e) (start-asked f r start entry none e)
+    (sym (next-asked f r start entry none e)))
 
 pub found-and-read : (f : Format) (r : List ℕ) (start : ℕ) (entry : List ℕ) (s : Spanned) → nextOf f r start (length entry) ≡ given (some s)
     → let w = take (symbolsIn (shapeOf f)) (drop (s .place) r) in
@@ -182,7 +182,7 @@ pub found-and-read : (f : Format) (r : List ℕ) (start : ℕ) (entry : List ℕ
 found-and-read f r start entry s e = go (nextFrom f r start) refl
   where
     k : isKnown f ≡ true
-    k = known f r start entry (some s) e
+    k = known-asked f r start entry (some s) e
 
     w : List ℕ
     w = take (symbolsIn (shapeOf f)) (drop (s .place) r)
@@ -191,15 +191,15 @@ found-and-read f r start entry s e = go (nextFrom f r start) refl
     size = room f r start entry (some s) e
 
     place : findOf f r start ≡ given (some (s .place))
-    place = sym (finds-place f r start k (short f r start entry (some s) e) (inside f r start entry (some s) e) (sym (is f r start entry (some s) e)))
+    place = sym (finds-place f r start k (short f r start entry (some s) e) (start-asked f r start entry (some s) e) (sym (next-asked f r start entry (some s) e)))
 
     go : (x : Option (Found Reading)) → nextFrom f r start ≡ x
         → (findOf f r start ≡ given (some (s .place)))
         × (readOf f w (length entry) ≡ given (s .delivery))
         × (rowsNext f r start entry ≡ rowsRead f w entry)
-    go none x = let z : _≡_ {A = ℕ} 0 1 = cc (sym (ap spanned x) ∙ is f r start entry (some s) e) in absurd (omega arith)
+    go none x = let z : _≡_ {A = ℕ} 0 1 = cc (sym (ap spanned x) ∙ next-asked f r start entry (some s) e) in absurd (omega arith)
     go (some a) x =
-        let same : some (record { place = a .place; delivery = a .reading .values }) ≡ some s = sym (ap spanned x) ∙ is f r start entry (some s) e in
+        let same : some (record { place = a .place; delivery = a .reading .values }) ≡ some s = sym (ap spanned x) ∙ next-asked f r start entry (some s) e in
         let s-is : record { place = a .place; delivery = a .reading .values } ≡ s = cc same in
         let at : a .place ≡ s .place = ap (λ (y : Spanned). y .place) s-is in
         let told = reading-told f w (a .reading) (rw at at (next-is f k r start a x .read)) in

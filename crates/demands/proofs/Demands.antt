@@ -44,6 +44,7 @@ use Rattle.window.proofs.RoundTrip.{sent-encodes, round-trip, picture-back}
 use Rattle.window.proofs.TimingWords.{repaired-delivered}
 use Rattle.delivery.specs.Delivery.{Found}
 use Rattle.delivery.proofs.Paper.{delivery-paper}
+use Rattle.delivery.proofs.Keeping.{kept-start, kept-last}
 use Rattle.delivery.proofs.Finding.{untold, not-at-the-end, found-at, found-told, found-nowhere, nowhere-told, literally, stands-whole}
 use Rattle.recording.specs.Call.{findRows, findOf}
 use Rattle.recording.specs.Recording.{accepts, limit, Reading, reading, findFrom, deliveryFrom}
@@ -92,7 +93,13 @@ demand-1 = record {
   find = find-tried;
   next = λ f r start entry. next-tried f r start (length entry);
   nextRefused = refused-stays;
-  nextNone = end-stays;
+  nextNone = λ f r start entry e.
+      let n = symbolsIn (shapeOf f) in
+      let at = end-stays f r start entry e in (
+        at .0,
+        λ h. at .1 ∙ kept-start n (length r) start h,
+        λ h. ap (λ (k : ℕ). k + n) (at .1) ∙ kept-last n (length r) start h,
+      );
   nextSome = next-some;
 }
 

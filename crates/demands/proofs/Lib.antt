@@ -2,6 +2,7 @@ pub mod Again
 pub mod Delivering
 pub mod Demands
 pub mod Examples
+pub mod Live
 pub mod PictureBack
 pub mod Refusing
 pub mod Sendings

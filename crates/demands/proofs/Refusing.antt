@@ -444,4 +444,4 @@ module _ (f : Format) (r : List ℕ) (start : ℕ) where
         → answer ≡ given (some s)
         → (rowsNext f r start entry ≡ pictureOf f (take n (drop (s .place) r)))
         × (afterNext f r start (length entry) ≡ s .place + n)
-    next-some s e = (sym (when-given entry _ e) ∙ next-words s (next-is (some s) e), ap (endOr n start) e)
+    next-some s e = (sym (when-given entry _ e) ∙ next-words s (next-is (some s) e), ap (endOr n (length r) start) e)

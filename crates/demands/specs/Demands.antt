@@ -118,8 +118,8 @@ pub record Demand1 : Type 0 where
       × Rows (readOf f w (length entry)) entry (pictureOf f w) (rowsRead f w entry)
   -- finding a span: 1, 3, 5
   pub find : (f : Format) (r : List ℕ) (start : ℕ) → Tried (findOf f r start) (findRules f r start)
-  -- the next span, and a step of the stepping reader, which answers it from the reader's place: 1, 3, 4, 5; the rows are touched, and the
-  -- place moves on, only if a span is delivered
+  -- the next span, and a step of the stepping reader, which answers it from the reader's place: 1, 3, 4, 5; the rows are touched only if a
+  -- span is delivered, and a refused call leaves the place
   pub next :
       (f : Format) (r : List ℕ) (start : ℕ) (entry : List ℕ)
       → Tried (nextOf f r start (length entry)) (nextRules f r start (length entry))
@@ -127,10 +127,14 @@ pub record Demand1 : Type 0 where
       (f : Format) (r : List ℕ) (start : ℕ) (entry : List ℕ) (number place : ℕ)
       → nextOf f r start (length entry) ≡ refused number place
       → (rowsNext f r start entry ≡ entry) × (afterNext f r start (length entry) ≡ start)
+  -- if there is none, the place is the start, or that of the last symbols, one fewer than a span has, if it is further on (`Live` says why)
   pub nextNone :
       (f : Format) (r : List ℕ) (start : ℕ) (entry : List ℕ)
       → nextOf f r start (length entry) ≡ given none
-      → (rowsNext f r start entry ≡ entry) × (afterNext f r start (length entry) ≡ start)
+      → let n = symbolsIn (shapeOf f) in
+      (rowsNext f r start entry ≡ entry)
+      × (length r + 1 ≤ start + n → afterNext f r start (length entry) ≡ start)
+      × (start + n ≤ length r + 1 → afterNext f r start (length entry) + n ≡ length r + 1)
   pub nextSome :
       (f : Format) (r : List ℕ) (start : ℕ) (entry : List ℕ) (s : Spanned)
       → nextOf f r start (length entry) ≡ given (some s)

@@ -138,3 +138,14 @@ module _ (f : Format) where
         → leftBy (length (deliveryFrom f r p) + suc k) f r p rows
         ≡ record { place = keptFrom n (length r) (endAfter n p (deliveryFrom f r p)); rows = lastRows rows (deliveryFrom f r p) }
     steps-leave p rows room inside k = left (deliveryFrom f r p) p rows room inside refl k
+
+    -- the rows stay as long as they were
+    rows-long : (ds : List (Found Reading)) (p : ℕ) (rows : List ℕ) → length rows ≡ samplesIn (shapeOf f) → deliveryFrom f r p ≡ ds
+        → length (lastRows rows ds) ≡ samplesIn (shapeOf f)
+    rows-long [] p rows room is = room
+    rows-long (d ∷ ds) p rows room is =
+        let x = first-is p d ds is in rows-long ds (d .place + n) (d .reading .words) (x .next .room) (x .rest)
+
+    pub last-long : (p : ℕ) (rows : List ℕ) → length rows ≡ samplesIn (shapeOf f)
+        → length (lastRows rows (deliveryFrom f r p)) ≡ samplesIn (shapeOf f)
+    last-long p rows room = rows-long (deliveryFrom f r p) p rows room refl
