@@ -8,7 +8,7 @@ use Prim.Native.Nat.{ℕ, suc, _+_, _*_, _/_, _%_, _≤_, _<_}
 use native.Mathlib.Nat.{zero-add}
 use native.Mathlib.Omega.{arith}
 use lib.Dec.{eqb}
-use lib.ListN.{length, getD, set, replicate, length-replicate, getD-replicate, length-append, length-set}
+use lib.ListN.{length, getD, set, take, drop, replicate, length-replicate, getD-replicate, length-append, length-set, length-take, length-drop, take-append-drop}
 use lib.Seq.{ext-getD, getD-set-same, getD-set-other}
 use borrow.Author.Tests.{eq-eqb, ne-eqb, eqb-true, eqb-false}
 use Rattle.ground.specs.Answer.{Answer, refused, given}
@@ -24,7 +24,8 @@ use Rattle.span.specs.declared.format.Format.{Format}
 use Rattle.span.specs.Format.{formatFrom, shapeOf, streams, symbolsIn}
 use Rattle.span.specs.Sample.{sampleWord}
 use Rattle.span.specs.Stream.{Request, picture}
-use Rattle.delivery.specs.Delivery.{Found, movedBy, concatenated, placedFrom}
+use Rattle.window.specs.declared.delivery.Delivery.{Delivery}
+use Rattle.delivery.specs.Delivery.{Found, movedBy, concatenated, placedFrom, Each}
 use Rattle.recording.specs.declared.answer.Spanned.{Spanned}
 use Rattle.recording.specs.Call.{nextOf, afterNext, rowsNext}
 use Rattle.recording.specs.Recording.{limit, Reading, reading, deliveryFrom}
@@ -36,9 +37,11 @@ use Rattle.request.specs.Send.{request, sendOf, sentBuffer}
 use Rattle.demands.specs.Demands.{IsRow}
 use Rattle.demands.specs.Examples.{lowestSample, onLine42, blankLine, threeLines, IsNext, At, Examples}
 use Rattle.demands.specs.Form.{MaySend, Sending, WasSent, sentSymbols, readingOf, spanFound, onward, stepsFrom, DeliveredFrom}
+use Rattle.demands.specs.Live.{arrived, liveFrom, Fits}
 use Rattle.demands.proofs.Demands.{demand-1, demand-3}
 use Rattle.demands.proofs.Refusing.{known-says, symbols-say, samples-say}
 use Rattle.demands.proofs.Delivering.{nothing}
+use Rattle.demands.proofs.Live.{live}
 use Rattle.demands.proofs.PictureBack.{length-picture}
 use Rattle.demands.proofs.Sendings.{sent-long}
 use Rattle.demands.proofs.Used.{refused-20, crcc-stands, divides}
@@ -259,6 +262,29 @@ module _ (f : Format) (n m : ℕ) (known : IsFormat f) (symbols : Symbols f n) (
       after-42,
     )
 
+    -- in two pieces
+    module _ (c : ℕ) where
+      abbrev pieces : List (List ℕ)
+      pieces = take c r ∷ drop c r ∷ []
+
+      fits : (piece : List ℕ) → length piece ≤ length r → Fits f piece
+      fits piece h = omega (arith, short, h, n-is, demand-3 .recordings .theLimit, of-a-span .1)
+
+      joined : arrived pieces ≡ r
+      unfolding concatenated
+      joined = ap (λ (l : List ℕ). take c r ++ l) (append-nil (drop c r)) ∙ take-append-drop c r
+
+      cut-in-two :
+          (v : Delivery)
+          × (v .line .0 ≡ 42)
+          × (liveFrom f rows 0 [] pieces ≡ record { place = length before; reading = record { values = v; words = replicate m 16 } } ∷ [])
+      unfolding movedBy
+      cut-in-two =
+          let each : Each (Fits f) pieces = (fits (take c r) (omega (arith, length-take c r)), (fits (drop c r) (omega (arith, length-drop c r)), tt)) in
+          let found = live .anywhere f x before behind (sent-42 d) rows (rw size samples) pieces each joined in
+          let one : liveFrom f rows 0 [] pieces ≡ here ∷ [] = rw (quiet before p, quiet behind q) at found in
+          (readingOf f x .values, refl, one ∙ ap (λ (words : List ℕ). record { place = length before; reading = record { values = readingOf f x .values; words = words } } ∷ []) (dark d))
+
   -- ---- three spans, with a bit of the second inverted
   module _ (i k : ℕ) (h : i < n) (l : k < 10) where
     abbrev line : ℕ → Sending
@@ -364,6 +390,7 @@ module _ (f : Format) (n m : ℕ) (known : IsFormat f) (symbols : Symbols f n) (
     sent42 = sent-42;
     sentBlank = sent-blank;
     amongNoise = among-noise;
+    cutInTwo = cut-in-two;
     oneOfThree = one-of-three;
     refused6 = refused-6;
     refused20 = refused-20 f n m known symbols samples;

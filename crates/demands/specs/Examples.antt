@@ -5,10 +5,10 @@
 use Prim.Native.Nat.{ℕ, _+_, _*_, _≤_, _<_}
 use mathlib.Core.Path.{_≡_}
 use mathlib.Core.Bool.{cond}
-use mathlib.Core.List.{List, [], _++_}
+use mathlib.Core.List.{List, [], _∷_, _++_}
 use mathlib.Core.Option.{none, some}
 use lib.Dec.{eqb}
-use lib.ListN.{length, getD, set, replicate}
+use lib.ListN.{length, getD, set, take, drop, replicate}
 use Rattle.ground.specs.Answer.{refused, given}
 use Rattle.ground.specs.Bit.{inverted}
 use Rattle.symbol.specs.declared.disparity.Disparity.{Disparity}
@@ -31,6 +31,7 @@ use Rattle.recording.specs.Call.{nextOf, rowsNext}
 use Rattle.request.specs.Send.{request, sendOf, sentBuffer}
 use Rattle.demands.specs.Demands.{IsRow}
 use Rattle.demands.specs.Form.{Sending, WasSent, sentSymbols}
+use Rattle.demands.specs.Live.{liveFrom}
 
 -- the lowest sample that may be sent: 4 at ten bits, 16 at twelve. Its word is 16 either way.
 abbrev pub lowestSample : Format → ℕ
@@ -78,6 +79,18 @@ pub record At (f : Format) (n m : ℕ) : Type 0 where
       IsNext f r 0 m (length before) 42
       × (rowsNext f r 0 rows ≡ replicate m 16)
       × (nextOf f r (length before + n) m ≡ given none)
+  -- and the same on a link that brings these symbols in two pieces, wherever it is cut
+  pub cutInTwo :
+      (d : Disparity) (before after rows : List ℕ)
+      → length before < n
+      → length after < n
+      → length rows ≡ m
+      → (c : ℕ)
+      → let r = before ++ (sentSymbols f (onLine42 f m d) ++ after) in
+      (v : Delivery)
+      × (v .line .0 ≡ 42)
+      × (liveFrom f rows 0 [] (take c r ∷ drop c r ∷ [])
+      ≡ record { place = length before; reading = record { values = v; words = replicate m 16 } } ∷ [])
   -- with one bit of the second of three inverted, line 1 is answered at 0 and line 3 at 2n, and then that there is none
   pub oneOfThree :
       (i k : ℕ)
