@@ -18,6 +18,8 @@ use Rattle.decoder.proofs.Paper.{decoder-paper}
 use Rattle.line.proofs.Paper.{line-paper}
 use Rattle.picture.proofs.Paper.{picture-paper}
 use Rattle.dividing.proofs.Paper.{dividing-paper}
+use Rattle.way_back.proofs.Laws.{way-back-laws}
+use Rattle.way_back.proofs.Paper.{way-back-paper}
 use Rattle.word.proofs.Paper.{word-paper}
 use Rattle.crcc.proofs.Paper.{crcc-paper}
 use Rattle.packing.proofs.Paper.{packing-paper}
@@ -61,7 +63,7 @@ use Rattle.demands.proofs.Again.{again}
 use Rattle.demands.proofs.Delivering.{steps-are, delivered, accepted, anywhere, alone, damaged, nothing, fewer, one-inverted, beginning, found-none, found-and-read}
 use Rattle.demands.proofs.PictureBack.{images-two, images-four, two-good, two-back, four-good, four-back}
 use Rattle.recording.proofs.Steps.{refused-stays, end-stays, steps-deliver}
-use Rattle.demands.proofs.Refusing.{known-says, samples-say, meaning-tried, decode-tried, repair-tried, line-words-tried, read-line-words-tried, crcc-tried, pack-tried, place-tried, lent, split-tried, join-tried, lengths-tried, fill-tried, send-tried, judge-tried, read-tried, rows-left, find-tried, next-tried, next-some}
+use Rattle.demands.proofs.Refusing.{known-says, samples-say, meaning-tried, decode-tried, repair-tried, line-words-tried, read-line-words-tried, crcc-tried, pack-tried, place-tried, back-tried, lent, split-tried, join-tried, lengths-tried, fill-tried, send-tried, judge-tried, read-tried, rows-left, find-tried, next-tried, next-some}
 use Rattle.demands.proofs.Sendings.{row-holds, sendable, sent-crcc}
 
 -- ==== 1 ====
@@ -76,6 +78,7 @@ demand-1 = record {
   crcc = crcc-tried;
   pack = pack-tried;
   place = place-tried;
+  back = back-tried;
   split =
       λ whole first second.
       let r = splitOf whole first second in
@@ -168,6 +171,7 @@ demand-2 = record {
   crcc = crcc-paper;
   packing = packing-paper;
   pictures = picture-paper;
+  waysBack = way-back-paper;
   rows = dividing-paper;
   spans = span-paper;
   code = decodes;
@@ -186,6 +190,7 @@ demand-2 = record {
       repaired-delivered f (x .asked) (sendable f x sent) words disturbed w d c e near;
   joinSplit = λ whole e. join-split 1920 whole e;
   splitJoin = λ first second p q. (split-join 1920 first second 0 (omega arith) p, split-join 1920 first second 1 (omega arith) q);
+  undone = way-back-laws;
   places = λ whole u l j p q r s t.
       let same : w u ≡ (u + 1) % 2 = which u p q in
       let agree = place-agrees whole u l j p q r s t in

@@ -25,6 +25,7 @@ use Rattle.dividing.specs.Inside.Row.{rowWith}
 use Rattle.dividing.proofs.Rows.{length-divided, sample-divided, length-joined, sample-joined}
 use Rattle.span.specs.declared.content.Content.{Content}
 use Rattle.span.specs.declared.format.Format.{Format}
+use Rattle.span.proofs.Formats.{two-streams, four-streams}
 use Rattle.span.specs.Format.{numbered, shapeOf, streams, samplesIn}
 use Rattle.span.specs.Image.{imageOf}
 use Rattle.span.specs.Sample.{sampleWord}
@@ -192,21 +193,6 @@ module _ {f : Format} {h : ℕ} {rows : ℕ → List ℕ} {samples : List ℕ} (
       (λ j v. row-is u 1 j b (omega arith) v)
 
 -- ---- the formats
-
-half-two : (n : ℕ) → 1 ≤ n → n ≤ 2 → numbered n .«stream_pairs» ≡ 1
-half-two zero p q = absurd (omega arith)
-half-two (suc zero) p q = refl
-half-two (suc (suc zero)) p q = refl
-half-two (suc (suc (suc n))) p q = absurd (omega arith)
-
--- formats 1 and 2 have two streams, format 3 four
-two-streams : (f : Format) → IsFormat f → f .number ≤ 2 → shapeOf f .«stream_pairs» ≡ 1
-unfolding shapeOf
-two-streams f known q = half-two (f .number) (known .0) q
-
-four-streams : (f : Format) → f .number ≡ 3 → shapeOf f .«stream_pairs» ≡ 2
-unfolding shapeOf
-four-streams f e = rw e
 
 -- the image that a stream carries, by half the number of streams
 image-of : (f : Format) (h pair t : ℕ) → shapeOf f .«stream_pairs» ≡ h → imageOf f pair t ≡ cond (eqb h 1) (2 * (pair - 1) + t + 1) (t + 1)

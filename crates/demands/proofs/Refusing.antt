@@ -52,11 +52,13 @@ use Rattle.window.proofs.Accepting.{all-hold, none-fails}
 use Rattle.window.proofs.Calls.{is-of, of-is}
 use Rattle.delivery.specs.Delivery.{nextBy as nextBy, findBy as findBy, readFrom, foundAt}
 use Rattle.recording.specs.declared.answer.Spanned.{Spanned}
+use Rattle.way_back.specs.Back.{backOf}
+use Rattle.way_back.proofs.Paper.{carried-says}
 use Rattle.recording.specs.Call.{spanned, wordsOr, endOr, findOf, nextOf, afterNext, nextRows, rowsNext}
 use Rattle.recording.specs.Recording.{limit, Reading, reading, nextFrom}
 use Rattle.recording.proofs.Readings.{reading-told}
 use Rattle.demands.specs.Form.{MaySend, Refusal, rule, ruleAt, Tried, Lent, Rows}
-use Rattle.demands.specs.Rules.{Legal, meaningRules, decodeRules, repairRules, lineWordsRules, readLineWordsRules, crccRules, packRules, placeRules, splitRules, joinRules, lengthsRules, fillRules, sendRules, spanRules, judgeRules, readRules, findRules, nextRules}
+use Rattle.demands.specs.Rules.{Legal, meaningRules, decodeRules, repairRules, lineWordsRules, readLineWordsRules, crccRules, packRules, placeRules, backRules, splitRules, joinRules, lengthsRules, fillRules, sendRules, spanRules, judgeRules, readRules, findRules, nextRules}
 
 -- ---- the rows of a call against the rows of the table
 
@@ -320,6 +322,11 @@ module _ (f : Format) (known : IsFormat f) (x : ℕ) where
 -- the lengths of a format
 pub lengths-tried : (f : Format) → Tried (lengthsOf f) (lengthsRules f)
 lengths-tried f = tried _ (then (plain 1 (known-says f)) (λ _. end))
+
+-- the way back to the picture
+pub back-tried : (f : Format) (link stream n : ℕ) → Tried (backOf f link stream n) (backRules f link stream n)
+back-tried f link stream n =
+    tried _ (then (plain 1 (known-says f)) (λ known. then (plain 2 (carried-says f known link stream n)) (λ _. end)))
 
 -- a row filled with blanking
 pub fill-tried : (f : Format) (entry : List ℕ) → Tried (fillOf f entry) (fillRules f (length entry))

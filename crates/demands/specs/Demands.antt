@@ -43,6 +43,9 @@ use Rattle.span.specs.Length.{lengthsOf}
 use Rattle.span.specs.Span.{spanWords, spanSymbols, spanAfter}
 use Rattle.span.specs.Stream.{Request}
 use Rattle.span.specs.Numbers.{IsFormat, Symbols, Samples}
+use Rattle.way_back.specs.Back.{backOf}
+use Rattle.way_back.specs.Laws.{WayBackLaws}
+use Rattle.way_back.specs.Paper.{WayBackPaper}
 use Rattle.window.specs.declared.delivery.Delivery.{Delivery}
 use Rattle.window.specs.Paper.{wordOfWindow, WindowPaper}
 use Rattle.window.specs.Encoded.{requestOf, charsOf, AreContent, Encodes, IsXyz, Disturbed, wrongAt}
@@ -58,7 +61,7 @@ use Rattle.recording.specs.Recording.{limit, Reading, reading, accepts, deliver
 use Rattle.recording.specs.Steps.{runFrom, spanStep, endStep, lastRows}
 use Rattle.span.specs.Blanking.{fillOf, blankRow, filledRow}
 use Rattle.request.specs.Send.{request, sendOf, sentBuffer}
-use Rattle.demands.specs.Rules.{meaningRules, decodeRules, repairRules, lineWordsRules, readLineWordsRules, crccRules, packRules, placeRules, splitRules, joinRules, lengthsRules, fillRules, sendRules, judgeRules, readRules, findRules, nextRules}
+use Rattle.demands.specs.Rules.{meaningRules, decodeRules, repairRules, lineWordsRules, readLineWordsRules, crccRules, packRules, placeRules, backRules, splitRules, joinRules, lengthsRules, fillRules, sendRules, judgeRules, readRules, findRules, nextRules}
 use Rattle.demands.specs.Form.{Tried, Lent, Rows, Sending, WasSent, sentSymbols, readingOf, stepsFrom, DeliveredFrom, Delivered, wordsFor}
 
 -- ==== 1 ====
@@ -86,6 +89,8 @@ pub record Demand1 : Type 0 where
   pub pack : (a b : ℕ) → Tried (packedOf a b) (packRules a b)
   -- the place of a sample: 2
   pub place : (line sample : ℕ) → Tried (placedOf line sample) (placeRules line sample)
+  -- the way back to the picture: 1, 2
+  pub back : (f : Format) (link stream n : ℕ) → Tried (backOf f link stream n) (backRules f link stream n)
   -- dividing a row: 3, 4
   pub split :
       (whole first second : List ℕ)
@@ -180,6 +185,7 @@ pub record Demand2 : Type 1 where
   pub crcc : CrccPaper
   pub packing : PackingPaper
   pub pictures : PicturePaper
+  pub waysBack : WayBackPaper
   pub rows : DividingPaper
   pub spans : SpanPaper
   -- a character's symbol is decoded to that character
@@ -257,6 +263,8 @@ pub record Demand2 : Type 1 where
       → length first ≡ 1920
       → length second ≡ 1920
       → (divided 0 1920 (joined 1920 first second) ≡ first) × (divided 1 1920 (joined 1920 first second) ≡ second)
+  -- place and way back undo each other, on whichever link and stream a sample travels
+  pub undone : WayBackLaws
   -- each sample goes where the place call says
   pub places :
       (whole : List ℕ) (u l j : ℕ)

@@ -15,6 +15,7 @@ use Rattle.span.specs.declared.format.Format.{Format}
 use Rattle.span.specs.Format.{shapeOf, streams, pairsIn, symbolsIn}
 use Rattle.span.specs.Stream.{Request}
 use Rattle.span.specs.Numbers.{IsFormat, Symbols, Samples}
+use Rattle.way_back.specs.Paper.{Carried}
 use Rattle.recording.specs.Recording.{reading}
 use Rattle.window.specs.Paper.{wordOfWindow}
 use Rattle.window.specs.Rules.{Rule20, Rule21, Rule22, Rule23, Rule24, Rule25, Rule26}
@@ -58,6 +59,10 @@ packRules a b = rule 7 ((a ≤ 4095) × (b ≤ 4095)) ∷ []
 -- the place of a sample: 2
 abbrev pub placeRules : ℕ → ℕ → List Refusal
 placeRules line sample = rule 2 ((1 ≤ line) × (line ≤ 2160) × (sample ≤ 3839)) ∷ []
+
+-- the way back to the picture: 1, 2
+abbrev pub backRules : Format → ℕ → ℕ → ℕ → List Refusal
+backRules f link stream n = rule 1 (IsFormat f) ∷ rule 2 (Carried f link stream n) ∷ []
 
 -- ---- rows
 

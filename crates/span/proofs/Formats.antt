@@ -102,3 +102,18 @@ few-pairs {p} s =
 pub long-area : {p : Shape} → Small p → 1 ≤ p .«stream_pairs» → 268 ≤ p .«stream_pairs» * p .ancillary
 long-area {p} s h =
     let m : p .ancillary * 1 ≤ p .ancillary * p .«stream_pairs» = mul-le-mul-left (p .ancillary) h in omega (arith, m, s .longArea h)
+
+-- formats 1 and 2 have two streams, format 3 four
+half-two : (n : ℕ) → 1 ≤ n → n ≤ 2 → numbered n .«stream_pairs» ≡ 1
+half-two zero p q = absurd (omega arith)
+half-two (suc zero) p q = refl
+half-two (suc (suc zero)) p q = refl
+half-two (suc (suc (suc n))) p q = absurd (omega arith)
+
+pub two-streams : (f : Format) → IsFormat f → f .number ≤ 2 → shapeOf f .«stream_pairs» ≡ 1
+unfolding shapeOf
+two-streams f known q = half-two (f .number) (known .0) q
+
+pub four-streams : (f : Format) → f .number ≡ 3 → shapeOf f .«stream_pairs» ≡ 2
+unfolding shapeOf
+four-streams f e = rw e

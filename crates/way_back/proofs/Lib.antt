@@ -1,0 +1,3 @@
+mod Backs
+pub mod Laws
+pub mod Paper

@@ -1,0 +1,4 @@
+pub mod Back
+pub mod Inside
+pub mod Laws
+pub mod Paper
