@@ -15,7 +15,7 @@ use borrow.Author.Tests.{le-leb, lt-leb, leb-true, leb-false, ltb-true, ltb-fals
 use Rattle.ground.specs.Search.{isSome}
 use Rattle.ground.proofs.Cases.{on-test}
 use Rattle.delivery.specs.Delivery.{Found, followed, windowAt, acceptsAt, findBy, readFrom, nextBy, deliver, deliverBy, movedBy}
-use Rattle.delivery.specs.Kept.{keptFrom}
+use Rattle.delivery.specs.Kept.{untried, keptFrom}
 use Rattle.delivery.specs.Inside.Ending.{endAfter}
 use Rattle.delivery.specs.Inside.Marked.{Whole}
 use Rattle.delivery.proofs.Finding.{told, untold, not-at-the-end, stands-whole, found-at, found-told, nowhere-told, at-the-end, next-then}
@@ -28,14 +28,14 @@ module _ (n long p : ℕ) where
   pub kept-start : long + 1 ≤ p + n → keptFrom n long p ≡ p
   unfolding keptFrom
   kept-start h =
-      on-test (leb p (long + 1 - n))
-      (λ t. let l = leb-true p (long + 1 - n) t in rw t (omega arith))
+      on-test (leb p (untried n long))
+      (λ t. let l = leb-true p (untried n long) t in rw t (omega arith))
       (λ t. rw t)
 
   -- else it is that of the last n - 1 symbols
   pub kept-last : p + n ≤ long + 1 → keptFrom n long p + n ≡ long + 1
   unfolding keptFrom
-  kept-last h = rw (le-leb p (long + 1 - n) (omega arith)) (omega arith)
+  kept-last h = rw (le-leb p (untried n long) (omega arith)) (omega arith)
 
   -- so fewer than n symbols are kept, and none before the start
   pub kept-bounds : 1 ≤ n → p ≤ long → (p ≤ keptFrom n long p) × (keptFrom n long p ≤ long) × (long < keptFrom n long p + n)

@@ -1,10 +1,11 @@
--- Windows one after the other, in plain numbers, proved.
+-- Windows one after the other, and what is kept, in plain numbers, proved.
 -- Assumes nothing.
 use mathlib.Core.Path.{refl, ap}
 use mathlib.Core.List.{List, _++_, append-nil}
 use Prim.Native.Nat.{ℕ}
 use Rattle.delivery.specs.Delivery.{movedBy, concatenated, placedFrom}
 use Rattle.delivery.specs.Paper.{DeliveryPaper}
+use Rattle.delivery.proofs.Keeping.{kept-start, kept-last}
 
 pub delivery-paper : (S A : Type 0) → DeliveryPaper S A
 unfolding movedBy concatenated placedFrom
@@ -14,4 +15,6 @@ delivery-paper S A = record {
   twoAfterEachOther = λ symbols x y. ap (λ (l : List ℕ). symbols x ++ l) (append-nil (symbols y));
   twoPlaces = λ n reading p x y. refl;
   twoMoved = λ k p q a b. refl;
+  keptAll = kept-start;
+  keptLast = kept-last;
 }
