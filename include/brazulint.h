@@ -1,9 +1,9 @@
 /*
  * Brazulint: the link code of a 10G video link for 4K pictures (ITU-R BT.2077 Part 2, in China GY/T 347.2-2021).
  *
- * Link with libadapter.a (`rt staticlib adapter` writes it to target/staticlib), on x86-64 Linux. It calls memcpy and memset and nothing
- * else, allocates nothing, keeps nothing between calls, and may be called from any number of threads at once. As compiled now, judging,
- * finding and the next span take up to 27 KiB of stack, sending 26 KiB, reading 12 KiB, and every other call less than 3 KiB.
+ * Link with libbrazulint.a (`rt staticlib brazulint` writes it to target/staticlib), on x86-64 Linux. It calls memcpy and memset and
+ * nothing else, allocates nothing, keeps nothing between calls, and may be called from any number of threads at once. As compiled now,
+ * judging, finding and the next span take up to 27 KiB of stack, sending 26 KiB, reading 12 KiB, and every other call less than 3 KiB.
  *
  * WHAT EVERY CALL GUARANTEES
  *
@@ -19,45 +19,49 @@
  *   during the call. If the number is 0 the pointer may be null.
  * - A buffer that a call writes (one that is not const) overlaps no other buffer of the same call. Those that it only reads may overlap.
  *
- * REFUSALS
- *
- *    1  unknown format or depth
- *    2  no such stream line (1 to 1125); no such picture line (1 to 2160) or sample (0 to 3839)
- *    3  an input of the wrong length; a recording that is too long
- *    4  an output of the wrong length
- *    5  a start beyond the recording
- *    6  a sample that may not be sent; `place` is the lowest index
- *    7  a word above 4095, a symbol above 1023
- *    8  a timing word beyond repair
- *   20  a symbol of the wrong kind, no symbol, or one that is illegal at its disparity; `place` is a symbol. For those below it is a
- *       word of the span as sent, counted from 0: word k of stream t, both from 0, is at k * s + t, and the fill after them all
- *   21  a timing word is wrong, beyond repair, or has the wrong H
- *   22  the line words of stream 1 name no line, or those of another stream differ
- *   23  V does not fit the line
- *   24  a CRCC word is not the one computed
- *   25  on an active line a word that no sample has
- *   26  a fill word is not 0x100
- *
  * FORMATS AND DEPTHS
  *
- *   format   rate     streams s   samples in a span   symbols in a span
- *        1   120 Hz           2                3840                7920
- *        2   100 Hz           2                3840                9504
- *        3    50 Hz           4                7680               19008
+ *   format   rate     streams s   samples in a span   symbols in a span   images in streams 1 to s
+ *        1   120 Hz           2                3840                7920   1 and 2, or 3 and 4
+ *        2   100 Hz           2                3840                9504   1 and 2, or 3 and 4
+ *        3    50 Hz           4                7680               19008   1, 2, 3, 4
  *
- * The depth is 10 or 12 bits. Symbols have ten bits each in a uint16_t, the bit sent first lowest. Samples and rows are stored stream by
- * stream: 1920 of stream 1, then 1920 of stream 2, and so on.
+ * Symbols have ten bits each in a uint16_t, the bit sent first lowest. Samples and rows are stored stream by stream: 1920 of stream 1, then
+ * 1920 of stream 2, and so on. A link carries one component of the picture. So a picture of three components takes six links in formats 1
+ * and 2, two for each component, and three links in format 3. Nothing in a span says which component or which two images it carries.
+ *
+ * The depth is 10 or 12 bits. At depth 10 a sample is sent shifted left by two, and what comes back is the shifted word of twelve bits: 4
+ * is delivered as 16 and 1019 as 4076. So the rows of lines 42 to 1121 are shifted right by two to have the samples again. Blanking is not
+ * shifted: at either depth it is given as 0x100, sent as 0x100 and delivered as 0x100.
  *
  * The running disparity is a bool: true is positive. It is false before a fresh signal; after that, it is what the previous call answered.
  *
- * AN EXAMPLE: a line is sent, and delivered from the recording
+ * INTERFACES
  *
- *   uint16_t samples[3840], symbols[7920], rows[3840];
- *   for (size_t i = 0; i < 3840; i++) samples[i] = 1024;
- *   brazulint_send_answer sent = brazulint_send(1, 12, 42, false, samples, 3840, symbols, 7920);
- *   if (sent.number != 0) { ... refused; sent.place is the sample if the number is 6 ... }
- *   brazulint_next_answer next = brazulint_next(1, 12, symbols, 7920, 0, rows, 3840);
- *   if (next.number == 0 && next.found) { ... next.delivery.line is 42, rows are the samples; go on from next.resume ... }
+ * The names that are linked carry the number of the interface: brazulint_send is brazulint2_send in libbrazulint.a. An object that was
+ * compiled with the header of another interface does not link. Structs may grow with the interface, and a format or a request that leaves
+ * new fields 0 is refused, or asks for what it asked before; this header says which. So fill them by the names of their fields.
+ *
+ * AN EXAMPLE: a line is sent, and every span of the recording is delivered (examples/c/first.c)
+ *
+ *   static uint16_t samples[3840], symbols[7920], rows[3840];
+ *
+ *   static uint32_t send_and_deliver(void) {
+ *       const brazulint_format format = {.number = BRAZULINT_120_HZ, .depth = 12};
+ *       const brazulint_request request = {.line = {42}, .positive = false};  // no content bytes are named
+ *       for (size_t i = 0; i < 3840; i++) samples[i] = 1024;                  // at 12 bits 16 to 4079 may be sent
+ *
+ *       brazulint_send_answer sent = brazulint_send(format, request, samples, 3840, symbols, 7920);
+ *       if (sent.number != 0) return sent.number;                             // refused, and symbols are as they were
+ *
+ *       uint64_t place = 0;                                                   // every span, wherever it begins
+ *       for (;;) {
+ *           brazulint_next_answer next = brazulint_next(format, symbols, 7920, place, rows, 3840);
+ *           if (next.number != 0 || !next.found) return next.number;          // after none the rows are old
+ *           show(next.delivery.line, rows);
+ *           place = next.resume;
+ *       }
+ *   }
  */
 #ifndef BRAZULINT_H
 #define BRAZULINT_H
@@ -66,9 +70,130 @@
 #include <stddef.h>
 #include <stdint.h>
 
+/* The interface, and the version of the library that this header belongs to: 65536 times the interface, and the release in it. */
+#define BRAZULINT_INTERFACE 2
+#define BRAZULINT_VERSION 131072
+
+#define BRAZULINT_PASTE(interface, call) brazulint##interface##call
+#define BRAZULINT_LINK_NAME(interface, call) BRAZULINT_PASTE(interface, call)
+#define brazulint_version BRAZULINT_LINK_NAME(BRAZULINT_INTERFACE, _version)
+#define brazulint_lengths BRAZULINT_LINK_NAME(BRAZULINT_INTERFACE, _lengths)
+#define brazulint_send BRAZULINT_LINK_NAME(BRAZULINT_INTERFACE, _send)
+#define brazulint_carries_picture BRAZULINT_LINK_NAME(BRAZULINT_INTERFACE, _carries_picture)
+#define brazulint_fill_blanking BRAZULINT_LINK_NAME(BRAZULINT_INTERFACE, _fill_blanking)
+#define brazulint_read BRAZULINT_LINK_NAME(BRAZULINT_INTERFACE, _read)
+#define brazulint_judge BRAZULINT_LINK_NAME(BRAZULINT_INTERFACE, _judge)
+#define brazulint_find BRAZULINT_LINK_NAME(BRAZULINT_INTERFACE, _find)
+#define brazulint_next BRAZULINT_LINK_NAME(BRAZULINT_INTERFACE, _next)
+#define brazulint_split BRAZULINT_LINK_NAME(BRAZULINT_INTERFACE, _split)
+#define brazulint_join BRAZULINT_LINK_NAME(BRAZULINT_INTERFACE, _join)
+#define brazulint_place BRAZULINT_LINK_NAME(BRAZULINT_INTERFACE, _place)
+#define brazulint_line_words BRAZULINT_LINK_NAME(BRAZULINT_INTERFACE, _line_words)
+#define brazulint_read_line_words BRAZULINT_LINK_NAME(BRAZULINT_INTERFACE, _read_line_words)
+#define brazulint_repair BRAZULINT_LINK_NAME(BRAZULINT_INTERFACE, _repair)
+#define brazulint_crcc BRAZULINT_LINK_NAME(BRAZULINT_INTERFACE, _crcc)
+#define brazulint_decode BRAZULINT_LINK_NAME(BRAZULINT_INTERFACE, _decode)
+#define brazulint_encode BRAZULINT_LINK_NAME(BRAZULINT_INTERFACE, _encode)
+
+/* An answer that is not looked at is a refusal that is not seen, so compilers that can are asked to warn. */
+#if defined(__cplusplus) && __cplusplus >= 201703L
+#define BRAZULINT_MUST_USE [[nodiscard]]
+#elif defined(__STDC_VERSION__) && __STDC_VERSION__ >= 202311L
+#define BRAZULINT_MUST_USE [[nodiscard]]
+#elif defined(__GNUC__)
+#define BRAZULINT_MUST_USE __attribute__((warn_unused_result))
+#else
+#define BRAZULINT_MUST_USE
+#endif
+
 #ifdef __cplusplus
 extern "C" {
 #endif
+
+/* The version of the library that is linked: equal to BRAZULINT_VERSION where it is the one that this header belongs to. */
+BRAZULINT_MUST_USE uint32_t brazulint_version(void);
+
+/* ---- Refusals */
+
+enum {
+    BRAZULINT_DONE = 0,
+    BRAZULINT_UNKNOWN_FORMAT = 1, /* unknown format or depth */
+    BRAZULINT_NO_LINE = 2,        /* no such stream line (1 to 1125); no such picture line (1 to 2160) or sample (0 to 3839) */
+    BRAZULINT_WRONG_INPUT = 3,    /* an input of the wrong length; a recording that is too long */
+    BRAZULINT_WRONG_OUTPUT = 4,   /* an output of the wrong length */
+    BRAZULINT_WRONG_START = 5,    /* a start beyond the recording */
+    BRAZULINT_NOT_ALLOWED = 6,    /* a sample that may not be sent; `place` is the lowest index */
+    BRAZULINT_TOO_LARGE = 7,      /* a word above 4095, a symbol above 1023 */
+    BRAZULINT_BEYOND_REPAIR = 8,  /* a timing word beyond repair */
+    BRAZULINT_WRONG_SYMBOL = 20,  /* a symbol of the wrong kind, no symbol, or one that is illegal at its disparity; `place` is a symbol */
+    /* For those below `place` is a word of the span as sent, counted from 0: word k of stream t, both from 0, is at k * s + t, and the fill
+     * after them all. */
+    BRAZULINT_WRONG_TIMING = 21, /* a timing word is wrong, beyond repair, or has the wrong H */
+    BRAZULINT_WRONG_LINE = 22,   /* the line words of stream 1 name no line, or those of another stream differ */
+    BRAZULINT_WRONG_V = 23,      /* V does not fit the line */
+    BRAZULINT_WRONG_CRCC = 24,   /* a CRCC word is not the one computed */
+    BRAZULINT_WRONG_SAMPLE = 25, /* on an active line a word that no sample has */
+    BRAZULINT_WRONG_FILL = 26    /* a fill word is not 0x100 */
+};
+
+/* A refusal in words; "done" for 0, and "not a refusal" for a number that is none. */
+static inline const char *brazulint_refusal_text(uint32_t number) {
+    switch (number) {
+    case BRAZULINT_DONE: return "done";
+    case BRAZULINT_UNKNOWN_FORMAT: return "unknown format or depth";
+    case BRAZULINT_NO_LINE: return "no such line or sample";
+    case BRAZULINT_WRONG_INPUT: return "an input of the wrong length, or a recording that is too long";
+    case BRAZULINT_WRONG_OUTPUT: return "an output of the wrong length";
+    case BRAZULINT_WRONG_START: return "a start beyond the recording";
+    case BRAZULINT_NOT_ALLOWED: return "a sample that may not be sent";
+    case BRAZULINT_TOO_LARGE: return "a word above 4095, or a symbol above 1023";
+    case BRAZULINT_BEYOND_REPAIR: return "a timing word beyond repair";
+    case BRAZULINT_WRONG_SYMBOL: return "a symbol of the wrong kind, no symbol, or one that is illegal at its disparity";
+    case BRAZULINT_WRONG_TIMING: return "a timing word is wrong, beyond repair, or of the other H";
+    case BRAZULINT_WRONG_LINE: return "the line words of stream 1 name no line, or those of another stream differ";
+    case BRAZULINT_WRONG_V: return "V does not fit the line";
+    case BRAZULINT_WRONG_CRCC: return "a CRCC word is not the one computed";
+    case BRAZULINT_WRONG_SAMPLE: return "on an active line a word that no sample has";
+    case BRAZULINT_WRONG_FILL: return "a fill word is not 0x100";
+    default: return "not a refusal";
+    }
+}
+
+/* ---- Formats and lines */
+
+enum { BRAZULINT_120_HZ = 1, BRAZULINT_100_HZ = 2, BRAZULINT_50_HZ = 3 };
+
+/* A format, by value, first in each call that takes one. 0 in any field is refused. */
+typedef struct {
+    uint32_t number; /* BRAZULINT_120_HZ, BRAZULINT_100_HZ, BRAZULINT_50_HZ */
+    uint32_t depth;  /* 10, 12 */
+} brazulint_format;
+
+/* The samples and the symbols of a span of the largest format, and the symbols of the longest recording. */
+#define BRAZULINT_MOST_SAMPLES 7680
+#define BRAZULINT_MOST_SYMBOLS 19008
+#define BRAZULINT_LIMIT 2097152
+
+/* A line of a stream, 1 to 1125; of these 42 to 1121 carry lines of a picture. */
+typedef struct {
+    uint32_t number;
+} brazulint_stream_line;
+
+/* A line of a picture, 1 to 2160. */
+typedef struct {
+    uint32_t number;
+} brazulint_picture_line;
+
+typedef struct {
+    uint32_t number; /* 1 */
+    size_t samples;  /* of all streams of a span */
+    size_t symbols;  /* of a span */
+} brazulint_lengths_answer;
+
+/* How many samples a span of a format takes, and how many symbols it has. */
+BRAZULINT_MUST_USE brazulint_lengths_answer brazulint_lengths(brazulint_format format);
+
+/* ---- Sending */
 
 /* The content bytes: 1 and 2 after the special characters of the SAV, and after those of the EAV. */
 typedef struct {
@@ -78,27 +203,13 @@ typedef struct {
     uint8_t eav2;
 } brazulint_content;
 
-/* What a span says about itself. */
+/* What the sender is asked for, by value. */
 typedef struct {
-    uint32_t line; /* the stream line whose SAV begins the span */
+    brazulint_stream_line line;
+    bool positive;             /* the running disparity before the span */
+    bool named;                /* whether content bytes are named: if not, zeros are sent, and `content` is not looked at */
     brazulint_content content;
-    bool positive_before; /* the running disparity before the span */
-    bool positive_after;  /* and after it */
-    uint32_t repairs;     /* timing words repaired, one bit in each */
-} brazulint_delivery;
-
-/* ---- Formats */
-
-typedef struct {
-    uint32_t number; /* 1 */
-    size_t samples;  /* of all streams of a span */
-    size_t symbols;  /* of a span */
-} brazulint_lengths_answer;
-
-/* How many samples a span of a format takes, and how many symbols it has. */
-brazulint_lengths_answer brazulint_lengths(uint32_t format, uint32_t depth);
-
-/* ---- Sending */
+} brazulint_request;
 
 typedef struct {
     uint32_t number;     /* 1, 2, 3, 4, 6 */
@@ -107,22 +218,29 @@ typedef struct {
 } brazulint_send_answer;
 
 /*
- * Sends the span of a stream line into `symbols`, which has room for exactly one span, from the running disparity before it. On lines 42 to
- * 1121 samples are 4 to 1019 at depth 10 and 16 to 4079 at depth 12; on any other line each is 0x100. The first call names no content
- * bytes, and zeros are sent; the second sends those given.
+ * Sends a span into `symbols`, which has room for exactly one. On lines 42 to 1121 samples are 4 to 1019 at depth 10 and 16 to 4079 at
+ * depth 12; on any other line each is 0x100.
  */
-brazulint_send_answer brazulint_send(uint32_t format, uint32_t depth, uint32_t line, bool positive,
-                                     const uint16_t *samples, size_t sample_count, uint16_t *symbols, size_t symbol_room);
-brazulint_send_answer brazulint_send_named(uint32_t format, uint32_t depth, uint32_t line, bool positive, brazulint_content content,
-                                           const uint16_t *samples, size_t sample_count, uint16_t *symbols, size_t symbol_room);
+BRAZULINT_MUST_USE brazulint_send_answer brazulint_send(brazulint_format format, brazulint_request request,
+                                                        const uint16_t *samples, size_t sample_count,
+                                                        uint16_t *symbols, size_t symbol_room);
 
 /* The row that a stream line carries: true for the picture (lines 42 to 1121), false for blanking (any other number). Refuses nothing. */
-bool brazulint_carries_picture(uint32_t line);
+BRAZULINT_MUST_USE bool brazulint_carries_picture(brazulint_stream_line line);
 
 /* Fills a row with the blanking samples of all streams. Answers 0, or the refusal: 1, 4. */
-uint32_t brazulint_fill_blanking(uint32_t format, uint32_t depth, uint16_t *row, size_t row_room);
+BRAZULINT_MUST_USE uint32_t brazulint_fill_blanking(brazulint_format format, uint16_t *row, size_t row_room);
 
 /* ---- Receiving */
+
+/* What a span says about itself. */
+typedef struct {
+    brazulint_stream_line line; /* the line whose SAV begins the span */
+    brazulint_content content;
+    bool positive_before; /* the running disparity before the span */
+    bool positive_after;  /* and after it */
+    uint32_t repairs;     /* timing words repaired, one bit in each */
+} brazulint_delivery;
 
 typedef struct {
     uint32_t number; /* 1, 3, 4, 20 to 26 */
@@ -134,13 +252,13 @@ typedef struct {
  * Reads exactly one span into `rows`, which has room for exactly a span's samples: twelve-bit words as received (at depth 10 not shifted
  * back). After 20 to 26 the rows are all zero.
  */
-brazulint_read_answer brazulint_read(uint32_t format, uint32_t depth, const uint16_t *symbols, size_t symbol_count,
-                                     uint16_t *rows, size_t row_room);
+BRAZULINT_MUST_USE brazulint_read_answer brazulint_read(brazulint_format format, const uint16_t *symbols, size_t symbol_count,
+                                                        uint16_t *rows, size_t row_room);
 
 /* Answers what reading would, without rows; it never answers 4. */
-brazulint_read_answer brazulint_judge(uint32_t format, uint32_t depth, const uint16_t *symbols, size_t symbol_count);
+BRAZULINT_MUST_USE brazulint_read_answer brazulint_judge(brazulint_format format, const uint16_t *symbols, size_t symbol_count);
 
-/* ---- Recordings: at most 2,097,152 symbols */
+/* ---- Recordings: at most BRAZULINT_LIMIT symbols */
 
 typedef struct {
     uint32_t number; /* 1, 3, 5 */
@@ -149,7 +267,8 @@ typedef struct {
 } brazulint_find_answer;
 
 /* The first place at or after `start` at which a span would be read. A start equal to the length finds none. */
-brazulint_find_answer brazulint_find(uint32_t format, uint32_t depth, const uint16_t *symbols, size_t symbol_count, uint64_t start);
+BRAZULINT_MUST_USE brazulint_find_answer brazulint_find(brazulint_format format, const uint16_t *symbols, size_t symbol_count,
+                                                        uint64_t start);
 
 typedef struct {
     uint32_t number; /* 1, 3, 4, 5 */
@@ -159,10 +278,12 @@ typedef struct {
     brazulint_delivery delivery;
 } brazulint_next_answer;
 
-/* Finds a span and reads it into `rows` at once. Look at `found` before you look at the rows: unless a span is delivered they stay as they
- * were, so what an earlier call left there is still there and looks like a good row. */
-brazulint_next_answer brazulint_next(uint32_t format, uint32_t depth, const uint16_t *symbols, size_t symbol_count, uint64_t start,
-                                     uint16_t *rows, size_t row_room);
+/*
+ * Finds a span and reads it into `rows` at once. After "none", as after a refusal, the rows are old: they stay as they were, so what an
+ * earlier call left there is still there and looks like a good row. Look at `found` before you look at the rows.
+ */
+BRAZULINT_MUST_USE brazulint_next_answer brazulint_next(brazulint_format format, const uint16_t *symbols, size_t symbol_count,
+                                                        uint64_t start, uint16_t *rows, size_t row_room);
 
 /* ---- Pictures */
 
@@ -170,22 +291,23 @@ brazulint_next_answer brazulint_next(uint32_t format, uint32_t depth, const uint
  * Divides a row of 3840 samples into the rows of 1920 of two basic images: 1 and 2 on an odd picture line, 3 and 4 on an even one. Samples
  * are copied unchanged. Both calls answer 0, or the refusal: 3, 4.
  */
-uint32_t brazulint_split(const uint16_t *row, size_t row_count, uint16_t *first, size_t first_room, uint16_t *second, size_t second_room);
+BRAZULINT_MUST_USE uint32_t brazulint_split(const uint16_t *row, size_t row_count, uint16_t *first, size_t first_room,
+                                            uint16_t *second, size_t second_room);
 
 /* Joins them again. */
-uint32_t brazulint_join(const uint16_t *first, size_t first_count, const uint16_t *second, size_t second_count,
-                        uint16_t *row, size_t row_room);
+BRAZULINT_MUST_USE uint32_t brazulint_join(const uint16_t *first, size_t first_count, const uint16_t *second, size_t second_count,
+                                           uint16_t *row, size_t row_room);
 
 typedef struct {
-    uint32_t number;      /* 2 */
-    uint32_t image;       /* the basic image, 1 to 4 */
-    uint32_t line;        /* its line, 1 to 1080 */
-    uint32_t stream_line; /* the stream line that carries it, 42 to 1121 */
-    uint32_t sample;      /* 0 to 1919 */
+    uint32_t number;                   /* 2 */
+    uint32_t image;                    /* the basic image, 1 to 4 */
+    uint32_t image_line;               /* its line, 1 to 1080 */
+    brazulint_stream_line stream_line; /* the stream line that carries it, 42 to 1121 */
+    uint32_t sample;                   /* 0 to 1919 */
 } brazulint_place_answer;
 
 /* Where a sample of a picture line goes: lines count from 1, samples from 0. */
-brazulint_place_answer brazulint_place(uint32_t line, uint32_t sample);
+BRAZULINT_MUST_USE brazulint_place_answer brazulint_place(brazulint_picture_line line, uint32_t sample);
 
 /* ---- Words of a stream */
 
@@ -196,15 +318,15 @@ typedef struct {
 } brazulint_line_words_answer;
 
 /* The two words of a stream line's number. */
-brazulint_line_words_answer brazulint_line_words(uint32_t line);
+BRAZULINT_MUST_USE brazulint_line_words_answer brazulint_line_words(brazulint_stream_line line);
 
 typedef struct {
     uint32_t number; /* 7, 22 */
-    uint32_t line;
+    brazulint_stream_line line;
 } brazulint_read_line_words_answer;
 
 /* The stream line for which exactly these two words are sent. */
-brazulint_read_line_words_answer brazulint_read_line_words(uint32_t ln0, uint32_t ln1);
+BRAZULINT_MUST_USE brazulint_read_line_words_answer brazulint_read_line_words(uint32_t ln0, uint32_t ln1);
 
 typedef struct {
     uint32_t number;   /* 7, 8 */
@@ -213,7 +335,7 @@ typedef struct {
 } brazulint_repair_answer;
 
 /* The legal timing word (800, 9D0, AB0, B60 hex) that is at most one bit from a given one. */
-brazulint_repair_answer brazulint_repair(uint32_t word);
+BRAZULINT_MUST_USE brazulint_repair_answer brazulint_repair(uint32_t word);
 
 typedef struct {
     uint32_t number; /* 7 */
@@ -223,7 +345,7 @@ typedef struct {
 } brazulint_crcc_answer;
 
 /* The CRCC of a run of words of one stream. */
-brazulint_crcc_answer brazulint_crcc(const uint16_t *words, size_t word_count);
+BRAZULINT_MUST_USE brazulint_crcc_answer brazulint_crcc(const uint16_t *words, size_t word_count);
 
 /* ---- The 8B/10B code */
 
@@ -250,7 +372,7 @@ typedef struct {
 } brazulint_decode_answer;
 
 /* The character that has a symbol at the running disparity before it, and the disparity after. */
-brazulint_decode_answer brazulint_decode(bool positive, uint32_t symbol);
+BRAZULINT_MUST_USE brazulint_decode_answer brazulint_decode(bool positive, uint32_t symbol);
 
 typedef struct {
     bool known; /* false for a number above 267, which is not a character */
@@ -259,7 +381,7 @@ typedef struct {
 } brazulint_encode_answer;
 
 /* The symbol of a character at the running disparity before it, and the disparity after. It refuses nothing. */
-brazulint_encode_answer brazulint_encode(bool positive, uint32_t character);
+BRAZULINT_MUST_USE brazulint_encode_answer brazulint_encode(bool positive, uint32_t character);
 
 #ifdef __cplusplus
 }

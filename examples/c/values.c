@@ -1,11 +1,31 @@
 /*
- * Every call of the header once or more from C, with values that the papers give, null pointers of length 0, and odd lengths. It prints
- * each that is wrong, and how many were tried.
+ * Every call of the header once or more from C, with values that the papers give, null pointers of length 0, and odd lengths; and every
+ * name that the header has for a number. It prints each that is wrong, and how many were tried.
  */
 #include "brazulint.h"
 
 #include <stdio.h>
 #include <string.h>
+
+/* The layouts that the calls were compiled with: each struct's size, and the places of its fields where padding could move them. */
+#define LAID_OUT(holds) _Static_assert(holds, #holds)
+LAID_OUT(sizeof(brazulint_format) == 8 && offsetof(brazulint_format, depth) == 4);
+LAID_OUT(sizeof(brazulint_stream_line) == 4 && sizeof(brazulint_picture_line) == 4 && sizeof(brazulint_content) == 4);
+LAID_OUT(sizeof(brazulint_request) == 12 && offsetof(brazulint_request, positive) == 4);
+LAID_OUT(offsetof(brazulint_request, named) == 5 && offsetof(brazulint_request, content) == 6);
+LAID_OUT(sizeof(brazulint_delivery) == 16 && offsetof(brazulint_delivery, content) == 4);
+LAID_OUT(offsetof(brazulint_delivery, positive_before) == 8 && offsetof(brazulint_delivery, positive_after) == 9);
+LAID_OUT(offsetof(brazulint_delivery, repairs) == 12);
+LAID_OUT(sizeof(brazulint_lengths_answer) == 24 && offsetof(brazulint_lengths_answer, symbols) == 16);
+LAID_OUT(sizeof(brazulint_send_answer) == 16 && offsetof(brazulint_send_answer, place) == 8);
+LAID_OUT(sizeof(brazulint_read_answer) == 32 && offsetof(brazulint_read_answer, delivery) == 16);
+LAID_OUT(sizeof(brazulint_find_answer) == 16 && offsetof(brazulint_find_answer, place) == 8);
+LAID_OUT(sizeof(brazulint_next_answer) == 40 && offsetof(brazulint_next_answer, delivery) == 24);
+LAID_OUT(sizeof(brazulint_place_answer) == 20 && offsetof(brazulint_place_answer, stream_line) == 12);
+LAID_OUT(sizeof(brazulint_line_words_answer) == 12 && sizeof(brazulint_read_line_words_answer) == 8);
+LAID_OUT(sizeof(brazulint_repair_answer) == 12 && sizeof(brazulint_crcc_answer) == 16);
+LAID_OUT(sizeof(brazulint_decode_answer) == 12 && sizeof(brazulint_encode_answer) == 12);
+LAID_OUT(BRAZULINT_LIMIT == 1 << 21 && BRAZULINT_VERSION == BRAZULINT_INTERFACE * 65536);
 
 static unsigned tried, wrong;
 
@@ -18,6 +38,8 @@ static void is(bool holds, const char *text, int at) {
 #define IS(holds) is((holds), #holds, __LINE__)
 
 enum { SAMPLES = 3840, SYMBOLS = 7920 };
+static const brazulint_format HZ_120 = {.number = BRAZULINT_120_HZ, .depth = 12};
+static const brazulint_content CONTENT = {1, 2, 3, 4};
 static uint16_t samples[SAMPLES], symbols[SYMBOLS], rows[SAMPLES];
 
 /* What a refusal below 20 leaves: the pattern. */
@@ -33,36 +55,53 @@ static bool zero(const uint16_t *buffer, size_t count) {
     return true;
 }
 
+static brazulint_lengths_answer lengths(uint32_t number, uint32_t depth) {
+    return brazulint_lengths((brazulint_format){.number = number, .depth = depth});
+}
+
 static void formats(void) {
-    brazulint_lengths_answer l = brazulint_lengths(1, 12);
+    IS(brazulint_version() == BRAZULINT_VERSION);
+    brazulint_lengths_answer l = brazulint_lengths(HZ_120);
     IS(l.number == 0 && l.samples == 3840 && l.symbols == 7920);
-    l = brazulint_lengths(2, 10);
+    l = lengths(BRAZULINT_100_HZ, 10);
     IS(l.number == 0 && l.samples == 3840 && l.symbols == 9504);
-    l = brazulint_lengths(3, 10);
-    IS(l.number == 0 && l.samples == 7680 && l.symbols == 19008);
-    l = brazulint_lengths(257, 12);
-    IS(l.number == 1 && l.samples == 0 && l.symbols == 0);
-    IS(brazulint_lengths(1, 268).number == 1);
+    l = lengths(BRAZULINT_50_HZ, 10);
+    IS(l.number == 0 && l.samples == BRAZULINT_MOST_SAMPLES && l.symbols == BRAZULINT_MOST_SYMBOLS);
+    l = lengths(257, 12);
+    IS(l.number == BRAZULINT_UNKNOWN_FORMAT && l.samples == 0 && l.symbols == 0);
+    IS(lengths(1, 268).number == 1 && lengths(0, 12).number == 1 && lengths(1, 0).number == 1);
+    IS(lengths(12, 1).number == 1); /* format and depth changed round */
+}
+
+/* Each refusal has words of its own, and no other number has those. */
+static void refusals(void) {
+    const char *none = brazulint_refusal_text(UINT32_MAX);
+    for (uint32_t number = 0; number < 30; number++) {
+        bool known = number <= BRAZULINT_BEYOND_REPAIR || (number >= BRAZULINT_WRONG_SYMBOL && number <= BRAZULINT_WRONG_FILL);
+        IS((strcmp(brazulint_refusal_text(number), none) != 0) == known);
+        for (uint32_t other = 0; known && other < number; other++)
+            IS(strcmp(brazulint_refusal_text(number), brazulint_refusal_text(other)) != 0);
+    }
 }
 
 static void words(void) {
-    brazulint_line_words_answer w = brazulint_line_words(42);
+    brazulint_line_words_answer w = brazulint_line_words((brazulint_stream_line){42});
     IS(w.number == 0 && w.ln0 == 0xAA0 && w.ln1 == 0x800);
-    w = brazulint_line_words(1125);
+    w = brazulint_line_words((brazulint_stream_line){1125});
     IS(w.number == 0 && w.ln0 == 0x650 && w.ln1 == 0x880);
-    w = brazulint_line_words(65578);
-    IS(w.number == 2 && w.ln0 == 0 && w.ln1 == 0);
+    w = brazulint_line_words((brazulint_stream_line){65578});
+    IS(w.number == BRAZULINT_NO_LINE && w.ln0 == 0 && w.ln1 == 0);
     brazulint_read_line_words_answer n = brazulint_read_line_words(0x800, 0x810);
-    IS(n.number == 0 && n.line == 128);
+    IS(n.number == 0 && n.line.number == 128);
     n = brazulint_read_line_words(0x800, 0x800); /* LN0 of line 128 and LN1 of line 127 */
-    IS(n.number == 22 && n.line == 0);
-    IS(brazulint_read_line_words(0x10810, 0x800).number == 7);
+    IS(n.number == BRAZULINT_WRONG_LINE && n.line.number == 0);
+    IS(brazulint_read_line_words(0x10810, 0x800).number == BRAZULINT_TOO_LARGE);
     brazulint_repair_answer r = brazulint_repair(0x801);
     IS(r.number == 0 && r.word == 0x800 && r.distance == 1);
     r = brazulint_repair(0x8D0);
     IS(r.number == 0 && r.word == 0x9D0 && r.distance == 1);
     r = brazulint_repair(0x803);
-    IS(r.number == 8 && r.word == 0 && r.distance == 0);
+    IS(r.number == BRAZULINT_BEYOND_REPAIR && r.word == 0 && r.distance == 0);
     IS(brazulint_repair(0x10800).number == 7);
     const uint16_t above = 4096;
     brazulint_crcc_answer c = brazulint_crcc(NULL, 0); /* a register of zeros, and its guard bits */
@@ -91,12 +130,12 @@ static void code(void) {
 
 static void pictures(void) {
     static uint16_t row[3840], back[3840], first[1920], second[1920];
-    brazulint_place_answer p = brazulint_place(1, 1);
-    IS(p.number == 0 && p.image == 2 && p.line == 1 && p.stream_line == 42 && p.sample == 0);
-    p = brazulint_place(2160, 3839);
-    IS(p.number == 0 && p.image == 4 && p.line == 1080 && p.stream_line == 1121 && p.sample == 1919);
-    p = brazulint_place(65537, 0);
-    IS(p.number == 2 && p.image == 0 && p.line == 0 && p.stream_line == 0 && p.sample == 0);
+    brazulint_place_answer p = brazulint_place((brazulint_picture_line){1}, 1);
+    IS(p.number == 0 && p.image == 2 && p.image_line == 1 && p.stream_line.number == 42 && p.sample == 0);
+    p = brazulint_place((brazulint_picture_line){2160}, 3839);
+    IS(p.number == 0 && p.image == 4 && p.image_line == 1080 && p.stream_line.number == 1121 && p.sample == 1919);
+    p = brazulint_place((brazulint_picture_line){65537}, 0);
+    IS(p.number == 2 && p.image == 0 && p.image_line == 0 && p.stream_line.number == 0 && p.sample == 0);
     for (size_t i = 0; i < 3840; i++) row[i] = (uint16_t)(40000 + i);
     IS(brazulint_split(row, 3840, first, 1920, second, 1920) == 0);
     IS(first[0] == 40000 && second[0] == 40001 && second[1919] == 43839);
@@ -106,81 +145,120 @@ static void pictures(void) {
     IS(brazulint_split(row, 3840, first, 1919, NULL, 0) == 4 && untouched(first, 1920));
     IS(brazulint_split(NULL, 0, NULL, 0, NULL, 0) == 3);
     IS(brazulint_join(NULL, 0, NULL, 0, NULL, 0) == 3);
-    IS(!brazulint_carries_picture(41) && brazulint_carries_picture(42));
-    IS(brazulint_carries_picture(1121) && !brazulint_carries_picture(1122));
-    IS(!brazulint_carries_picture(65578));
+    const brazulint_stream_line before = {41}, first_line = {42}, last_line = {1121}, after = {1122}, far = {65578};
+    IS(!brazulint_carries_picture(before) && brazulint_carries_picture(first_line));
+    IS(brazulint_carries_picture(last_line) && !brazulint_carries_picture(after) && !brazulint_carries_picture(far));
+}
+
+/* The span of a line from negative disparity, with no content bytes named; those that stand in the request are not looked at. */
+static brazulint_request unnamed(uint32_t line) { return (brazulint_request){.line = {line}, .content = CONTENT}; }
+
+/* The same from positive disparity, with content bytes named. */
+static brazulint_request named(uint32_t line) {
+    return (brazulint_request){.line = {line}, .positive = true, .named = true, .content = CONTENT};
+}
+
+static uint32_t refused(brazulint_format format, brazulint_request request, size_t sample_count, size_t symbol_room) {
+    return brazulint_send(format, request, samples, sample_count, symbols, symbol_room).number;
 }
 
 static void sending(void) {
-    const brazulint_content content = {1, 2, 3, 4};
     for (size_t i = 0; i < SAMPLES; i++) samples[i] = 4079;
-    IS(brazulint_send_named(1, 12, 42, true, content, samples, SAMPLES, symbols, SYMBOLS).number == 0);
+    IS(brazulint_send(HZ_120, named(42), samples, SAMPLES, symbols, SYMBOLS).number == BRAZULINT_DONE);
     IS(symbols[0] == 0x283 && symbols[1] == 0x17C); /* K28.5 at positive and then at negative disparity */
     samples[7] = 4080;
     lend(symbols, SYMBOLS);
-    brazulint_send_answer s = brazulint_send(1, 12, 42, false, samples, SAMPLES, symbols, SYMBOLS);
-    IS(s.number == 6 && s.place == 7 && !s.positive_after && untouched(symbols, SYMBOLS));
+    brazulint_send_answer s = brazulint_send(HZ_120, unnamed(42), samples, SAMPLES, symbols, SYMBOLS);
+    IS(s.number == BRAZULINT_NOT_ALLOWED && s.place == 7 && !s.positive_after && untouched(symbols, SYMBOLS));
     samples[7] = 16;
-    IS(brazulint_send(1, 12, 65578, false, samples, SAMPLES, symbols, SYMBOLS).number == 2);
-    IS(brazulint_send(1, 12, 42, false, samples, 3839, symbols, SYMBOLS).number == 3);
-    IS(brazulint_send(1, 12, 42, false, samples, SAMPLES, symbols, 7919).number == 4);
-    IS(brazulint_send(1, 12, 42, false, NULL, 0, NULL, 0).number == 3 && untouched(symbols, SYMBOLS));
+    IS(refused((brazulint_format){.number = 12, .depth = 1}, unnamed(42), SAMPLES, SYMBOLS) == 1);
+    IS(refused(HZ_120, unnamed(65578), SAMPLES, SYMBOLS) == 2);
+    IS(refused(HZ_120, unnamed(42), 3839, SYMBOLS) == BRAZULINT_WRONG_INPUT);
+    IS(refused(HZ_120, unnamed(42), SAMPLES, 7919) == BRAZULINT_WRONG_OUTPUT);
+    IS(brazulint_send(HZ_120, unnamed(42), NULL, 0, NULL, 0).number == 3 && untouched(symbols, SYMBOLS));
     lend(rows, SAMPLES);
-    IS(brazulint_fill_blanking(1, 12, rows, 3839) == 4 && brazulint_fill_blanking(1, 12, NULL, 0) == 4);
-    IS(brazulint_fill_blanking(1, 11, rows, SAMPLES) == 1 && untouched(rows, SAMPLES));
-    IS(brazulint_fill_blanking(1, 12, rows, SAMPLES) == 0 && rows[0] == 0x100 && rows[SAMPLES - 1] == 0x100);
+    IS(brazulint_fill_blanking(HZ_120, rows, 3839) == 4 && brazulint_fill_blanking(HZ_120, NULL, 0) == 4);
+    IS(brazulint_fill_blanking((brazulint_format){1, 11}, rows, SAMPLES) == 1 && untouched(rows, SAMPLES));
+    IS(brazulint_fill_blanking(HZ_120, rows, SAMPLES) == 0 && rows[0] == 0x100 && rows[SAMPLES - 1] == 0x100);
+}
+
+static bool has_content(brazulint_delivery d, brazulint_content c) {
+    return d.content.sav1 == c.sav1 && d.content.sav2 == c.sav2 && d.content.eav1 == c.eav1 && d.content.eav2 == c.eav2;
 }
 
 static void receiving(void) {
-    const brazulint_content content = {1, 2, 3, 4};
-    brazulint_send_answer s = brazulint_send_named(1, 12, 1121, true, content, samples, SAMPLES, symbols, SYMBOLS);
-    brazulint_read_answer r = brazulint_read(1, 12, symbols, SYMBOLS, rows, SAMPLES);
-    IS(r.number == 0 && r.place == 0 && r.delivery.line == 1121 && r.delivery.repairs == 0);
-    IS(memcmp(&r.delivery.content, &content, sizeof content) == 0);
+    IS(brazulint_send(HZ_120, unnamed(1121), samples, SAMPLES, symbols, SYMBOLS).number == 0);
+    IS(has_content(brazulint_judge(HZ_120, symbols, SYMBOLS).delivery, (brazulint_content){0, 0, 0, 0}));
+    brazulint_send_answer s = brazulint_send(HZ_120, named(1121), samples, SAMPLES, symbols, SYMBOLS);
+    brazulint_read_answer r = brazulint_read(HZ_120, symbols, SYMBOLS, rows, SAMPLES);
+    IS(r.number == 0 && r.place == 0 && r.delivery.line.number == 1121 && r.delivery.repairs == 0);
+    IS(has_content(r.delivery, CONTENT));
     IS(r.delivery.positive_before && r.delivery.positive_after == s.positive_after);
     IS(memcmp(rows, samples, sizeof rows) == 0);
     lend(rows, SAMPLES);
-    IS(brazulint_read(1, 12, symbols, 7919, rows, SAMPLES).number == 3 && untouched(rows, SAMPLES));
-    IS(brazulint_read(1, 12, NULL, 0, NULL, 0).number == 3);
-    IS(brazulint_read(1, 12, symbols, SYMBOLS, NULL, 0).number == 4 && brazulint_judge(1, 12, NULL, 0).number == 3);
-    IS(brazulint_judge(1, 12, symbols, SYMBOLS).delivery.line == 1121);
+    IS(brazulint_read(HZ_120, symbols, 7919, rows, SAMPLES).number == 3 && untouched(rows, SAMPLES));
+    IS(brazulint_read(HZ_120, NULL, 0, NULL, 0).number == 3);
+    IS(brazulint_read(HZ_120, symbols, SYMBOLS, NULL, 0).number == 4 && brazulint_judge(HZ_120, NULL, 0).number == 3);
+    IS(brazulint_judge(HZ_120, symbols, SYMBOLS).delivery.line.number == 1121);
     symbols[SYMBOLS - 1] = 0;
-    r = brazulint_read(1, 12, symbols, SYMBOLS, rows, SAMPLES);
-    IS(r.number == 20 && r.place == SYMBOLS - 1 && r.delivery.line == 0 && zero(rows, SAMPLES));
+    r = brazulint_read(HZ_120, symbols, SYMBOLS, rows, SAMPLES);
+    IS(r.number == BRAZULINT_WRONG_SYMBOL && r.place == SYMBOLS - 1 && r.delivery.line.number == 0 && zero(rows, SAMPLES));
+}
+
+/* At depth 10 what comes back is shifted, and blanking is not. */
+static void ten_bits(void) {
+    const brazulint_format ten = {.number = BRAZULINT_120_HZ, .depth = 10};
+    for (size_t i = 0; i < SAMPLES; i++) samples[i] = (uint16_t)(i % 2 == 0 ? 4 : 1019);
+    IS(brazulint_send(ten, unnamed(42), samples, SAMPLES, symbols, SYMBOLS).number == 0);
+    IS(brazulint_read(ten, symbols, SYMBOLS, rows, SAMPLES).number == 0 && rows[0] == 16 && rows[1] == 4076);
+    IS(brazulint_fill_blanking(ten, samples, SAMPLES) == 0 && samples[0] == 0x100);
+    IS(brazulint_send(ten, unnamed(41), samples, SAMPLES, symbols, SYMBOLS).number == 0);
+    IS(brazulint_read(ten, symbols, SYMBOLS, rows, SAMPLES).number == 0 && rows[0] == 0x100);
+    for (size_t i = 0; i < SAMPLES; i++) samples[i] = 16;
 }
 
 static void recordings(void) {
     static uint16_t recording[SYMBOLS + 5];
-    IS(brazulint_send(1, 12, 42, false, samples, SAMPLES, recording + 5, SYMBOLS).number == 0);
-    brazulint_find_answer f = brazulint_find(1, 12, recording, SYMBOLS + 5, 0);
+    IS(brazulint_send(HZ_120, unnamed(42), samples, SAMPLES, recording + 5, SYMBOLS).number == 0);
+    brazulint_find_answer f = brazulint_find(HZ_120, recording, SYMBOLS + 5, 0);
     IS(f.number == 0 && f.found && f.place == 5);
-    f = brazulint_find(1, 12, recording + 5, SYMBOLS, 0);
+    f = brazulint_find(HZ_120, recording + 5, SYMBOLS, 0);
     IS(f.number == 0 && f.found && f.place == 0);
-    f = brazulint_find(1, 12, recording, SYMBOLS + 5, 6);
+    f = brazulint_find(HZ_120, recording, SYMBOLS + 5, 6);
     IS(f.number == 0 && !f.found && f.place == 0);
-    f = brazulint_find(1, 12, NULL, 0, 0);
+    f = brazulint_find(HZ_120, NULL, 0, 0);
     IS(f.number == 0 && !f.found && f.place == 0);
-    IS(brazulint_find(1, 12, NULL, 0, 1).number == 5);
-    IS(brazulint_find(1, 12, recording, SYMBOLS + 5, UINT64_C(4294967296)).number == 5);
-    brazulint_next_answer n = brazulint_next(1, 12, recording, SYMBOLS + 5, 2, rows, SAMPLES);
-    IS(n.number == 0 && n.found && n.place == 5 && n.resume == SYMBOLS + 5 && n.delivery.line == 42);
+    IS(brazulint_find(HZ_120, NULL, 0, 1).number == BRAZULINT_WRONG_START);
+    IS(brazulint_find(HZ_120, recording, SYMBOLS + 5, UINT64_C(4294967296)).number == 5);
+    brazulint_next_answer n = brazulint_next(HZ_120, recording, SYMBOLS + 5, 2, rows, SAMPLES);
+    IS(n.number == 0 && n.found && n.place == 5 && n.resume == SYMBOLS + 5 && n.delivery.line.number == 42);
     IS(memcmp(rows, samples, sizeof rows) == 0);
     lend(rows, SAMPLES);
-    n = brazulint_next(1, 12, recording, SYMBOLS + 5, 6, rows, SAMPLES);
-    IS(n.number == 0 && !n.found && n.place == 0 && n.resume == 6 && n.delivery.line == 0 && untouched(rows, SAMPLES));
-    n = brazulint_next(1, 12, NULL, 0, 0, NULL, 0);
+    n = brazulint_next(HZ_120, recording, SYMBOLS + 5, 6, rows, SAMPLES);
+    IS(n.number == 0 && !n.found && n.place == 0 && n.resume == 6 && n.delivery.line.number == 0 && untouched(rows, SAMPLES));
+    n = brazulint_next(HZ_120, NULL, 0, 0, NULL, 0);
     IS(n.number == 4 && !n.found && n.place == 0 && n.resume == 0);
-    IS(brazulint_next(1, 12, NULL, 0, 1, rows, SAMPLES).number == 5 && untouched(rows, SAMPLES));
+    IS(brazulint_next(HZ_120, NULL, 0, 1, rows, SAMPLES).number == 5 && untouched(rows, SAMPLES));
+}
+
+/* One symbol more than the longest recording has. */
+static void limit(void) {
+    static uint16_t recording[BRAZULINT_LIMIT + 1];
+    IS(brazulint_find(HZ_120, recording, BRAZULINT_LIMIT, BRAZULINT_LIMIT).number == 0);
+    IS(brazulint_find(HZ_120, recording, BRAZULINT_LIMIT + 1, BRAZULINT_LIMIT).number == 3);
 }
 
 int main(void) {
     formats();
+    refusals();
     words();
     code();
     pictures();
     sending();
     receiving();
+    ten_bits();
     recordings();
+    limit();
     printf("%u tried, %u not as they should be\n", tried, wrong);
     return wrong != 0;
 }

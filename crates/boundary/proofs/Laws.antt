@@ -9,8 +9,11 @@ boundary-laws = record {
   trueIsPositive = refl;
   falseIsNegative = refl;
   back = λ d. record { ifNegative = λ e. ap isPositive e; ifPositive = λ e. ap isPositive e };
-  formatNumber = λ format depth. refl;
-  formatDepth = λ format depth. refl;
+  formatNumber = λ f. refl;
+  formatDepth = λ f. refl;
+  streamLine = λ l. refl;
+  named = λ content. refl;
+  noneNamed = λ content. refl;
   refusedNumber = λ A number place. refl;
   givenZero = λ a. refl;
 }

@@ -7,8 +7,11 @@ use Rattle.ground.specs.Answer.{refused, given}
 use Rattle.symbol.specs.declared.disparity.Disparity.{Disparity}
 use Rattle.symbol.specs.declared.disparity.Disparity.the-variants.{Negative, Positive}
 use Rattle.symbol.specs.Disparity.{isPositive}
-use Rattle.span.specs.Format.{formatFrom}
-use Rattle.boundary.specs.Numbers.{disparityFrom, numberIn}
+use Rattle.line.specs.declared.stream.StreamLine.{StreamLine}
+use Rattle.span.specs.declared.content.Content.the-variants.{NoneNamed, Named}
+use Rattle.span.specs.declared.content.ContentBytes.{ContentBytes}
+use Rattle.boundary.specs.declared.numbers.FormatNumbers.{FormatNumbers}
+use Rattle.boundary.specs.Numbers.{contentFrom, disparityFrom, formatGiven, numberIn, streamLineNumber}
 
 -- a disparity as a bool
 pub record Says (positive : Bool) (d : Disparity) : Type 0 where
@@ -20,9 +23,14 @@ pub record BoundaryLaws : Type 1 where
   pub trueIsPositive : disparityFrom true ≡ Positive
   pub falseIsNegative : disparityFrom false ≡ Negative
   pub back : (d : Disparity) → Says (isPositive d) d
-  -- a format is its two numbers, in this order
-  pub formatNumber : (format depth : ℕ) → formatFrom format depth .number ≡ format
-  pub formatDepth : (format depth : ℕ) → formatFrom format depth .depth ≡ depth
+  -- a format is its number and its depth
+  pub formatNumber : (f : FormatNumbers) → formatGiven f .number ≡ f .number
+  pub formatDepth : (f : FormatNumbers) → formatGiven f .depth ≡ f .depth
+  -- a stream line is its number
+  pub streamLine : (l : StreamLine) → streamLineNumber l .number ≡ l .0
+  -- content bytes that are named are those given, whatever they are; those that are not named are not looked at
+  pub named : (content : ContentBytes) → contentFrom true content ≡ Named content
+  pub noneNamed : (content : ContentBytes) → contentFrom false content ≡ NoneNamed
   -- a refusal crosses as its number, and 0 is none
   pub refusedNumber : (A : Type 0) (number place : ℕ) → numberIn {A = A} (refused number place) ≡ number
   pub givenZero : {A : Type 0} (a : A) → numberIn (given a) ≡ 0

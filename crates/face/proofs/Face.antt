@@ -29,7 +29,7 @@ use Rattle.word.proofs.LineNumbers.{line-good, read-sent}
 use Rattle.span.specs.declared.content.Content.the-variants.{NoneNamed, Named}
 use Rattle.span.specs.declared.format.Format.{Format}
 use Rattle.span.specs.Stream.{Request}
-use Rattle.span.specs.Format.{formatFrom, shapeOf, streams, samplesIn, symbolsIn}
+use Rattle.span.specs.Format.{shapeOf, streams, samplesIn, symbolsIn}
 use Rattle.span.specs.Encoding.{afterRun}
 use Rattle.span.specs.Numbers.{IsFormat}
 use Rattle.span.specs.declared.content.ContentBytes.{ContentBytes}
@@ -44,7 +44,7 @@ use Rattle.boundary.specs.Laws.{Says}
 use Rattle.boundary.proofs.Laws.{boundary-laws}
 use Rattle.span_answers.specs.Laws.{AreValues}
 use Rattle.span_answers.proofs.Laws.{span-answers-laws}
-use Rattle.boundary.specs.Numbers.{disparityFrom, numberIn}
+use Rattle.boundary.specs.Numbers.{disparityFrom, formatGiven, numberIn}
 use Rattle.character_answers.specs.Characters.{decodeAnswerOf}
 use Rattle.character_answers.proofs.Laws.{character-answers-laws}
 use Rattle.word_answers.specs.Words.{lineWordsAnswerOf, readLineWordsAnswerOf, repairAnswerOf, crccAnswerOf}
@@ -56,7 +56,7 @@ use Rattle.demands.proofs.Demands.{demand-1, demand-2}
 use Rattle.demands.proofs.Sendings.{row-holds}
 use Rattle.window.proofs.Accepting.{row-passed}
 use Rattle.demands.proofs.Refusing.{known-says, symbols-say, samples-say}
-use Rattle.face.specs.Face.{SentFrom, Stands, Face}
+use Rattle.face.specs.Face.{Told, SentFrom, Stands, Face}
 use Rattle.face.proofs.Telling.{Numbered, crosses, crosses-placed, good-by-number}
 
 -- a disparity as a bool, and the values of a span
@@ -104,6 +104,13 @@ module _ (d : Disparity) (f : Format) (a : Request) (entry : List ℕ) where
     untouched = λ other.
         let (number, place, e) = not-given (sendOf d f a room) other in demand-1 .send d f a entry .1 .untouched number place e;
   }
+
+  send-told :
+      let r = sendAnswerOf (sendOf d f a room) in
+      Told (r .number) (r .place) (sendRules f a room)
+  send-told =
+      crosses-placed sendAnswerOf (λ x. x .number) (λ n p. refl) (λ e. refl) (λ x. x .place) (λ n p. refl) (λ e. refl) (sendOf d f a room) (sendRules f a room)
+      (demand-1 .send d f a entry .0)
 
 -- ---- the content bytes of a call that names them
 module _ (d : Disparity) (f : Format) (line : ℕ) (content : ContentBytes) (samples entry : List ℕ)
@@ -161,6 +168,7 @@ module _ (f : Format) (symbols : List ℕ) (start : ℕ) (rows : List ℕ) where
 pub face : Face
 face = record {
   crossing = boundary-laws;
+  version = refl;
   refusals = record {
     decoded = refl;
     lineWords = refl;
@@ -186,65 +194,63 @@ face = record {
   encodePositive = λ c h. simp (lt-ltb c 268 h) (refl, refl);
   encodeAfter = λ c h. simp (lt-ltb c 268 h) (says _, says _);
   encodeNone = λ positive c h. simp (le-ltb c 268 h);
-  lineWordsTold = λ line. crosses lineWordsAnswerOf (λ a. a .number) (λ n p. refl) (λ a. refl) (numberedOf line) (lineWordsRules line) (refl, tt) (demand-1 .lineWords line);
-  lineWords = λ line p q. rw (line-good line p q) (refl, refl);
+  lineWordsTold = λ line. crosses lineWordsAnswerOf (λ a. a .number) (λ n p. refl) (λ a. refl) (numberedOf (line .number)) (lineWordsRules (line .number)) (refl, tt) (demand-1 .lineWords (line .number));
+  lineWords = λ line p q. rw (line-good (line .number) p q) (refl, refl);
   readLineWordsTold = λ a b. crosses readLineWordsAnswerOf (λ a. a .number) (λ n p. refl) (λ a. refl) (namedOf a b) (readLineWordsRules a b) (refl, (refl, tt)) (demand-1 .readLineWords a b);
-  readLineWords = λ line p q. ap (λ (r : Answer StreamLine). readLineWordsAnswerOf r .line) (read-sent line p q);
+  readLineWords = λ line p q. ap (λ (r : Answer StreamLine). readLineWordsAnswerOf r .line .number) (read-sent line p q);
   repairTold = λ word. crosses repairAnswerOf (λ a. a .number) (λ n p. refl) (λ a. refl) (repairOf word) (repairRules word) (refl, (refl, tt)) (demand-1 .repair word);
   repair = λ word r e. rw e (refl, refl);
   crccTold = λ words. crosses crccAnswerOf (λ a. a .number) (λ n p. refl) (λ a. refl) (crccOf words) (crccRules words) (refl, tt) (demand-1 .crcc words);
   crcc = λ words c e. rw e (refl, refl, refl);
-  placeTold = λ line sample. crosses placeAnswerOf (λ a. a .number) (λ n p. refl) (λ a. refl) (placedOf line sample) (placeRules line sample) (refl, tt) (demand-1 .place line sample);
+  placeTold = λ line sample. crosses placeAnswerOf (λ a. a .number) (λ n p. refl) (λ a. refl) (placedOf (line .number) sample) (placeRules (line .number) sample) (refl, tt) (demand-1 .place (line .number) sample);
   place = λ u l j p q r s t. rw (demand-2 .places [] u l j p q r s t .0) (refl, refl, refl, refl);
   splitTold = λ row first second. crosses numberIn (λ n. n) (λ n p. refl) (λ a. refl) (splitOf row first second) (splitRules row first second) (refl, (refl, tt)) (demand-1 .split row first second .0);
   splitLent = λ row first second. let split = demand-1 .split row first second in (split .1, split .2);
   joinLent = λ first second row. demand-1 .join first second row .1;
   joinTold = λ first second row. crosses numberIn (λ n. n) (λ n p. refl) (λ a. refl) (joinOf first second row) (joinRules first second row) (refl, (refl, tt)) (demand-1 .join first second row .0);
-  carriesPicture = λ line p q. simp (is-within 42 1121 line p q);
-  carriesBlanking = λ line out. simp (not-within 42 1121 line out);
-  lengthsTold = λ format depth. crosses lengthsAnswerOf (λ a. a .number) (λ n p. refl) (λ a. refl) (lengthsOf (formatFrom format depth)) (lengthsRules (formatFrom format depth)) (refl, tt) (demand-1 .lengths (formatFrom format depth));
-  lengths = λ format depth known.
-      let f = formatFrom format depth in
+  carriesPicture = λ line p q. simp (is-within 42 1121 (line .number) p q);
+  carriesBlanking = λ line out. simp (not-within 42 1121 (line .number) out);
+  lengthsTold = λ format. crosses lengthsAnswerOf (λ a. a .number) (λ n p. refl) (λ a. refl) (lengthsOf (formatGiven format)) (lengthsRules (formatGiven format)) (refl, tt) (demand-1 .lengths (formatGiven format));
+  lengths = λ format known.
+      let f = formatGiven format in
       rw (lengths-given f (known-says f .holds known))
       (samples-say f known (samplesIn (shapeOf f)) .told (eq-eqb (samplesIn (shapeOf f)) (samplesIn (shapeOf f)) refl), symbols-say f known (symbolsIn (shapeOf f)) .told (eq-eqb (symbolsIn (shapeOf f)) (symbolsIn (shapeOf f)) refl));
-  sendTold = λ format depth line positive samples symbols.
-      crosses-placed sendAnswerOf (λ a. a .number) (λ n p. refl) (λ a. refl) (λ a. a .place) (λ n p. refl) (λ a. refl) (sendOf (disparityFrom positive) (formatFrom format depth) (request line NoneNamed samples) (length symbols)) (sendRules (formatFrom format depth) (request line NoneNamed samples) (length symbols))
-      (demand-1 .send (disparityFrom positive) (formatFrom format depth) (request line NoneNamed samples) symbols .0);
-  sendNamedTold = λ format depth line positive content samples symbols.
-      crosses-placed sendAnswerOf (λ a. a .number) (λ n p. refl) (λ a. refl) (λ a. a .place) (λ n p. refl) (λ a. refl) (sendOf (disparityFrom positive) (formatFrom format depth) (request line (Named content) samples) (length symbols)) (sendRules (formatFrom format depth) (request line (Named content) samples) (length symbols))
-      (demand-1 .send (disparityFrom positive) (formatFrom format depth) (request line (Named content) samples) symbols .0);
-  sent = λ format depth line samples symbols.
-      let f = formatFrom format depth in
-      let a = request line NoneNamed samples in
+  sendTold = λ format line positive content samples symbols.
+      send-told (disparityFrom positive) (formatGiven format) (request (line .number) NoneNamed samples) symbols;
+  sendNamedTold = λ format line positive content samples symbols.
+      send-told (disparityFrom positive) (formatGiven format) (request (line .number) (Named content) samples) symbols;
+  sent = λ format line content samples symbols.
+      let f = formatGiven format in
+      let a = request (line .number) NoneNamed samples in
       (sent-from Negative f a symbols, sent-from Positive f a symbols);
-  sentNamed = λ format depth line content samples symbols.
-      let f = formatFrom format depth in
-      let a = request line (Named content) samples in
+  sentNamed = λ format line content samples symbols.
+      let f = formatGiven format in
+      let a = request (line .number) (Named content) samples in
       (sent-from Negative f a symbols, sent-from Positive f a symbols);
-  contentSent = λ format depth line positive content samples symbols.
-      content-sent (disparityFrom positive) (formatFrom format depth) line content samples symbols;
-  fillBlankingTold = λ format depth row. crosses numberIn (λ n. n) (λ n p. refl) (λ a. refl) (fillOf (formatFrom format depth) row) (fillRules (formatFrom format depth) (length row)) (refl, (refl, tt)) (demand-1 .fill (formatFrom format depth) row .0);
-  fillBlankingLent = λ format depth row. demand-1 .fill (formatFrom format depth) row .1;
-  readLent = λ format depth symbols rows. demand-1 .read (formatFrom format depth) symbols rows .1;
-  readTold = λ format depth symbols rows.
-      crosses-placed readAnswerOf (λ a. a .number) (λ n p. refl) (λ a. refl) (λ a. a .place) (λ n p. refl) (λ a. refl) (readOf (formatFrom format depth) symbols (length rows)) (readRules (formatFrom format depth) symbols (length rows))
-      (demand-1 .read (formatFrom format depth) symbols rows .0);
-  read = λ format depth symbols rows d e. rw e (values d);
-  judgeTold = λ format depth symbols.
-      crosses-placed readAnswerOf (λ a. a .number) (λ n p. refl) (λ a. refl) (λ a. a .place) (λ n p. refl) (λ a. refl) (judgeOf (formatFrom format depth) symbols) (judgeRules (formatFrom format depth) symbols)
-      (demand-1 .judge (formatFrom format depth) symbols);
-  judge = λ format depth symbols d e. rw e (values d);
-  findTold = λ format depth symbols start.
-      crosses findAnswerOf (λ a. a .number) (λ n p. refl) found-good (findOf (formatFrom format depth) symbols start) (findRules (formatFrom format depth) symbols start) (refl, (refl, (refl, tt))) (demand-1 .find (formatFrom format depth) symbols start);
-  findAt = λ format depth symbols start place e. rw e (refl, refl);
-  findNone = λ format depth symbols start e. rw e refl;
-  nextTold = λ format depth symbols start rows.
-      let f = formatFrom format depth in
+  contentSent = λ format line positive content samples symbols.
+      content-sent (disparityFrom positive) (formatGiven format) (line .number) content samples symbols;
+  fillBlankingTold = λ format row. crosses numberIn (λ n. n) (λ n p. refl) (λ a. refl) (fillOf (formatGiven format) row) (fillRules (formatGiven format) (length row)) (refl, (refl, tt)) (demand-1 .fill (formatGiven format) row .0);
+  fillBlankingLent = λ format row. demand-1 .fill (formatGiven format) row .1;
+  readLent = λ format symbols rows. demand-1 .read (formatGiven format) symbols rows .1;
+  readTold = λ format symbols rows.
+      crosses-placed readAnswerOf (λ a. a .number) (λ n p. refl) (λ a. refl) (λ a. a .place) (λ n p. refl) (λ a. refl) (readOf (formatGiven format) symbols (length rows)) (readRules (formatGiven format) symbols (length rows))
+      (demand-1 .read (formatGiven format) symbols rows .0);
+  read = λ format symbols rows d e. rw e (values d);
+  judgeTold = λ format symbols.
+      crosses-placed readAnswerOf (λ a. a .number) (λ n p. refl) (λ a. refl) (λ a. a .place) (λ n p. refl) (λ a. refl) (judgeOf (formatGiven format) symbols) (judgeRules (formatGiven format) symbols)
+      (demand-1 .judge (formatGiven format) symbols);
+  judge = λ format symbols d e. rw e (values d);
+  findTold = λ format symbols start.
+      crosses findAnswerOf (λ a. a .number) (λ n p. refl) found-good (findOf (formatGiven format) symbols start) (findRules (formatGiven format) symbols start) (refl, (refl, (refl, tt))) (demand-1 .find (formatGiven format) symbols start);
+  findAt = λ format symbols start place e. rw e (refl, refl);
+  findNone = λ format symbols start e. rw e refl;
+  nextTold = λ format symbols start rows.
+      let f = formatGiven format in
       let resume = afterNext f symbols start (length rows) in
       crosses (λ r. nextAnswerOf r resume) (λ a. a .number) (λ n p. refl) (next-good resume) (nextOf f symbols start (length rows))
       (nextRules f symbols start (length rows)) (refl, (refl, (refl, (refl, tt)))) (demand-1 .next f symbols start rows);
-  nextAt = λ format depth symbols start rows s e. rw e (refl, refl, values (s .delivery));
-  nextNone = λ format depth symbols start rows e. rw e refl;
-  nextRows = λ format depth symbols start rows. rows-after (formatFrom format depth) symbols start rows _ refl;
-  nextResume = λ format depth symbols start rows. resume-is (nextOf (formatFrom format depth) symbols start (length rows)) _;
+  nextAt = λ format symbols start rows s e. rw e (refl, refl, values (s .delivery));
+  nextNone = λ format symbols start rows e. rw e refl;
+  nextRows = λ format symbols start rows. rows-after (formatGiven format) symbols start rows _ refl;
+  nextResume = λ format symbols start rows. resume-is (nextOf (formatGiven format) symbols start (length rows)) _;
 }

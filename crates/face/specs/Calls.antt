@@ -1,5 +1,5 @@
--- What each exported call answers, and what it leaves in the memory that it is lent, as functions of the numbers, the struct and the
--- arrays that a caller from C gives, in the order of its parameters. The contract of `brazulint_x` in crate adapter says these and
+-- What each exported call answers, and what it leaves in the memory that it is lent, as functions of the numbers, the structs and the
+-- arrays that a caller from C gives, in the order of its parameters. The contract of `brazulint2_x` in crate brazulint says these and
 -- nothing else: `x·answer`, and `x·p` for each lent p (./test compares the text).
 -- Assumes nothing.
 use Prim.Native.Nat.{ℕ}
@@ -13,15 +13,17 @@ use Rattle.crcc.specs.Crcc.{crccOf}
 use Rattle.picture.specs.Choice.{rowOn}
 use Rattle.picture.specs.Place.{placedOf}
 use Rattle.dividing.specs.Row.{splitOf, splitFirst, splitSecond, joinOf, joinRow}
-use Rattle.span.specs.declared.content.ContentBytes.{ContentBytes}
-use Rattle.span.specs.declared.content.Content.the-variants.{NoneNamed, Named}
 use Rattle.span.specs.Blanking.{fillOf, filledRow}
-use Rattle.span.specs.Format.{formatFrom}
+use Rattle.span.specs.Stream.{Request}
 use Rattle.span.specs.Length.{lengthsOf}
 use Rattle.request.specs.Send.{request, sendOf, sentBuffer}
 use Rattle.window.specs.Read.{judgeOf, readOf, rowsRead}
 use Rattle.recording.specs.Call.{findOf, nextOf, afterNext, rowsNext}
-use Rattle.boundary.specs.Numbers.{disparityFrom, numberIn}
+use Rattle.boundary.specs.declared.numbers.FormatNumbers.{FormatNumbers}
+use Rattle.boundary.specs.declared.numbers.PictureLineNumber.{PictureLineNumber}
+use Rattle.boundary.specs.declared.numbers.SendRequest.{SendRequest}
+use Rattle.boundary.specs.declared.numbers.StreamLineNumber.{StreamLineNumber}
+use Rattle.boundary.specs.Numbers.{contentFrom, disparityFrom, formatGiven, numberIn}
 use Rattle.character_answers.specs.declared.characters.DecodeAnswer.{DecodeAnswer}
 use Rattle.character_answers.specs.declared.characters.EncodeAnswer.{EncodeAnswer}
 use Rattle.character_answers.specs.Characters.{decodeAnswerOf, encodeAnswerOf}
@@ -40,6 +42,11 @@ use Rattle.recording_answers.specs.declared.recordings.FindAnswer.{FindAnswer}
 use Rattle.recording_answers.specs.declared.recordings.NextAnswer.{NextAnswer}
 use Rattle.recording_answers.specs.Recordings.{findAnswerOf, nextAnswerOf}
 
+-- ---- the interface: its number times 65536, and the number of the release in it
+
+abbrev pub version·answer : ℕ
+version·answer = 131072
+
 -- ---- the code
 
 abbrev pub decode·answer : Bool → ℕ → DecodeAnswer
@@ -50,8 +57,8 @@ encode·answer positive character = encodeAnswerOf (disparityFrom positive) char
 
 -- ---- words
 
-abbrev pub lineWords·answer : ℕ → LineWordsAnswer
-lineWords·answer line = lineWordsAnswerOf (numberedOf line)
+abbrev pub lineWords·answer : StreamLineNumber → LineWordsAnswer
+lineWords·answer line = lineWordsAnswerOf (numberedOf (line .number))
 
 abbrev pub readLineWords·answer : ℕ → ℕ → ReadLineWordsAnswer
 readLineWords·answer ln0 ln1 = readLineWordsAnswerOf (namedOf ln0 ln1)
@@ -64,8 +71,8 @@ crcc·answer words = crccAnswerOf (crccOf words)
 
 -- ---- pictures
 
-abbrev pub place·answer : ℕ → ℕ → PlaceAnswer
-place·answer line sample = placeAnswerOf (placedOf line sample)
+abbrev pub place·answer : PictureLineNumber → ℕ → PlaceAnswer
+place·answer line sample = placeAnswerOf (placedOf (line .number) sample)
 
 abbrev pub split·answer : List ℕ → List ℕ → List ℕ → ℕ
 split·answer row first second = numberIn (splitOf row first second)
@@ -82,54 +89,50 @@ join·answer first second row = numberIn (joinOf first second row)
 abbrev pub join·row : List ℕ → List ℕ → List ℕ → List ℕ
 join·row first second row = joinRow first second row
 
-abbrev pub carriesPicture·answer : ℕ → Bool
-carriesPicture·answer line = rowOn line true false
+abbrev pub carriesPicture·answer : StreamLineNumber → Bool
+carriesPicture·answer line = rowOn (line .number) true false
 
 -- ---- one span
 
-abbrev pub lengths·answer : ℕ → ℕ → LengthsAnswer
-lengths·answer format depth = lengthsAnswerOf (lengthsOf (formatFrom format depth))
+abbrev pub lengths·answer : FormatNumbers → LengthsAnswer
+lengths·answer format = lengthsAnswerOf (lengthsOf (formatGiven format))
 
-abbrev pub send·answer : ℕ → ℕ → ℕ → Bool → List ℕ → List ℕ → SendAnswer
-send·answer format depth line positive samples symbols =
-    sendAnswerOf (sendOf (disparityFrom positive) (formatFrom format depth) (request line NoneNamed samples) (length symbols))
+-- what the sender is asked for, with the samples
+abbrev pub askedOf : SendRequest → List ℕ → Request
+askedOf asked samples = request (asked .line .number) (contentFrom (asked .named) (asked .content)) samples
 
-abbrev pub send·symbols : ℕ → ℕ → ℕ → Bool → List ℕ → List ℕ → List ℕ
-send·symbols format depth line positive samples symbols =
-    sentBuffer (disparityFrom positive) (formatFrom format depth) (request line NoneNamed samples) symbols
+abbrev pub send·answer : FormatNumbers → SendRequest → List ℕ → List ℕ → SendAnswer
+send·answer format asked samples symbols =
+    sendAnswerOf (sendOf (disparityFrom (asked .positive)) (formatGiven format) (askedOf asked samples) (length symbols))
 
-abbrev pub sendNamed·answer : ℕ → ℕ → ℕ → Bool → ContentBytes → List ℕ → List ℕ → SendAnswer
-sendNamed·answer format depth line positive content samples symbols =
-    sendAnswerOf (sendOf (disparityFrom positive) (formatFrom format depth) (request line (Named content) samples) (length symbols))
+abbrev pub send·symbols : FormatNumbers → SendRequest → List ℕ → List ℕ → List ℕ
+send·symbols format asked samples symbols =
+    sentBuffer (disparityFrom (asked .positive)) (formatGiven format) (askedOf asked samples) symbols
 
-abbrev pub sendNamed·symbols : ℕ → ℕ → ℕ → Bool → ContentBytes → List ℕ → List ℕ → List ℕ
-sendNamed·symbols format depth line positive content samples symbols =
-    sentBuffer (disparityFrom positive) (formatFrom format depth) (request line (Named content) samples) symbols
+abbrev pub fillBlanking·answer : FormatNumbers → List ℕ → ℕ
+fillBlanking·answer format row = numberIn (fillOf (formatGiven format) row)
 
-abbrev pub fillBlanking·answer : ℕ → ℕ → List ℕ → ℕ
-fillBlanking·answer format depth row = numberIn (fillOf (formatFrom format depth) row)
+abbrev pub fillBlanking·row : FormatNumbers → List ℕ → List ℕ
+fillBlanking·row format row = filledRow (formatGiven format) row
 
-abbrev pub fillBlanking·row : ℕ → ℕ → List ℕ → List ℕ
-fillBlanking·row format depth row = filledRow (formatFrom format depth) row
+abbrev pub read·answer : FormatNumbers → List ℕ → List ℕ → ReadAnswer
+read·answer format symbols rows = readAnswerOf (readOf (formatGiven format) symbols (length rows))
 
-abbrev pub read·answer : ℕ → ℕ → List ℕ → List ℕ → ReadAnswer
-read·answer format depth symbols rows = readAnswerOf (readOf (formatFrom format depth) symbols (length rows))
+abbrev pub read·rows : FormatNumbers → List ℕ → List ℕ → List ℕ
+read·rows format symbols rows = rowsRead (formatGiven format) symbols rows
 
-abbrev pub read·rows : ℕ → ℕ → List ℕ → List ℕ → List ℕ
-read·rows format depth symbols rows = rowsRead (formatFrom format depth) symbols rows
-
-abbrev pub judge·answer : ℕ → ℕ → List ℕ → ReadAnswer
-judge·answer format depth symbols = readAnswerOf (judgeOf (formatFrom format depth) symbols)
+abbrev pub judge·answer : FormatNumbers → List ℕ → ReadAnswer
+judge·answer format symbols = readAnswerOf (judgeOf (formatGiven format) symbols)
 
 -- ---- recordings
 
-abbrev pub find·answer : ℕ → ℕ → List ℕ → ℕ → FindAnswer
-find·answer format depth symbols start = findAnswerOf (findOf (formatFrom format depth) symbols start)
+abbrev pub find·answer : FormatNumbers → List ℕ → ℕ → FindAnswer
+find·answer format symbols start = findAnswerOf (findOf (formatGiven format) symbols start)
 
-abbrev pub next·answer : ℕ → ℕ → List ℕ → ℕ → List ℕ → NextAnswer
-next·answer format depth symbols start rows =
-    let f = formatFrom format depth in
+abbrev pub next·answer : FormatNumbers → List ℕ → ℕ → List ℕ → NextAnswer
+next·answer format symbols start rows =
+    let f = formatGiven format in
     nextAnswerOf (nextOf f symbols start (length rows)) (afterNext f symbols start (length rows))
 
-abbrev pub next·rows : ℕ → ℕ → List ℕ → ℕ → List ℕ → List ℕ
-next·rows format depth symbols start rows = rowsNext (formatFrom format depth) symbols start rows
+abbrev pub next·rows : FormatNumbers → List ℕ → ℕ → List ℕ → List ℕ
+next·rows format symbols start rows = rowsNext (formatGiven format) symbols start rows

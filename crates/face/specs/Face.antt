@@ -9,6 +9,11 @@ use mathlib.Core.Logic.{_⊎_}
 use mathlib.Core.Option.{none, some}
 use lib.ListN.{length, getD, take, drop}
 use Rattle.ground.specs.Answer.{given}
+use Rattle.boundary.specs.declared.numbers.FormatNumbers.{FormatNumbers}
+use Rattle.boundary.specs.declared.numbers.PictureLineNumber.{PictureLineNumber}
+use Rattle.boundary.specs.declared.numbers.SendRequest.{SendRequest}
+use Rattle.boundary.specs.declared.numbers.StreamLineNumber.{StreamLineNumber}
+use Rattle.boundary.specs.Numbers.{formatGiven}
 use Rattle.boundary.specs.Laws.{Says, BoundaryLaws}
 use Rattle.span_answers.specs.Laws.{AreValues}
 use Rattle.symbol.specs.declared.disparity.Disparity.{Disparity}
@@ -23,7 +28,7 @@ use Rattle.picture.specs.Division.{lineFrom, sampleFrom}
 use Rattle.span.specs.declared.content.Content.the-variants.{NoneNamed, Named}
 use Rattle.span.specs.declared.content.ContentBytes.{ContentBytes}
 use Rattle.span.specs.Blanking.{fillOf, blankRow}
-use Rattle.span.specs.Format.{formatFrom, shapeOf, streams, symbolsIn}
+use Rattle.span.specs.Format.{shapeOf, streams, symbolsIn}
 use Rattle.span.specs.Stream.{Request}
 use Rattle.span.specs.declared.format.Format.{Format}
 use Rattle.span.specs.Numbers.{Symbols, Samples}
@@ -37,7 +42,7 @@ use Rattle.span_answers.specs.declared.spans.SendAnswer.{SendAnswer}
 use Rattle.demands.specs.Form.{Refusal, rule, Lent, Rows}
 use Rattle.demands.specs.Rules.{repairRules, readLineWordsRules, crccRules, splitRules, joinRules, fillRules, sendRules, judgeRules, readRules, findRules, nextRules}
 use Rattle.face.specs.Refusals.{RefusalNumbers}
-use Rattle.face.specs.Calls.{decode·answer, encode·answer, lineWords·answer, readLineWords·answer, repair·answer, crcc·answer, place·answer, split·answer, split·first, split·second, join·answer, join·row, carriesPicture·answer, lengths·answer, send·answer, send·symbols, sendNamed·answer, sendNamed·symbols, fillBlanking·answer, fillBlanking·row, read·answer, read·rows, judge·answer, find·answer, next·answer, next·rows}
+use Rattle.face.specs.Calls.{decode·answer, encode·answer, lineWords·answer, readLineWords·answer, repair·answer, crcc·answer, place·answer, split·answer, split·first, split·second, join·answer, join·row, carriesPicture·answer, lengths·answer, send·answer, send·symbols, version·answer, fillBlanking·answer, fillBlanking·row, read·answer, read·rows, judge·answer, find·answer, next·answer, next·rows}
 
 -- ---- the number and the place of an answer
 
@@ -46,9 +51,16 @@ abbrev pub Told : ℕ → ℕ → List Refusal → Type 0
 Told number place [] = (number ≡ 0) × (place ≡ 0)
 Told number place (x ∷ xs) = ((x .good → ⊥) → (number ≡ x .number) × x .place place) × (x .good → Told number place xs)
 
--- a known format, by the two numbers that C gives
-abbrev pub KnownFormat : ℕ → ℕ → Type 0
-KnownFormat format depth = (1 ≤ format) × (format ≤ 3) × ((depth ≡ 10) ⊎ (depth ≡ 12))
+-- a known format, by the numbers that C gives
+abbrev pub KnownFormat : FormatNumbers → Type 0
+KnownFormat format = (1 ≤ format .number) × (format .number ≤ 3) × ((format .depth ≡ 10) ⊎ (format .depth ≡ 12))
+
+-- what the sender is asked for, from a disparity: with no content bytes named, whatever stands in their place, and with these
+abbrev pub unnamed : StreamLineNumber → Bool → ContentBytes → SendRequest
+unnamed line positive content = record { line = line; positive = positive; named = false; content = content }
+
+abbrev pub naming : StreamLineNumber → Bool → ContentBytes → SendRequest
+naming line positive content = record { line = line; positive = positive; named = true; content = content }
 
 -- a call of the sender, its answer, the buffer that was lent, and the buffer afterwards: the span and the disparity after it if the answer is
 -- 0, else the buffer as it was
@@ -63,6 +75,8 @@ Stands r i c = (d : Disparity) × (getD r i 0 ≡ symbolOf d c)
 
 pub record Face : Type 1 where
   pub crossing : BoundaryLaws
+  -- the interface that the header's number is compared with: 2, and in it release 0
+  pub version : version·answer ≡ 2 * 65536 + 0
   -- which number is which refusal, by the names that the library's answers have
   pub refusals : RefusalNumbers
   -- ---- the code: true is positive, a character is its number
@@ -86,11 +100,16 @@ pub record Face : Type 1 where
       → Says (encode·answer false c .«positive_after») (afterOf Negative c) × Says (encode·answer true c .«positive_after») (afterOf Positive c)
   pub encodeNone : (positive : Bool) (c : ℕ) → 268 ≤ c → encode·answer positive c .known ≡ false
   -- ---- words
-  pub lineWordsTold : (line : ℕ) → Told (lineWords·answer line .number) 0 (rule 2 ((1 ≤ line) × (line ≤ 1125)) ∷ [])
+  pub lineWordsTold :
+      (line : StreamLineNumber)
+      → Told (lineWords·answer line .number) 0 (rule 2 ((1 ≤ line .number) × (line .number ≤ 1125)) ∷ [])
   pub lineWords :
-      (line : ℕ) → 1 ≤ line → line ≤ 1125 → (lineWords·answer line .ln0 ≡ ln0 line) × (lineWords·answer line .ln1 ≡ ln1 line)
+      (line : StreamLineNumber)
+      → 1 ≤ line .number
+      → line .number ≤ 1125
+      → (lineWords·answer line .ln0 ≡ ln0 (line .number)) × (lineWords·answer line .ln1 ≡ ln1 (line .number))
   pub readLineWordsTold : (a b : ℕ) → Told (readLineWords·answer a b .number) 0 (readLineWordsRules a b)
-  pub readLineWords : (line : ℕ) → 1 ≤ line → line ≤ 1125 → readLineWords·answer (ln0 line) (ln1 line) .line ≡ line
+  pub readLineWords : (line : ℕ) → 1 ≤ line → line ≤ 1125 → readLineWords·answer (ln0 line) (ln1 line) .line .number ≡ line
   pub repairTold : (word : ℕ) → Told (repair·answer word .number) 0 (repairRules word)
   pub repair :
       (word : ℕ) (r : Repaired)
@@ -105,7 +124,8 @@ pub record Face : Type 1 where
       × (crcc·answer words .crcc1 ≡ crccWords c .crcc1)
   -- ---- pictures
   pub placeTold :
-      (line sample : ℕ) → Told (place·answer line sample .number) 0 (rule 2 ((1 ≤ line) × (line ≤ 2160) × (sample ≤ 3839)) ∷ [])
+      (line : PictureLineNumber) (sample : ℕ)
+      → Told (place·answer line sample .number) 0 (rule 2 ((1 ≤ line .number) × (line .number ≤ 2160) × (sample ≤ 3839)) ∷ [])
   pub place :
       (u l j : ℕ)
       → 1 ≤ u
@@ -113,8 +133,8 @@ pub record Face : Type 1 where
       → 1 ≤ l
       → l ≤ 1080
       → j ≤ 1919
-      → let a = place·answer (lineFrom u l) (sampleFrom u j) in
-      (a .image ≡ u) × (a .line ≡ l) × (a .«stream_line» ≡ l + 41) × (a .sample ≡ j)
+      → let a = place·answer (record { number = lineFrom u l }) (sampleFrom u j) in
+      (a .image ≡ u) × (a .«image_line» ≡ l) × (a .«stream_line» .number ≡ l + 41) × (a .sample ≡ j)
   pub splitTold : (row first second : List ℕ) → Told (split·answer row first second) 0 (splitRules row first second)
   pub splitLent :
       (row first second : List ℕ)
@@ -123,102 +143,107 @@ pub record Face : Type 1 where
   pub joinTold : (first second row : List ℕ) → Told (join·answer first second row) 0 (joinRules first second row)
   pub joinLent :
       (first second row : List ℕ) → Lent (joinOf first second row) row (joined 1920 first second) (join·row first second row)
-  pub carriesPicture : (line : ℕ) → 42 ≤ line → line ≤ 1121 → carriesPicture·answer line ≡ true
-  pub carriesBlanking : (line : ℕ) → (42 ≤ line → line ≤ 1121 → ⊥) → carriesPicture·answer line ≡ false
+  pub carriesPicture : (line : StreamLineNumber) → 42 ≤ line .number → line .number ≤ 1121 → carriesPicture·answer line ≡ true
+  pub carriesBlanking :
+      (line : StreamLineNumber) → (42 ≤ line .number → line .number ≤ 1121 → ⊥) → carriesPicture·answer line ≡ false
   -- ---- one span
-  pub lengthsTold : (format depth : ℕ) → Told (lengths·answer format depth .number) 0 (rule 1 (KnownFormat format depth) ∷ [])
+  pub lengthsTold : (format : FormatNumbers) → Told (lengths·answer format .number) 0 (rule 1 (KnownFormat format) ∷ [])
   pub lengths :
-      (format depth : ℕ)
-      → KnownFormat format depth
-      → Samples (formatFrom format depth) (lengths·answer format depth .samples)
-      × Symbols (formatFrom format depth) (lengths·answer format depth .symbols)
+      (format : FormatNumbers)
+      → KnownFormat format
+      → Samples (formatGiven format) (lengths·answer format .samples)
+      × Symbols (formatGiven format) (lengths·answer format .symbols)
+  -- the sender, asked with no content bytes named and with content bytes named
   pub sendTold :
-      (format depth line : ℕ) (positive : Bool) (samples symbols : List ℕ)
-      → let a = send·answer format depth line positive samples symbols in
-      Told (a .number) (a .place) (sendRules (formatFrom format depth) (request line NoneNamed samples) (length symbols))
+      (format : FormatNumbers) (line : StreamLineNumber) (positive : Bool) (content : ContentBytes) (samples symbols : List ℕ)
+      → let a = send·answer format (unnamed line positive content) samples symbols in
+      Told (a .number) (a .place) (sendRules (formatGiven format) (request (line .number) NoneNamed samples) (length symbols))
   pub sendNamedTold :
-      (format depth line : ℕ) (positive : Bool) (content : ContentBytes) (samples symbols : List ℕ)
-      → let a = sendNamed·answer format depth line positive content samples symbols in
-      Told (a .number) (a .place) (sendRules (formatFrom format depth) (request line (Named content) samples) (length symbols))
+      (format : FormatNumbers) (line : StreamLineNumber) (positive : Bool) (content : ContentBytes) (samples symbols : List ℕ)
+      → let a = send·answer format (naming line positive content) samples symbols in
+      Told (a .number) (a .place) (sendRules (formatGiven format) (request (line .number) (Named content) samples) (length symbols))
   -- what is sent, from negative disparity where false is given and from positive where true is, and the disparity after it
   pub sent :
-      (format depth line : ℕ) (samples symbols : List ℕ)
-      → let f = formatFrom format depth in
-      let a = request line NoneNamed samples in
-      SentFrom Negative f a (send·answer format depth line false samples symbols) symbols (send·symbols format depth line false samples symbols)
-      × SentFrom Positive f a (send·answer format depth line true samples symbols) symbols (send·symbols format depth line true samples symbols)
+      (format : FormatNumbers) (line : StreamLineNumber) (content : ContentBytes) (samples symbols : List ℕ)
+      → let f = formatGiven format in
+      let a = request (line .number) NoneNamed samples in
+      let negative = unnamed line false content in
+      let positive = unnamed line true content in
+      SentFrom Negative f a (send·answer format negative samples symbols) symbols (send·symbols format negative samples symbols)
+      × SentFrom Positive f a (send·answer format positive samples symbols) symbols (send·symbols format positive samples symbols)
   pub sentNamed :
-      (format depth line : ℕ) (content : ContentBytes) (samples symbols : List ℕ)
-      → let f = formatFrom format depth in
-      let a = request line (Named content) samples in
-      SentFrom Negative f a (sendNamed·answer format depth line false content samples symbols) symbols
-      (sendNamed·symbols format depth line false content samples symbols)
-      × SentFrom Positive f a (sendNamed·answer format depth line true content samples symbols) symbols
-      (sendNamed·symbols format depth line true content samples symbols)
-  -- the content bytes: SAV 1 and 2 at symbols 2 and 3, EAV 1 and 2 at 2886s + 2 and 2886s + 3
+      (format : FormatNumbers) (line : StreamLineNumber) (content : ContentBytes) (samples symbols : List ℕ)
+      → let f = formatGiven format in
+      let a = request (line .number) (Named content) samples in
+      let negative = naming line false content in
+      let positive = naming line true content in
+      SentFrom Negative f a (send·answer format negative samples symbols) symbols (send·symbols format negative samples symbols)
+      × SentFrom Positive f a (send·answer format positive samples symbols) symbols (send·symbols format positive samples symbols)
+  -- the content bytes that are named: SAV 1 and 2 at symbols 2 and 3, EAV 1 and 2 at 2886s + 2 and 2886s + 3
   pub contentSent :
-      (format depth line : ℕ) (positive : Bool) (content : ContentBytes) (samples symbols : List ℕ)
-      → sendNamed·answer format depth line positive content samples symbols .number ≡ 0
-      → let r = sendNamed·symbols format depth line positive content samples symbols in
-      let k = 2886 * streams (shapeOf (formatFrom format depth)) in
+      (format : FormatNumbers) (line : StreamLineNumber) (positive : Bool) (content : ContentBytes) (samples symbols : List ℕ)
+      → let asked = naming line positive content in
+      send·answer format asked samples symbols .number ≡ 0
+      → let r = send·symbols format asked samples symbols in
+      let k = 2886 * streams (shapeOf (formatGiven format)) in
       Stands r 2 (content .sav1) × Stands r 3 (content .sav2) × Stands r (k + 2) (content .eav1) × Stands r (k + 3) (content .eav2)
   pub fillBlankingTold :
-      (format depth : ℕ) (row : List ℕ) → Told (fillBlanking·answer format depth row) 0 (fillRules (formatFrom format depth) (length row))
+      (format : FormatNumbers) (row : List ℕ) → Told (fillBlanking·answer format row) 0 (fillRules (formatGiven format) (length row))
   pub fillBlankingLent :
-      (format depth : ℕ) (row : List ℕ)
-      → Lent (fillOf (formatFrom format depth) row) row (blankRow (formatFrom format depth)) (fillBlanking·row format depth row)
+      (format : FormatNumbers) (row : List ℕ)
+      → Lent (fillOf (formatGiven format) row) row (blankRow (formatGiven format)) (fillBlanking·row format row)
   pub readTold :
-      (format depth : ℕ) (symbols rows : List ℕ)
-      → let a = read·answer format depth symbols rows in
-      Told (a .number) (a .place) (readRules (formatFrom format depth) symbols (length rows))
+      (format : FormatNumbers) (symbols rows : List ℕ)
+      → let a = read·answer format symbols rows in
+      Told (a .number) (a .place) (readRules (formatGiven format) symbols (length rows))
   pub readLent :
-      (format depth : ℕ) (symbols rows : List ℕ)
-      → let f = formatFrom format depth in
-      Rows (readOf f symbols (length rows)) rows (pictureOf f symbols) (read·rows format depth symbols rows)
+      (format : FormatNumbers) (symbols rows : List ℕ)
+      → let f = formatGiven format in
+      Rows (readOf f symbols (length rows)) rows (pictureOf f symbols) (read·rows format symbols rows)
   pub read :
-      (format depth : ℕ) (symbols rows : List ℕ) (d : Delivery)
-      → readOf (formatFrom format depth) symbols (length rows) ≡ given d
-      → AreValues (read·answer format depth symbols rows .delivery) d
+      (format : FormatNumbers) (symbols rows : List ℕ) (d : Delivery)
+      → readOf (formatGiven format) symbols (length rows) ≡ given d
+      → AreValues (read·answer format symbols rows .delivery) d
   pub judgeTold :
-      (format depth : ℕ) (symbols : List ℕ)
-      → let a = judge·answer format depth symbols in
-      Told (a .number) (a .place) (judgeRules (formatFrom format depth) symbols)
+      (format : FormatNumbers) (symbols : List ℕ)
+      → let a = judge·answer format symbols in
+      Told (a .number) (a .place) (judgeRules (formatGiven format) symbols)
   pub judge :
-      (format depth : ℕ) (symbols : List ℕ) (d : Delivery)
-      → judgeOf (formatFrom format depth) symbols ≡ given d
-      → AreValues (judge·answer format depth symbols .delivery) d
+      (format : FormatNumbers) (symbols : List ℕ) (d : Delivery)
+      → judgeOf (formatGiven format) symbols ≡ given d
+      → AreValues (judge·answer format symbols .delivery) d
   -- ---- recordings: whether there is a span is `found`, since place 0 is a place
   pub findTold :
-      (format depth : ℕ) (symbols : List ℕ) (start : ℕ)
-      → Told (find·answer format depth symbols start .number) 0 (findRules (formatFrom format depth) symbols start)
+      (format : FormatNumbers) (symbols : List ℕ) (start : ℕ)
+      → Told (find·answer format symbols start .number) 0 (findRules (formatGiven format) symbols start)
   pub findAt :
-      (format depth : ℕ) (symbols : List ℕ) (start place : ℕ)
-      → findOf (formatFrom format depth) symbols start ≡ given (some place)
-      → (find·answer format depth symbols start .found ≡ true) × (find·answer format depth symbols start .place ≡ place)
+      (format : FormatNumbers) (symbols : List ℕ) (start place : ℕ)
+      → findOf (formatGiven format) symbols start ≡ given (some place)
+      → (find·answer format symbols start .found ≡ true) × (find·answer format symbols start .place ≡ place)
   pub findNone :
-      (format depth : ℕ) (symbols : List ℕ) (start : ℕ)
-      → findOf (formatFrom format depth) symbols start ≡ given none
-      → find·answer format depth symbols start .found ≡ false
+      (format : FormatNumbers) (symbols : List ℕ) (start : ℕ)
+      → findOf (formatGiven format) symbols start ≡ given none
+      → find·answer format symbols start .found ≡ false
   pub nextTold :
-      (format depth : ℕ) (symbols : List ℕ) (start : ℕ) (rows : List ℕ)
-      → Told (next·answer format depth symbols start rows .number) 0 (nextRules (formatFrom format depth) symbols start (length rows))
+      (format : FormatNumbers) (symbols : List ℕ) (start : ℕ) (rows : List ℕ)
+      → Told (next·answer format symbols start rows .number) 0 (nextRules (formatGiven format) symbols start (length rows))
   pub nextAt :
-      (format depth : ℕ) (symbols : List ℕ) (start : ℕ) (rows : List ℕ) (s : Spanned)
-      → let f = formatFrom format depth in
-      let a = next·answer format depth symbols start rows in
+      (format : FormatNumbers) (symbols : List ℕ) (start : ℕ) (rows : List ℕ) (s : Spanned)
+      → let f = formatGiven format in
+      let a = next·answer format symbols start rows in
       nextOf f symbols start (length rows) ≡ given (some s)
       → (a .found ≡ true) × (a .place ≡ s .place) × AreValues (a .delivery) (s .delivery)
   pub nextNone :
-      (format depth : ℕ) (symbols : List ℕ) (start : ℕ) (rows : List ℕ)
-      → nextOf (formatFrom format depth) symbols start (length rows) ≡ given none
-      → next·answer format depth symbols start rows .found ≡ false
+      (format : FormatNumbers) (symbols : List ℕ) (start : ℕ) (rows : List ℕ)
+      → nextOf (formatGiven format) symbols start (length rows) ≡ given none
+      → next·answer format symbols start rows .found ≡ false
   -- the rows: the picture of the span, else as they were
   pub nextRows :
-      (format depth : ℕ) (symbols : List ℕ) (start : ℕ) (rows : List ℕ)
-      → let f = formatFrom format depth in
-      let a = next·answer format depth symbols start rows in
-      (a .found ≡ true → next·rows format depth symbols start rows ≡ pictureOf f (take (symbolsIn (shapeOf f)) (drop (a .place) symbols)))
-      × (a .found ≡ false → next·rows format depth symbols start rows ≡ rows)
+      (format : FormatNumbers) (symbols : List ℕ) (start : ℕ) (rows : List ℕ)
+      → let f = formatGiven format in
+      let a = next·answer format symbols start rows in
+      (a .found ≡ true → next·rows format symbols start rows ≡ pictureOf f (take (symbolsIn (shapeOf f)) (drop (a .place) symbols)))
+      × (a .found ≡ false → next·rows format symbols start rows ≡ rows)
   pub nextResume :
-      (format depth : ℕ) (symbols : List ℕ) (start : ℕ) (rows : List ℕ)
-      → next·answer format depth symbols start rows .resume ≡ afterNext (formatFrom format depth) symbols start (length rows)
+      (format : FormatNumbers) (symbols : List ℕ) (start : ℕ) (rows : List ℕ)
+      → next·answer format symbols start rows .resume ≡ afterNext (formatGiven format) symbols start (length rows)

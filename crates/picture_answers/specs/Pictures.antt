@@ -2,9 +2,17 @@
 -- Assumes nothing.
 use Rattle.ground.specs.Answer.{Answer, refused, given}
 use Rattle.picture.specs.declared.place.Place.{Place}
+use Rattle.boundary.specs.Numbers.{streamLineNumber}
 use Rattle.picture_answers.specs.declared.pictures.PlaceAnswer.{PlaceAnswer}
 
 abbrev pub placeAnswerOf : Answer Place → PlaceAnswer
-placeAnswerOf (refused number place) = record { number = number; image = 0; line = 0; «stream_line» = 0; sample = 0 }
+placeAnswerOf (refused number place) =
+    record { number = number; image = 0; «image_line» = 0; «stream_line» = record { number = 0 }; sample = 0 }
 placeAnswerOf (given p) =
-    record { number = 0; image = p .image; line = p .line .0; «stream_line» = p .stream .0; sample = p .sample }
+    record {
+      number = 0;
+      image = p .image;
+      «image_line» = p .line .0;
+      «stream_line» = streamLineNumber (p .stream);
+      sample = p .sample;
+    }

@@ -1,4 +1,5 @@
 // What the calls on places and rows answer.
+use boundary::numbers::StreamLineNumber;
 use dividing::row::Copied;
 use picture::place::Placed;
 use span::blanking::Filled;
@@ -13,8 +14,8 @@ ghost use Rattle.boundary.specs.Numbers.{numberIn};
 pub struct PlaceAnswer {
     pub number: u32,
     pub image: u32,
-    pub line: u32,
-    pub stream_line: u32,
+    pub image_line: u32,
+    pub stream_line: StreamLineNumber,
     pub sample: u32,
 }
 
@@ -25,15 +26,15 @@ pub fn place_answer(r: Placed) -> PlaceAnswer
         Placed::At(p) => PlaceAnswer {
             number: 0,
             image: p.image as u32,
-            line: line::picture::number_of(p.line) as u32,
-            stream_line: line::stream::number_of(p.stream) as u32,
+            image_line: line::picture::number_of(p.line) as u32,
+            stream_line: boundary::numbers::stream_line_number(p.stream),
             sample: p.sample as u32,
         },
         Placed::Outside => PlaceAnswer {
             number: 2,
             image: 0,
-            line: 0,
-            stream_line: 0,
+            image_line: 0,
+            stream_line: StreamLineNumber { number: 0 },
             sample: 0,
         },
     }

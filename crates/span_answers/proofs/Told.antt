@@ -55,7 +55,7 @@ send-told = through sendAnswerOf sendBack back sent-one-to-one
 pub valuesBack : Values → Delivery
 valuesBack v =
     record {
-      line = record { 0 = v .line };
+      line = record { 0 = v .line .number };
       content = v .content;
       before = disparityFrom (v .«positive_before»);
       after = disparityFrom (v .«positive_after»);

@@ -18,7 +18,7 @@ use Rattle.span_answers.specs.Spans.{valuesOf, lengthsAnswerOf, sendAnsw
 
 -- the values of a span field by field: the line, the content bytes in the order SAV 1, SAV 2, EAV 1, EAV 2, true for positive
 pub record AreValues (v : Values) (d : Delivery) : Type 0 where
-  pub line : v .line ≡ d .line .0
+  pub line : v .line .number ≡ d .line .0
   pub sav1 : v .content .sav1 ≡ d .content .sav1
   pub sav2 : v .content .sav2 ≡ d .content .sav2
   pub eav1 : v .content .eav1 ≡ d .content .eav1

@@ -11,12 +11,13 @@ use Rattle.span_answers.specs.declared.spans.LengthsAnswer.{LengthsAnswe
 use Rattle.span_answers.specs.declared.spans.SendAnswer.{SendAnswer}
 use Rattle.span_answers.specs.declared.spans.ReadAnswer.{ReadAnswer}
 use Rattle.symbol.specs.Disparity.{isPositive}
+use Rattle.boundary.specs.Numbers.{streamLineNumber}
 
 -- what a span says about itself
 abbrev pub valuesOf : Delivery → Values
 valuesOf d =
     record {
-      line = d .line .0;
+      line = streamLineNumber (d .line);
       content = d .content;
       «positive_before» = isPositive (d .before);
       «positive_after» = isPositive (d .after);
@@ -27,7 +28,7 @@ valuesOf d =
 abbrev pub noValues : Values
 noValues =
     record {
-      line = 0;
+      line = record { number = 0 };
       content = record { sav1 = 0; sav2 = 0; eav1 = 0; eav2 = 0 };
       «positive_before» = false;
       «positive_after» = false;

@@ -1,4 +1,5 @@
 // What the calls on one span answer.
+use boundary::numbers::StreamLineNumber;
 use read::answer::Read;
 use request::sent::Sent;
 use span::content::ContentBytes;
@@ -28,7 +29,7 @@ pub struct SendAnswer {
 // What a span says about itself.
 #[repr(C)]
 pub struct Values {
-    pub line: u32,
+    pub line: StreamLineNumber,
     pub content: ContentBytes,
     pub positive_before: bool,
     pub positive_after: bool,
@@ -49,7 +50,7 @@ pub fn values_of(d: Delivery) -> Values
     let after = d.after;
     let content = d.content;
     Values {
-        line: line::stream::number_of(d.line) as u32,
+        line: boundary::numbers::stream_line_number(d.line),
         content,
         positive_before: boundary::numbers::is_positive(before),
         positive_after: boundary::numbers::is_positive(after),
@@ -68,7 +69,7 @@ pub fn no_values() -> Values
         eav2: 0,
     };
     Values {
-        line: 0,
+        line: StreamLineNumber { number: 0 },
         content,
         positive_before: false,
         positive_after: false,

@@ -39,7 +39,7 @@ line-words-told = through lineWordsAnswerOf lineWordsBack back numbered-one-to-o
     back Numbered.NoLine = refl
 
 lineBack : ReadLineWordsAnswer → Answer StreamLine
-lineBack l = answerBy (l .number) 0 (record { 0 = l .line })
+lineBack l = answerBy (l .number) 0 (record { 0 = l .line .number })
 
 pub read-line-words-told : Injective (λ (r : Named). readLineWordsAnswerOf (paperNamed r))
 unfolding lineBack

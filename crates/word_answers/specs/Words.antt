@@ -6,6 +6,7 @@ use Rattle.line.specs.declared.stream.StreamLine.{StreamLine}
 use Rattle.word.specs.declared.line_number.LineWords.{LineWords}
 use Rattle.word.specs.declared.repair.Repaired.{Repaired}
 use Rattle.crcc.specs.Crcc.{crccWords}
+use Rattle.boundary.specs.Numbers.{streamLineNumber}
 use Rattle.word_answers.specs.declared.words.LineWordsAnswer.{LineWordsAnswer}
 use Rattle.word_answers.specs.declared.words.ReadLineWordsAnswer.{ReadLineWordsAnswer}
 use Rattle.word_answers.specs.declared.words.RepairAnswer.{RepairAnswer}
@@ -16,8 +17,8 @@ lineWordsAnswerOf (refused number place) = record { number = number; ln0 = 0; ln
 lineWordsAnswerOf (given w) = record { number = 0; ln0 = w .ln0; ln1 = w .ln1 }
 
 abbrev pub readLineWordsAnswerOf : Answer StreamLine → ReadLineWordsAnswer
-readLineWordsAnswerOf (refused number place) = record { number = number; line = 0 }
-readLineWordsAnswerOf (given l) = record { number = 0; line = l .0 }
+readLineWordsAnswerOf (refused number place) = record { number = number; line = record { number = 0 } }
+readLineWordsAnswerOf (given l) = record { number = 0; line = streamLineNumber l }
 
 abbrev pub repairAnswerOf : Answer Repaired → RepairAnswer
 repairAnswerOf (refused number place) = record { number = number; word = 0; distance = 0 }

@@ -1,9 +1,11 @@
 // What the calls on single words and on a run of words answer.
+use boundary::numbers::StreamLineNumber;
 use crcc::crcc::Crcc;
 use word::line_number::Named;
 use word::line_number::Numbered;
 use word::repair::Repair;
 ghost use mathlib.Core.Path.{_≡_};
+ghost use Rattle.ground.specs.Answer.{refused};
 ghost use Rattle.word.specs.LineNumber.{paperNumbered, paperNamed};
 ghost use Rattle.word.specs.Repair.{paperRepair};
 ghost use Rattle.crcc.specs.Crcc.{paperCrcc};
@@ -19,7 +21,7 @@ pub struct LineWordsAnswer {
 #[repr(C)]
 pub struct ReadLineWordsAnswer {
     pub number: u32,
-    pub line: u32,
+    pub line: StreamLineNumber,
 }
 
 #[repr(C)]
@@ -37,12 +39,12 @@ pub struct CrccAnswer {
     pub crcc1: u32,
 }
 
-fn named(number: u32, line: u16) -> ReadLineWordsAnswer
-    ensures { λ r. ⌜ r ≡ record { number = number; line = line } ⌝ }
+fn nameless(number: u32) -> ReadLineWordsAnswer
+    ensures { λ r. ⌜ r ≡ readLineWordsAnswerOf (refused number 0) ⌝ }
 {
     ReadLineWordsAnswer {
         number,
-        line: line as u32,
+        line: StreamLineNumber { number: 0 },
     }
 }
 
@@ -77,9 +79,12 @@ pub fn read_line_words_answer(r: Named) -> ReadLineWordsAnswer
     ensures { λ a. ⌜ a ≡ readLineWordsAnswerOf (paperNamed r) ⌝ }
 {
     match r {
-        Named::Line(l) => named(0, line::stream::number_of(l)),
-        Named::Above4095 => named(7, 0),
-        Named::Nameless => named(22, 0),
+        Named::Line(l) => ReadLineWordsAnswer {
+            number: 0,
+            line: boundary::numbers::stream_line_number(l),
+        },
+        Named::Above4095 => nameless(7),
+        Named::Nameless => nameless(22),
     }
 }
 

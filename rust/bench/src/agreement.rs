@@ -7,5 +7,5 @@ use plain::read::Delivered;
 pub fn same(own: &Delivery, plain: &Delivered) -> bool {
     let content = [own.content.sav1, own.content.sav2, own.content.eav1, own.content.eav2];
     let disparities = (own.positive_before, own.positive_after) == (plain.positive_before, plain.positive_after);
-    (own.line, own.repairs, content) == (plain.line, plain.repairs, plain.content) && disparities
+    (own.line.0, own.repairs, content) == (plain.line, plain.repairs, plain.content) && disparities
 }

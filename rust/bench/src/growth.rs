@@ -4,6 +4,7 @@ use crate::fast::read::judge::Judge;
 use crate::fast::read::{recording, tables};
 use crate::recordings::{self, DEPTH, FORMAT};
 use crate::timing::Least;
+use brazulint::Format;
 use random::Random;
 use plain::span::shape;
 use std::time::Instant;
@@ -35,7 +36,7 @@ fn places(symbols: &[u16], mut find: impl FnMut(&[u16], u64) -> Option<u64>) -> 
 }
 
 fn by_library(symbols: &[u16], start: u64) -> Option<u64> {
-    brazulint::find(FORMAT, DEPTH, symbols, start).result().expect("a recording that is not too long")
+    brazulint::find(Format::new(FORMAT, DEPTH), symbols, start).result().expect("a recording that is not too long")
 }
 
 fn by_fast(judge: &mut Judge, symbols: &[u16], start: u64) -> Option<u64> {

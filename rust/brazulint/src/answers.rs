@@ -1,10 +1,11 @@
 //! The structs of the header, field for field. The header says what each field means; a field without meaning is 0 or false.
 
+use crate::given::StreamLine;
 use crate::refusal::Refusal;
 
 macro_rules! structs {
-    ($($(#[$doc:meta])* $name:ident { $($field:ident: $kind:ty),* })*) => {$(
-        $(#[$doc])*
+    ($($(#[$of:meta])* $name:ident { $($field:ident: $kind:ty),* })*) => {$(
+        $(#[$of])*
         #[repr(C)]
         #[derive(Clone, Copy, Debug, PartialEq, Eq, Default)]
         pub struct $name {
@@ -17,30 +18,42 @@ structs! {
     /// The content bytes of a span: 1 and 2 of the SAV, then of the EAV.
     Content { sav1: u8, sav2: u8, eav1: u8, eav2: u8 }
     /// What a span says about itself.
-    Delivery { line: u32, content: Content, positive_before: bool, positive_after: bool, repairs: u32 }
+    Delivery { line: StreamLine, content: Content, positive_before: bool, positive_after: bool, repairs: u32 }
     /// The lengths of a span: samples of all streams, and symbols. Refusal 1.
+    #[must_use]
     LengthsAnswer { number: u32, samples: usize, symbols: usize }
     /// Refusals 1, 2, 3, 4 and 6.
+    #[must_use]
     SendAnswer { number: u32, positive_after: bool, place: u64 }
     /// Refusals 1, 3, 4 and 20 to 26.
+    #[must_use]
     ReadAnswer { number: u32, place: u64, delivery: Delivery }
     /// Refusals 1, 3 and 5.
+    #[must_use]
     FindAnswer { number: u32, found: bool, place: u64 }
     /// Refusals 1, 3, 4 and 5.
+    #[must_use]
     NextAnswer { number: u32, found: bool, place: u64, resume: u64, delivery: Delivery }
     /// Refusal 2.
-    PlaceAnswer { number: u32, image: u32, line: u32, stream_line: u32, sample: u32 }
+    #[must_use]
+    PlaceAnswer { number: u32, image: u32, image_line: u32, stream_line: StreamLine, sample: u32 }
     /// Refusal 2.
+    #[must_use]
     LineWordsAnswer { number: u32, ln0: u32, ln1: u32 }
     /// Refusals 7 and 22.
-    ReadLineWordsAnswer { number: u32, line: u32 }
+    #[must_use]
+    ReadLineWordsAnswer { number: u32, line: StreamLine }
     /// Refusals 7 and 8.
+    #[must_use]
     RepairAnswer { number: u32, word: u32, distance: u32 }
     /// Refusal 7. Bit i of `crc` is CRCCi.
+    #[must_use]
     CrccAnswer { number: u32, crc: u32, crcc0: u32, crcc1: u32 }
     /// Refusals 7 and 20.
+    #[must_use]
     DecodeAnswer { number: u32, character: u32, positive_after: bool }
     /// Refuses nothing; `known` is false for a number that is not a character.
+    #[must_use]
     EncodeAnswer { known: bool, symbol: u32, positive_after: bool }
 }
 
@@ -93,7 +106,7 @@ impl LineWordsAnswer {
 
 impl ReadLineWordsAnswer {
     /// The stream line.
-    pub fn result(self) -> Result<u32, Refusal> {
+    pub fn result(self) -> Result<StreamLine, Refusal> {
         Refusal::check(self.number, 0).map(|()| self.line)
     }
 }

@@ -1,47 +1,34 @@
-//! The calls of the header as they are. A buffer is a pointer and the number of its elements; if the number is 0 the pointer may be null. A
+//! The calls of the header as they are, under the names that are linked. A buffer is a pointer and the number of its elements; if the number is 0 the pointer may be null. A
 //! buffer that is written overlaps no other buffer of the same call.
 
 use crate::answers::*;
+use crate::given::*;
 
 extern "C" {
-    pub fn brazulint_lengths(format: u32, depth: u32) -> LengthsAnswer;
-    pub fn brazulint_send(
-        format: u32,
-        depth: u32,
-        line: u32,
-        positive: bool,
+    pub fn brazulint2_version() -> u32;
+    pub fn brazulint2_lengths(format: Format) -> LengthsAnswer;
+    pub fn brazulint2_send(
+        format: Format,
+        request: Request,
         samples: *const u16,
         sample_count: usize,
         symbols: *mut u16,
         symbol_room: usize,
     ) -> SendAnswer;
-    pub fn brazulint_send_named(
-        format: u32,
-        depth: u32,
-        line: u32,
-        positive: bool,
-        content: Content,
-        samples: *const u16,
-        sample_count: usize,
-        symbols: *mut u16,
-        symbol_room: usize,
-    ) -> SendAnswer;
-    pub fn brazulint_carries_picture(line: u32) -> bool;
-    pub fn brazulint_fill_blanking(format: u32, depth: u32, row: *mut u16, row_room: usize) -> u32;
-    pub fn brazulint_read(format: u32, depth: u32, symbols: *const u16, symbol_count: usize, rows: *mut u16, row_room: usize)
-        -> ReadAnswer;
-    pub fn brazulint_judge(format: u32, depth: u32, symbols: *const u16, symbol_count: usize) -> ReadAnswer;
-    pub fn brazulint_find(format: u32, depth: u32, symbols: *const u16, symbol_count: usize, start: u64) -> FindAnswer;
-    pub fn brazulint_next(
-        format: u32,
-        depth: u32,
+    pub fn brazulint2_carries_picture(line: StreamLine) -> bool;
+    pub fn brazulint2_fill_blanking(format: Format, row: *mut u16, row_room: usize) -> u32;
+    pub fn brazulint2_read(format: Format, symbols: *const u16, symbol_count: usize, rows: *mut u16, row_room: usize) -> ReadAnswer;
+    pub fn brazulint2_judge(format: Format, symbols: *const u16, symbol_count: usize) -> ReadAnswer;
+    pub fn brazulint2_find(format: Format, symbols: *const u16, symbol_count: usize, start: u64) -> FindAnswer;
+    pub fn brazulint2_next(
+        format: Format,
         symbols: *const u16,
         symbol_count: usize,
         start: u64,
         rows: *mut u16,
         row_room: usize,
     ) -> NextAnswer;
-    pub fn brazulint_split(
+    pub fn brazulint2_split(
         row: *const u16,
         row_count: usize,
         first: *mut u16,
@@ -49,7 +36,7 @@ extern "C" {
         second: *mut u16,
         second_room: usize,
     ) -> u32;
-    pub fn brazulint_join(
+    pub fn brazulint2_join(
         first: *const u16,
         first_count: usize,
         second: *const u16,
@@ -57,11 +44,11 @@ extern "C" {
         row: *mut u16,
         row_room: usize,
     ) -> u32;
-    pub fn brazulint_place(line: u32, sample: u32) -> PlaceAnswer;
-    pub fn brazulint_line_words(line: u32) -> LineWordsAnswer;
-    pub fn brazulint_read_line_words(ln0: u32, ln1: u32) -> ReadLineWordsAnswer;
-    pub fn brazulint_repair(word: u32) -> RepairAnswer;
-    pub fn brazulint_crcc(words: *const u16, word_count: usize) -> CrccAnswer;
-    pub fn brazulint_decode(positive: bool, symbol: u32) -> DecodeAnswer;
-    pub fn brazulint_encode(positive: bool, character: u32) -> EncodeAnswer;
+    pub fn brazulint2_place(line: PictureLine, sample: u32) -> PlaceAnswer;
+    pub fn brazulint2_line_words(line: StreamLine) -> LineWordsAnswer;
+    pub fn brazulint2_read_line_words(ln0: u32, ln1: u32) -> ReadLineWordsAnswer;
+    pub fn brazulint2_repair(word: u32) -> RepairAnswer;
+    pub fn brazulint2_crcc(words: *const u16, word_count: usize) -> CrccAnswer;
+    pub fn brazulint2_decode(positive: bool, symbol: u32) -> DecodeAnswer;
+    pub fn brazulint2_encode(positive: bool, character: u32) -> EncodeAnswer;
 }

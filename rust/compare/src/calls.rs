@@ -3,7 +3,7 @@
 use crate::expected;
 use crate::lent::{Left, Lent};
 use crate::report::Report;
-use brazulint::Content;
+use brazulint::{Content, Format, PictureLine, Refusal, Request, StreamLine};
 use plain::read::Delivered;
 use plain::span::Asked;
 use plain::Answer;
@@ -27,7 +27,7 @@ pub fn repair(r: &mut Report, word: u32) {
 
 pub fn line_words(r: &mut Report, line: u32) {
     let plain = expected::line_words(plain::words::line_words(line));
-    r.answer(|| format!("line_words({line})"), brazulint::line_words(line), plain);
+    r.answer(|| format!("line_words({line})"), brazulint::line_words(StreamLine(line)), plain);
 }
 
 pub fn read_line_words(r: &mut Report, ln0: u32, ln1: u32) {
@@ -42,27 +42,32 @@ pub fn crcc(r: &mut Report, words: &[u16]) {
 
 pub fn place(r: &mut Report, line: u32, sample: u32) {
     let plain = expected::place(plain::picture::place(line, sample));
-    r.answer(|| format!("place({line}, {sample})"), brazulint::place(line, sample), plain);
+    r.answer(|| format!("place({line}, {sample})"), brazulint::place(PictureLine(line), sample), plain);
 }
 
 pub fn carries_picture(r: &mut Report, line: u32) {
     let plain = plain::picture::carries_picture(line);
-    r.answer(|| format!("carries_picture({line})"), brazulint::carries_picture(line), plain);
+    r.answer(|| format!("carries_picture({line})"), brazulint::carries_picture(StreamLine(line)), plain);
 }
 
 pub fn lengths(r: &mut Report, format: u32, depth: u32) {
     let plain = expected::lengths(plain::span::lengths(format, depth));
-    r.answer(|| format!("lengths({format}, {depth})"), brazulint::lengths(format, depth), plain);
+    r.answer(|| format!("lengths({format}, {depth})"), brazulint::lengths(Format::new(format, depth)), plain);
 }
 
 // ---- Rows.
+
+/// The number of an answer that is only a number.
+fn number(answer: Result<(), Refusal>) -> u32 {
+    answer.err().map_or(0, Refusal::number)
+}
 
 pub fn split(r: &mut Report, row: &[u16], rooms: [usize; 2]) {
     let [mut first, mut second] = rooms.map(Lent::new);
     let answer = brazulint::split(row, first.lend(), second.lend());
     let plain = plain::picture::split(row, rooms);
     let call = || format!("split({} samples into {rooms:?})", row.len());
-    r.answer(call, answer, expected::number(&plain));
+    r.answer(call, number(answer), expected::number(&plain));
     let left = |i: usize| plain.as_ref().map_or(Left::AsItWas, |rows| Left::Holds(&rows[i]));
     r.buffer(call, &first, left(0));
     r.buffer(call, &second, left(1));
@@ -73,31 +78,36 @@ pub fn join(r: &mut Report, first: &[u16], second: &[u16], room: usize) {
     let answer = brazulint::join(first, second, row.lend());
     let plain = plain::picture::join(first, second, room);
     let call = || format!("join({} and {} samples into {room})", first.len(), second.len());
-    r.answer(call, answer, expected::number(&plain));
+    r.answer(call, number(answer), expected::number(&plain));
     r.buffer(call, &row, plain.as_ref().map_or(Left::AsItWas, |row| Left::Holds(row)));
 }
 
 pub fn fill_blanking(r: &mut Report, format: u32, depth: u32, room: usize) {
     let mut row = Lent::new(room);
-    let answer = brazulint::fill_blanking(format, depth, row.lend());
+    let answer = brazulint::fill_blanking(Format::new(format, depth), row.lend());
     let plain = plain::span::blanking_row(format, depth, room);
     let call = || format!("fill_blanking({format}, {depth}, room for {room})");
-    r.answer(call, answer, expected::number(&plain));
+    r.answer(call, number(answer), expected::number(&plain));
     r.buffer(call, &row, plain.as_ref().map_or(Left::AsItWas, |row| Left::Holds(row)));
 }
 
 // ---- Spans.
 
+/// Content bytes that are not named are not looked at, so there are some.
+fn unnamed(mut request: Request) -> Request {
+    request.content = Content { sav1: 1, sav2: 2, eav1: 3, eav2: 4 };
+    request
+}
+
 pub fn send(r: &mut Report, asked: Asked, samples: &[u16], room: usize) -> Answer<(Vec<u16>, bool)> {
     let mut symbols = Lent::new(room);
     let Asked { format, depth, line, positive, content } = asked;
-    let answer = match content {
-        None => brazulint::send(format, depth, line, positive, samples, symbols.lend()),
-        Some([sav1, sav2, eav1, eav2]) => {
-            let content = Content { sav1, sav2, eav1, eav2 };
-            brazulint::send_named(format, depth, line, positive, content, samples, symbols.lend())
-        }
+    let request = Request::new(StreamLine(line), positive);
+    let request = match content {
+        None => unnamed(request),
+        Some([sav1, sav2, eav1, eav2]) => request.naming(Content { sav1, sav2, eav1, eav2 }),
     };
+    let answer = brazulint::send(Format::new(format, depth), request, samples, symbols.lend());
     let plain = plain::span::send(asked, samples, room);
     let call = || format!("send({asked:?}, {} samples, room for {room})", samples.len());
     r.answer(call, answer, expected::send(&plain));
@@ -107,7 +117,7 @@ pub fn send(r: &mut Report, asked: Asked, samples: &[u16], room: usize) -> Answe
 
 pub fn read(r: &mut Report, format: u32, depth: u32, symbols: &[u16], room: usize) -> Answer<Delivered> {
     let mut rows = Lent::new(room);
-    let answer = brazulint::read(format, depth, symbols, rows.lend());
+    let answer = brazulint::read(Format::new(format, depth), symbols, rows.lend());
     let plain = plain::read::read(format, depth, symbols, room);
     let call = || format!("read({format}, {depth}, {} symbols, room for {room})", symbols.len());
     r.answer(call, answer, expected::read(&plain));
@@ -123,7 +133,7 @@ pub fn read(r: &mut Report, format: u32, depth: u32, symbols: &[u16], room: usiz
 pub fn judge(r: &mut Report, format: u32, depth: u32, symbols: &[u16]) {
     let plain = expected::read(&plain::read::judge(format, depth, symbols));
     let call = || format!("judge({format}, {depth}, {} symbols)", symbols.len());
-    r.answer(call, brazulint::judge(format, depth, symbols), plain);
+    r.answer(call, brazulint::judge(Format::new(format, depth), symbols), plain);
 }
 
 // ---- Recordings.
@@ -131,12 +141,12 @@ pub fn judge(r: &mut Report, format: u32, depth: u32, symbols: &[u16]) {
 pub fn find(r: &mut Report, format: u32, depth: u32, symbols: &[u16], start: u64) {
     let plain = expected::find(plain::recording::find(format, depth, symbols, start));
     let call = || format!("find({format}, {depth}, {} symbols, from {start})", symbols.len());
-    r.answer(call, brazulint::find(format, depth, symbols, start), plain);
+    r.answer(call, brazulint::find(Format::new(format, depth), symbols, start), plain);
 }
 
 pub fn next(r: &mut Report, format: u32, depth: u32, symbols: &[u16], start: u64, room: usize) {
     let mut rows = Lent::new(room);
-    let answer = brazulint::next(format, depth, symbols, start, rows.lend());
+    let answer = brazulint::next(Format::new(format, depth), symbols, start, rows.lend());
     let plain = plain::recording::next(format, depth, symbols, start, room);
     let span = plain::span::lengths(format, depth).map_or(0, |lengths| lengths[1] as u64);
     let call = || format!("next({format}, {depth}, {} symbols, from {start}, room for {room})", symbols.len());
@@ -156,7 +166,7 @@ pub fn deliver(r: &mut Report, format: u32, depth: u32, symbols: &[u16]) {
     let rest = plain.into_iter().map(|one| Ok(Some(one))).chain([Ok(None)]);
     for (step, plain) in rest.enumerate() {
         let mut rows = Lent::new(samples);
-        let answer = brazulint::next(format, depth, symbols, start, rows.lend());
+        let answer = brazulint::next(Format::new(format, depth), symbols, start, rows.lend());
         let call = || format!("step {step} through {} symbols of format {format}, depth {depth}", symbols.len());
         r.answer(call, answer, expected::next(&plain, start, span as u64));
         let left = match &plain {

@@ -28,7 +28,7 @@ pub fn send(plain: &Answer<(Vec<u16>, bool)>) -> SendAnswer {
 fn delivery(d: &Delivered) -> Delivery {
     let [sav1, sav2, eav1, eav2] = d.content;
     let content = Content { sav1, sav2, eav1, eav2 };
-    Delivery { line: d.line, content, positive_before: d.positive_before, positive_after: d.positive_after, repairs: d.repairs }
+    Delivery { line: StreamLine(d.line), content, positive_before: d.positive_before, positive_after: d.positive_after, repairs: d.repairs }
 }
 
 pub fn read(plain: &Answer<Delivered>) -> ReadAnswer {
@@ -57,7 +57,7 @@ pub fn next(plain: &Answer<Option<(u64, Delivered)>>, start: u64, symbols: u64) 
 
 pub fn place(plain: Answer<Place>) -> PlaceAnswer {
     match plain {
-        Ok(p) => PlaceAnswer { number: 0, image: p.image, line: p.line, stream_line: p.stream_line, sample: p.sample },
+        Ok(p) => PlaceAnswer { number: 0, image: p.image, image_line: p.line, stream_line: StreamLine(p.stream_line), sample: p.sample },
         Err((number, _)) => PlaceAnswer { number, ..Default::default() },
     }
 }
@@ -71,8 +71,8 @@ pub fn line_words(plain: Answer<[u16; 2]>) -> LineWordsAnswer {
 
 pub fn read_line_words(plain: Answer<u32>) -> ReadLineWordsAnswer {
     match plain {
-        Ok(line) => ReadLineWordsAnswer { number: 0, line },
-        Err((number, _)) => ReadLineWordsAnswer { number, line: 0 },
+        Ok(line) => ReadLineWordsAnswer { number: 0, line: StreamLine(line) },
+        Err((number, _)) => ReadLineWordsAnswer { number, ..Default::default() },
     }
 }
 

@@ -4,7 +4,7 @@ use crate::calls;
 use crate::pieces::{any_recording, any_start, inserted, inverted, lost, noise};
 use crate::report::{in_two, Report};
 use crate::spans::{any_asked, any_samples, any_sent, shape_of, KINDS};
-use brazulint::{Content, Delivery};
+use brazulint::{Content, Delivery, Format, Span, StreamLine};
 use random::Random;
 use plain::span::{row_words, send, Asked};
 
@@ -50,7 +50,7 @@ fn at_every_place(part: usize, r: &mut Report) {
         for start in [0, place, place + 1] {
             calls::find(r, format, depth, &recording, start as u64);
         }
-        let found = brazulint::find(format, depth, &recording, 0);
+        let found = brazulint::find(Format::new(format, depth), &recording, 0);
         r.holds(|| format!("the span at {place} is not found"), found.result() == Ok(Some(place as u64)));
     }
 }
@@ -81,7 +81,7 @@ fn chain(random: &mut Random, format: u32, depth: u32, count: u32) -> Vec<Sent> 
 fn delivery(asked: Asked, positive_after: bool) -> Delivery {
     let [sav1, sav2, eav1, eav2] = asked.content.unwrap_or([0; 4]);
     let content = Content { sav1, sav2, eav1, eav2 };
-    Delivery { line: asked.line, content, positive_before: asked.positive, positive_after, repairs: 0 }
+    Delivery { line: StreamLine(asked.line), content, positive_before: asked.positive, positive_after, repairs: 0 }
 }
 
 /// One inverted bit in sent spans alone: exactly the other spans are delivered, with what was sent. This calls only the library.
@@ -100,19 +100,23 @@ fn one_bit(part: usize, r: &mut Report) {
     }
 }
 
-/// Exactly these spans are delivered at these places, and then none.
+/// Exactly these spans are delivered at these places, and then none; by steps, and by the iterator.
 fn delivers<'a>(r: &mut Report, format: u32, depth: u32, recording: &[u16], spans: impl Iterator<Item = (usize, &'a Sent)>) {
-    let samples = shape_of(format).samples();
+    let (format, samples) = (Format::new(format, depth), shape_of(format).samples());
+    let mut iterator = brazulint::spans(format, recording);
     let mut start = 0;
     for (place, span) in spans {
         let mut rows = vec![0; samples];
-        let next = brazulint::next(format, depth, recording, start, &mut rows);
+        let next = brazulint::next(format, recording, start, &mut rows);
         r.answer(|| format!("the span sent at {place}"), next.result(), Ok(Some((place as u64, span.delivery))));
         r.holds(|| format!("the span sent at {place} is delivered with other words"), rows == span.rows);
+        let whole = Span { place: place as u64, delivery: span.delivery, rows: span.rows.clone() };
+        r.holds(|| format!("the iterator does not give the span sent at {place}"), iterator.next() == Some(Ok(whole)));
         start = next.resume;
     }
-    let next = brazulint::next(format, depth, recording, start, &mut vec![0; samples]);
+    let next = brazulint::next(format, recording, start, &mut vec![0; samples]);
     r.answer(|| format!("after the last span, at {start}"), next.result(), Ok(None));
+    r.holds(|| format!("the iterator goes on after the last span, at {start}"), iterator.next().is_none());
 }
 
 /// A symbol inserted, lost or with one bit inverted in sent spans, against plain.

@@ -132,27 +132,29 @@ fn words(r: &mut Report) {
         calls::repair(r, given);
     }
     for (line, ln0, ln1) in [(1, 0x810, 0x800), (42, 0xAA0, 0x800), (127, 0x7F0, 0x800), (128, 0x800, 0x810), (1125, 0x650, 0x880)] {
-        r.answer(|| format!("line_words({line})"), line_words(line), LineWordsAnswer { number: 0, ln0, ln1 });
-        r.answer(|| format!("read_line_words of {line}"), read_line_words(ln0, ln1), ReadLineWordsAnswer { number: 0, line });
+        r.answer(|| format!("line_words({line})"), line_words(StreamLine(line)), LineWordsAnswer { number: 0, ln0, ln1 });
+        let named = ReadLineWordsAnswer { number: 0, line: StreamLine(line) };
+        r.answer(|| format!("read_line_words of {line}"), read_line_words(ln0, ln1), named);
         calls::line_words(r, line);
         calls::read_line_words(r, ln0, ln1);
     }
     for line in [0, 1126] {
-        r.answer(|| format!("line_words({line})"), line_words(line), LineWordsAnswer { number: 2, ln0: 0, ln1: 0 });
+        r.answer(|| format!("line_words({line})"), line_words(StreamLine(line)), LineWordsAnswer { number: 2, ln0: 0, ln1: 0 });
         calls::line_words(r, line);
     }
 }
 
 fn places(r: &mut Report) {
-    let first = PlaceAnswer { number: 0, image: 2, line: 1, stream_line: 42, sample: 0 };
-    let last = PlaceAnswer { number: 0, image: 4, line: 1080, stream_line: 1121, sample: 1919 };
+    let first = PlaceAnswer { number: 0, image: 2, image_line: 1, stream_line: StreamLine(42), sample: 0 };
+    let last = PlaceAnswer { number: 0, image: 4, image_line: 1080, stream_line: StreamLine(1121), sample: 1919 };
     for (line, sample, answer) in [(1, 1, first), (2160, 3839, last)] {
-        r.answer(|| format!("place({line}, {sample})"), place(line, sample), answer);
+        r.answer(|| format!("place({line}, {sample})"), place(PictureLine(line), sample), answer);
         calls::place(r, line, sample);
     }
     for (format, samples, symbols) in [(1, 3840, 7920), (2, 3840, 9504), (3, 7680, 19008)] {
         for depth in [10, 12] {
-            r.answer(|| format!("lengths({format}, {depth})"), lengths(format, depth), LengthsAnswer { number: 0, samples, symbols });
+            let answer = LengthsAnswer { number: 0, samples, symbols };
+            r.answer(|| format!("lengths({format}, {depth})"), lengths(Format::new(format, depth)), answer);
             calls::lengths(r, format, depth);
         }
     }
@@ -166,7 +168,7 @@ fn limits(r: &mut Report) {
         samples[3000] = sample;
         let place = if number == 6 { 3000 } else { 0 };
         let mut symbols = vec![0; 7920];
-        let answer = send(1, 12, line, false, &samples, &mut symbols);
+        let answer = send(Format::new(1, 12), Request::new(StreamLine(line), false), &samples, &mut symbols);
         r.answer(|| format!("send of {sample} on line {line}"), (answer.number, answer.place), (number, place));
         let content = Some(any_content(&mut random));
         let _ = calls::send(r, Asked { format: 1, depth: 12, line, positive: false, content }, &samples, 7920);

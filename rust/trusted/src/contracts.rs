@@ -1,5 +1,5 @@
-//! What the contracts have to look like. An exported call `brazulint_x` says `x·answer` of its parameters, and `x·p` for each lent p, which
-//! `face/specs/Calls.antt` defines; it says nothing else. No public function has a `requires`, and none is without an `ensures`.
+//! What the contracts have to look like. An exported call `brazulintN_x` of interface N says `x·answer` of its parameters, and `x·p` for each
+//! lent p, which `face/specs/Calls.antt` defines; it says nothing else. No public function has a `requires`, and none is without an `ensures`.
 
 use crate::project::{Project, Text};
 use crate::source::Function;
@@ -7,7 +7,13 @@ use crate::source::Function;
 /// The public functions without an `ensures`, with the reason.
 pub const WITHOUT: &[(&str, &str)] = &[];
 
-/// `send_named` is `sendNamed` in a definition.
+/// The call that is linked as `brazulint2_send`: `send`.
+fn call_of(name: &str) -> Option<&str> {
+    let (interface, call) = name.strip_prefix("brazulint")?.split_once('_')?;
+    interface.parse::<u32>().ok().map(|_| call)
+}
+
+/// `fill_blanking` is `fillBlanking` in a definition.
 fn camel(name: &str) -> String {
     let mut parts = name.split('_');
     let first = parts.next().unwrap_or("").to_string();
@@ -22,25 +28,31 @@ fn parameters(signature: &str) -> Vec<(&str, &str)> {
     list.split(',').filter_map(|one| one.split_once(':')).map(|(name, kind)| (name.trim(), kind.trim())).collect()
 }
 
-/// The clauses that an exported function has to have.
-fn expected(function: &Function) -> Vec<String> {
-    let call = camel(function.name.trim_start_matches("brazulint_"));
+/// The clauses that the function that exports a call has to have.
+fn expected(call: &str, function: &Function) -> Vec<String> {
+    let call = camel(call);
     let all = parameters(&function.signature);
     let argument = |(name, kind): &(&str, &str)| match kind.starts_with('&') {
-        true => format!("(now ({name} .entry))"),
-        false => name.to_string(),
+        true => format!(" (now ({name} .entry))"),
+        false => format!(" {name}"),
     };
-    let arguments = all.iter().map(argument).collect::<Vec<_>>().join(" ");
-    let answer = format!("{{ λ r. ⌜ r ≡ {call}·answer {arguments} ⌝ }}");
+    let arguments = all.iter().map(argument).collect::<String>();
+    let answer = format!("{{ λ r. ⌜ r ≡ {call}·answer{arguments} ⌝ }}");
     let lent = all.iter().filter(|(_, kind)| kind.starts_with("&mut"));
-    let left = lent.map(|(name, _)| format!("{{ λ _. ⌜ now ({name} .exit) ≡ {call}·{name} {arguments} ⌝ }}"));
+    let left = lent.map(|(name, _)| format!("{{ λ _. ⌜ now ({name} .exit) ≡ {call}·{name}{arguments} ⌝ }}"));
     std::iter::once(answer).chain(left).collect()
 }
 
 fn fault(function: &Function) -> Option<String> {
     let name = &function.name;
-    if function.exported && function.clauses != expected(function) {
-        return Some(format!("{name}: its contract is not\n    {}", expected(function).join("\n    ")));
+    if function.exported {
+        let Some(call) = call_of(name) else {
+            return Some(format!("{name}: exported, without the number of the interface in its name"));
+        };
+        let clauses = expected(call, function);
+        if function.clauses != clauses {
+            return Some(format!("{name}: its contract is not\n    {}", clauses.join("\n    ")));
+        }
     }
     if function.public && function.requires > 0 {
         return Some(format!("{name}: public, with a `requires`"));
@@ -68,7 +80,7 @@ mod tests {
     use crate::source::parse;
 
     const SEND: &str = "#[no_mangle]
-pub extern \"C\" fn brazulint_send_named(
+pub extern \"C\" fn brazulint2_send_named(
     line: u32,
     samples: &[u16],
     symbols: &mut [u16],
@@ -87,6 +99,18 @@ pub extern \"C\" fn brazulint_send_named(
     #[test]
     fn as_it_has_to_be() {
         assert_eq!(told(SEND), None);
+    }
+
+    #[test]
+    fn without_parameters() {
+        let version = "#[no_mangle]\npub extern \"C\" fn brazulint2_version() -> u32\n    ensures { λ r. ⌜ r ≡ version·answer ⌝ }\n{\n    1\n}\n";
+        assert_eq!(told(version), None);
+        assert!(told(&version.replace("version·answer", "lengths·answer")).is_some());
+    }
+
+    #[test]
+    fn without_the_interface() {
+        assert!(told(&SEND.replace("brazulint2_", "brazulint_")).is_some());
     }
 
     #[test]

@@ -39,7 +39,7 @@ const fn root(krate: &'static str, start: Start, part: Part, reason: &'static st
 }
 
 pub const ROOTS: &[Root] = &[
-    root("adapter", Start::Exported, Part::Calls, "the calls of the static library"),
+    root("brazulint", Start::Exported, Part::Calls, "the calls of the static library"),
     root("demands", Start::Definitions("Demands"), Part::Calls, "document 01's demands, and what is held beyond them"),
     root("demands", Start::Definitions("Examples"), Part::Calls, "examples that meet each demand, with their numbers"),
     root("face", Start::Definitions("Face"), Part::Calls, "what a caller from C has, number by number"),

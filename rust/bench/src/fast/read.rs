@@ -5,7 +5,7 @@ pub mod judge;
 pub mod recording;
 
 use super::words::{crcc_words, named, repair, step, XYZ};
-use brazulint::{Content, Delivery};
+use brazulint::{Content, Delivery, StreamLine};
 use plain::code::{encode, K28_5, K29_7};
 use plain::span::{shape, Shape};
 use plain::words::{is_active, line_before, BLANKING};
@@ -204,7 +204,7 @@ unsafe fn span<const S: usize>(tables: &Tables, shape: Shape, depth: u32, symbol
     }
     let fine = reader.bad == 0 && reader.are_blank(symbols.len() - reader.at) && (!is_active(line) || all_allowed(depth, rows));
     let content = Content { sav1, sav2, eav1, eav2 };
-    fine.then_some(Delivery { line, content, positive_before, positive_after: reader.mask == POSITIVE, repairs })
+    fine.then_some(Delivery { line: StreamLine(line), content, positive_before, positive_after: reader.mask == POSITIVE, repairs })
 }
 
 /// Gives what the span says about itself. Its words go into rows, or zeros if it is refused by 20 to 26.

@@ -6,7 +6,7 @@ use crate::cases::{Case, CASES};
 use crate::fast::read::judge::Judge;
 use crate::fast::read::{recording, tables};
 use crate::timing::Three;
-use brazulint::Delivery;
+use brazulint::{Delivery, Format};
 use random::Random;
 use outside::spans::sent_symbols;
 use plain::read::Delivered;
@@ -24,7 +24,7 @@ fn recorded(case: &Case) -> Vec<u16> {
 // Each version gives the place after the span, and what it says.
 
 fn by_library(case: &Case, symbols: &[u16], start: u64, rows: &mut [u16]) -> Option<(u64, Delivery)> {
-    let answer = brazulint::next(case.format, case.depth, symbols, start, rows);
+    let answer = brazulint::next(Format::new(case.format, case.depth), symbols, start, rows);
     let next = answer.result().expect("a recording that is not too long");
     next.map(|(_, delivery)| (answer.resume, delivery))
 }

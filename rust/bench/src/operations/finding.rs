@@ -5,6 +5,7 @@ use crate::fast::read::judge::Judge;
 use crate::fast::read::{recording, tables};
 use crate::recordings::{noise, noise_without_commas, DEPTH};
 use crate::timing::Three;
+use brazulint::Format;
 use random::Random;
 use plain::recording::LIMIT;
 
@@ -14,7 +15,7 @@ fn measured(judge: &mut Judge, format: u32, label: &str, symbols: &[u16]) -> Spe
     // Each run checks that there is none, so the versions agree in all of them.
     let three = Three::time(
         TURNS,
-        || assert_eq!(brazulint::find(format, DEPTH, symbols, 0).result(), Ok(None)),
+        || assert_eq!(brazulint::find(Format::new(format, DEPTH), symbols, 0).result(), Ok(None)),
         || assert_eq!(recording::find(judge, format, DEPTH, symbols, 0), Ok(None)),
         || assert_eq!(plain::recording::find(format, DEPTH, symbols, 0), Ok(None)),
     );

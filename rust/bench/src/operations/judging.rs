@@ -6,12 +6,12 @@ use crate::cases::{Case, CASES, SPANS, TURNS};
 use crate::fast::read::judge::Judge;
 use crate::fast::read::tables;
 use crate::timing::Three;
-use brazulint::Delivery;
+use brazulint::{Delivery, Format};
 use plain::read::Delivered;
 use std::hint::black_box;
 
 fn by_library(case: &Case, symbols: &[u16]) -> Delivery {
-    brazulint::judge(case.format, case.depth, symbols).result().expect("a span as it should be")
+    brazulint::judge(Format::new(case.format, case.depth), symbols).result().expect("a span as it should be")
 }
 
 fn by_fast(judge: &mut Judge, case: &Case, symbols: &[u16]) -> Delivery {

@@ -37,10 +37,10 @@ fn agree(picture: &[u16], first: &[u16], second: &[u16]) {
     for r in 0..picture.len() / LINE {
         let (row, a, b) = (&picture[line(r)], &first[half(r)], &second[half(r)]);
         let [mut f, mut g, mut p, mut q] = [(); 4].map(|()| vec![0; HALF]);
-        assert!(brazulint::split(row, &mut f, &mut g) == 0 && fast::split(row, &mut p, &mut q).is_ok());
+        assert!(brazulint::split(row, &mut f, &mut g).is_ok() && fast::split(row, &mut p, &mut q).is_ok());
         assert!(f == a && g == b && p == a && q == b, "row {r} divided");
         let [mut joined, mut quickly] = [(); 2].map(|()| vec![0; LINE]);
-        assert!(brazulint::join(a, b, &mut joined) == 0 && fast::join(a, b, &mut quickly).is_ok());
+        assert!(brazulint::join(a, b, &mut joined).is_ok() && fast::join(a, b, &mut quickly).is_ok());
         assert!(joined == row && quickly == row && plain_join(a, b) == row, "row {r} joined");
     }
 }
@@ -56,7 +56,7 @@ fn measured(label: &str, rows: usize, times: usize, turns: usize) -> [Speeds; 2]
     let [mut f, mut g, mut p, mut q, mut x, mut y] = [(); 6].map(|()| vec![0; HALF * rows]);
     let split = Three::time(
         turns,
-        || each(&mut |r| assert_eq!(brazulint::split(&picture[line(r)], &mut f[half(r)], &mut g[half(r)]), 0)),
+        || each(&mut |r| assert!(brazulint::split(&picture[line(r)], &mut f[half(r)], &mut g[half(r)]).is_ok())),
         || each(&mut |r| assert!(fast::split(&picture[line(r)], &mut p[half(r)], &mut q[half(r)]).is_ok())),
         || {
             each(&mut |r| {
@@ -68,7 +68,7 @@ fn measured(label: &str, rows: usize, times: usize, turns: usize) -> [Speeds; 2]
     );
     let join = Three::time(
         turns,
-        || each(&mut |r| assert_eq!(brazulint::join(&first[half(r)], &second[half(r)], &mut joined[line(r)]), 0)),
+        || each(&mut |r| assert!(brazulint::join(&first[half(r)], &second[half(r)], &mut joined[line(r)]).is_ok())),
         || each(&mut |r| assert!(fast::join(&first[half(r)], &second[half(r)], &mut quickly[line(r)]).is_ok())),
         || each(&mut |r| plainly[line(r)].copy_from_slice(&plain_join(&first[half(r)], &second[half(r)]))),
     );

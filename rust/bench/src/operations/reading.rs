@@ -5,12 +5,12 @@ use crate::agreement::same;
 use crate::cases::{Case, CASES, SPANS, TURNS};
 use crate::fast::read::{read, tables, Tables};
 use crate::timing::Three;
-use brazulint::Delivery;
+use brazulint::{Delivery, Format};
 use plain::read::Delivered;
 use std::hint::black_box;
 
 fn by_library(case: &Case, symbols: &[u16], rows: &mut [u16]) -> Delivery {
-    brazulint::read(case.format, case.depth, symbols, rows).result().expect("a span as it should be")
+    brazulint::read(Format::new(case.format, case.depth), symbols, rows).result().expect("a span as it should be")
 }
 
 fn by_fast(tables: &Tables, case: &Case, symbols: &[u16], rows: &mut [u16]) -> Delivery {

@@ -4,7 +4,7 @@ use super::Speeds;
 use crate::cases::{Case, CASES, SPANS, TURNS};
 use crate::fast::send::{allowed, send, tables, Tables};
 use crate::timing::Three;
-use brazulint::Content;
+use brazulint::{Content, Format, Request, StreamLine};
 use random::Random;
 use plain::span::Asked;
 use std::hint::black_box;
@@ -24,8 +24,8 @@ fn asked(case: &Case, positive: bool) -> Asked {
 fn by_library(asked: Asked, samples: &[u16], symbols: &mut [u16]) -> bool {
     let Asked { format, depth, line, positive, content } = asked;
     let [sav1, sav2, eav1, eav2] = content.unwrap_or([0; 4]);
-    let content = Content { sav1, sav2, eav1, eav2 };
-    brazulint::send_named(format, depth, line, positive, content, samples, symbols).result().expect("a span that may be sent")
+    let request = Request::new(StreamLine(line), positive).naming(Content { sav1, sav2, eav1, eav2 });
+    brazulint::send(Format::new(format, depth), request, samples, symbols).result().expect("a span that may be sent")
 }
 
 fn by_fast(tables: &Tables, asked: Asked, samples: &[u16], symbols: &mut [u16]) -> bool {

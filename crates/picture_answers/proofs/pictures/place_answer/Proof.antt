@@ -25,14 +25,11 @@ number-of-requires c κs = search needs
 cast-t6 : tie.Need-cast-t6
 cast-t6 c = search needs
 
-number-of-requires-2 : tie.Need-number-of-requires-2
-number-of-requires-2 c κs = search needs
+stream-line-number-requires : tie.Need-stream-line-number-requires
+stream-line-number-requires c κs = search needs
 
 cast-t8 : tie.Need-cast-t8
 cast-t8 c = search needs
-
-cast-t9 : tie.Need-cast-t9
-cast-t9 c = search needs
 
 enum-told : tie.Need-enum-told
 enum-told c = search needs
@@ -51,9 +48,8 @@ place-answer-spec =
     cast-t4
     number-of-requires
     cast-t6
-    number-of-requires-2
+    stream-line-number-requires
     cast-t8
-    cast-t9
     enum-told
     returns
     returns-2)

@@ -4,11 +4,8 @@ use borrow.Author.Needs.{needs}
 use Rattle.span_answers.proofs.spans.values_of.Statement.{statement}
 use Rattle.span_answers.proofs.spans.values_of.Tie as tie
 
-number-of-requires : tie.Need-number-of-requires
-number-of-requires c κs = search needs
-
-cast-t6 : tie.Need-cast-t6
-cast-t6 c = search needs
+stream-line-number-requires : tie.Need-stream-line-number-requires
+stream-line-number-requires c κs = search needs
 
 is-positive-requires : tie.Need-is-positive-requires
 is-positive-requires c κs = search needs
@@ -16,13 +13,13 @@ is-positive-requires c κs = search needs
 is-positive-requires-2 : tie.Need-is-positive-requires-2
 is-positive-requires-2 c κs = search needs
 
-cast-t9 : tie.Need-cast-t9
-cast-t9 c = search needs
+cast-t8 : tie.Need-cast-t8
+cast-t8 c = search needs
 
 returns : tie.Need-returns
 returns c =
     rw (
-      c .before .before .before .number-of .ensures,
+      c .before .before .before .stream-line-number .ensures,
       c .before .before .is-positive .ensures,
       c .before .is-positive2 .ensures,
     )
@@ -31,9 +28,8 @@ pub values-of-spec : {M : Type 1} → statement M
 values-of-spec =
     tie.close
     (tie.spec
-    number-of-requires
-    cast-t6
+    stream-line-number-requires
     is-positive-requires
     is-positive-requires-2
-    cast-t9
+    cast-t8
     returns)

@@ -15,44 +15,40 @@ told r = readLineWordsAnswerOf (paperNamed r)
 enum-known-r : tie.Need-enum-known-r
 enum-known-r c = search needs
 
-number-of-requires : tie.Need-number-of-requires
-number-of-requires c κs = search needs
-
-named-requires : tie.Need-named-requires
-named-requires c κs = search needs
+stream-line-number-requires : tie.Need-stream-line-number-requires
+stream-line-number-requires c κs = search needs
 
 enum-told : tie.Need-enum-told
 enum-told c = search needs
 
-named-requires-2 : tie.Need-named-requires-2
-named-requires-2 c κs = search needs
+nameless-requires : tie.Need-nameless-requires
+nameless-requires c κs = search needs
 
 enum-told-2 : tie.Need-enum-told-2
 enum-told-2 c = search needs
 
-named-requires-3 : tie.Need-named-requires-3
-named-requires-3 c κs = search needs
+nameless-requires-2 : tie.Need-nameless-requires-2
+nameless-requires-2 c κs = search needs
 
 returns : tie.Need-returns
-returns c = by-case told (cc) (c .before .before .before .r .given .1)
+returns c = by-case told (cc) (c .before .before .r .given .1)
 
 returns-2 : tie.Need-returns-2
-returns-2 c = by-case told (c .named2 .ensures) (c .before .enum-told .given .1)
+returns-2 c = by-case told (c .nameless .ensures) (c .before .enum-told .given .1)
 
 returns-3 : tie.Need-returns-3
-returns-3 c = by-case told (c .named3 .ensures) (c .before .enum-told2 .given .1)
+returns-3 c = by-case told (c .nameless2 .ensures) (c .before .enum-told2 .given .1)
 
 pub read-line-words-answer-spec : {M : Type 1} → statement M
 read-line-words-answer-spec =
     tie.close
     (tie.spec
     enum-known-r
-    number-of-requires
-    named-requires
+    stream-line-number-requires
     enum-told
-    named-requires-2
+    nameless-requires
     enum-told-2
-    named-requires-3
+    nameless-requires-2
     returns
     returns-2
     returns-3)

@@ -1,0 +1,60 @@
+//! What the calls are given, field for field as in the header.
+
+use crate::answers::Content;
+
+/// A format. Any numbers may be given; 0 in any field is refused.
+#[repr(C)]
+#[derive(Clone, Copy, Debug, PartialEq, Eq, Hash)]
+#[non_exhaustive]
+pub struct Format {
+    /// `Format::HZ_120`, `Format::HZ_100`, `Format::HZ_50`.
+    pub number: u32,
+    /// 10 or 12 bits.
+    pub depth: u32,
+}
+
+impl Format {
+    pub const HZ_120: u32 = 1;
+    pub const HZ_100: u32 = 2;
+    pub const HZ_50: u32 = 3;
+
+    pub const fn new(number: u32, depth: u32) -> Format {
+        Format { number, depth }
+    }
+}
+
+/// A line of a stream, 1 to 1125; of these 42 to 1121 carry lines of a picture.
+#[repr(C)]
+#[derive(Clone, Copy, Debug, PartialEq, Eq, Hash, PartialOrd, Ord, Default)]
+pub struct StreamLine(pub u32);
+
+/// A line of a picture, 1 to 2160.
+#[repr(C)]
+#[derive(Clone, Copy, Debug, PartialEq, Eq, Hash, PartialOrd, Ord, Default)]
+pub struct PictureLine(pub u32);
+
+/// What the sender is asked for.
+#[repr(C)]
+#[derive(Clone, Copy, Debug, PartialEq, Eq)]
+#[non_exhaustive]
+pub struct Request {
+    pub line: StreamLine,
+    /// The running disparity before the span.
+    pub positive: bool,
+    /// Whether content bytes are named: if not, zeros are sent, and `content` is not looked at.
+    pub named: bool,
+    pub content: Content,
+}
+
+impl Request {
+    /// The span of a line, with no content bytes named.
+    pub const fn new(line: StreamLine, positive: bool) -> Request {
+        Request { line, positive, named: false, content: Content { sav1: 0, sav2: 0, eav1: 0, eav2: 0 } }
+    }
+
+    /// The same with these content bytes.
+    #[must_use]
+    pub const fn naming(self, content: Content) -> Request {
+        Request { named: true, content, ..self }
+    }
+}
