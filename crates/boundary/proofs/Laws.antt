@@ -12,6 +12,7 @@ boundary-laws = record {
   formatNumber = λ f. refl;
   formatDepth = λ f. refl;
   streamLine = λ l. refl;
+  pictureLine = λ l. refl;
   named = λ content. refl;
   noneNamed = λ content. refl;
   refusedNumber = λ A number place. refl;

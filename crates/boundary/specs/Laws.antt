@@ -7,11 +7,12 @@ use Rattle.ground.specs.Answer.{refused, given}
 use Rattle.symbol.specs.declared.disparity.Disparity.{Disparity}
 use Rattle.symbol.specs.declared.disparity.Disparity.the-variants.{Negative, Positive}
 use Rattle.symbol.specs.Disparity.{isPositive}
+use Rattle.line.specs.declared.picture.PictureLine.{PictureLine}
 use Rattle.line.specs.declared.stream.StreamLine.{StreamLine}
 use Rattle.span.specs.declared.content.Content.the-variants.{NoneNamed, Named}
 use Rattle.span.specs.declared.content.ContentBytes.{ContentBytes}
 use Rattle.boundary.specs.declared.numbers.FormatNumbers.{FormatNumbers}
-use Rattle.boundary.specs.Numbers.{contentFrom, disparityFrom, formatGiven, numberIn, streamLineNumber}
+use Rattle.boundary.specs.Numbers.{contentFrom, disparityFrom, formatGiven, numberIn, pictureLineNumber, streamLineNumber}
 
 -- a disparity as a bool
 pub record Says (positive : Bool) (d : Disparity) : Type 0 where
@@ -26,8 +27,9 @@ pub record BoundaryLaws : Type 1 where
   -- a format is its number and its depth
   pub formatNumber : (f : FormatNumbers) → formatGiven f .number ≡ f .number
   pub formatDepth : (f : FormatNumbers) → formatGiven f .depth ≡ f .depth
-  -- a stream line is its number
+  -- a stream line is its number, and a picture line its own
   pub streamLine : (l : StreamLine) → streamLineNumber l .number ≡ l .0
+  pub pictureLine : (l : PictureLine) → pictureLineNumber l .number ≡ l .0
   -- content bytes that are named are those given, whatever they are; those that are not named are not looked at
   pub named : (content : ContentBytes) → contentFrom true content ≡ Named content
   pub noneNamed : (content : ContentBytes) → contentFrom false content ≡ NoneNamed

@@ -6,6 +6,7 @@ use mathlib.Core.Bool.{Bool, true, false}
 use Rattle.ground.specs.Answer.{Answer, refused, given}
 use Rattle.symbol.specs.declared.disparity.Disparity.{Disparity}
 use Rattle.symbol.specs.declared.disparity.Disparity.the-variants.{Negative, Positive}
+use Rattle.line.specs.declared.picture.PictureLine.{PictureLine}
 use Rattle.line.specs.declared.stream.StreamLine.{StreamLine}
 use Rattle.span.specs.declared.content.Content.{Content}
 use Rattle.span.specs.declared.content.Content.the-variants.{NoneNamed, Named}
@@ -13,6 +14,7 @@ use Rattle.span.specs.declared.content.ContentBytes.{ContentBytes}
 use Rattle.span.specs.declared.format.Format.{Format}
 use Rattle.span.specs.Format.{formatFrom}
 use Rattle.boundary.specs.declared.numbers.FormatNumbers.{FormatNumbers}
+use Rattle.boundary.specs.declared.numbers.PictureLineNumber.{PictureLineNumber}
 use Rattle.boundary.specs.declared.numbers.StreamLineNumber.{StreamLineNumber}
 
 -- the running disparity crosses as a bool, which has no third value: true is positive
@@ -27,6 +29,10 @@ formatGiven f = formatFrom (f .number) (f .depth)
 -- a stream line crosses as its number
 abbrev pub streamLineNumber : StreamLine → StreamLineNumber
 streamLineNumber l = record { number = l .0 }
+
+-- and so does a picture line
+abbrev pub pictureLineNumber : PictureLine → PictureLineNumber
+pictureLineNumber l = record { number = l .0 }
 
 -- the content bytes, if they are named
 abbrev pub contentFrom : Bool → ContentBytes → Content

@@ -8,7 +8,7 @@ use span::format::Format;
 use symbol::disparity::Disparity;
 ghost use mathlib.Core.Path.{_≡_};
 ghost use Prim.Native.Nat.{min};
-ghost use Rattle.boundary.specs.Numbers.{contentFrom, disparityFrom, streamLineNumber};
+ghost use Rattle.boundary.specs.Numbers.{contentFrom, disparityFrom, pictureLineNumber, streamLineNumber};
 ghost use Rattle.symbol.specs.Disparity.{isPositive};
 ghost use Rattle.span.specs.Format.{formatFrom};
 
@@ -84,6 +84,15 @@ pub fn stream_line_number(l: StreamLine) -> StreamLineNumber
 {
     StreamLineNumber {
         number: line::stream::number_of(l) as u32,
+    }
+}
+
+// The number of a picture line, as it is answered.
+pub fn picture_line_number(l: PictureLine) -> PictureLineNumber
+    ensures { λ r. ⌜ r ≡ pictureLineNumber l ⌝ }
+{
+    PictureLineNumber {
+        number: line::picture::number_of(l) as u32,
     }
 }
 

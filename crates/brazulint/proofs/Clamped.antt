@@ -9,7 +9,7 @@ use native.Mathlib.Nat.{min-eq-left, min-eq-right}
 use native.Mathlib.Omega.{arith}
 use lib.Dec.{leb, eqb}
 use borrow.Author.Tests.{leb-true, leb-false, le-ltb, lt-leb, ne-eqb}
-use Rattle.ground.specs.Answer.{refused}
+use Rattle.ground.specs.Answer.{Answer, refused}
 use Rattle.ground.specs.Range.{within}
 use Rattle.ground.proofs.Cases.{on-test}
 use Rattle.ground.proofs.Ranges.{is-above}
@@ -27,6 +27,8 @@ use Rattle.span.specs.Format.{isKnown, formatFrom}
 use Rattle.span.specs.Length.{lengthsOf}
 use Rattle.span.specs.Blanking.{fillOf, filledRow}
 use Rattle.request.specs.Send.{request, sendOf, sentBuffer}
+use Rattle.way_back.specs.declared.back.ImageLine.{ImageLine}
+use Rattle.way_back.specs.Back.{linksBy, hasStream, backOf}
 use Rattle.window.specs.Read.{judgeOf, readOf, rowsRead}
 use Rattle.recording.specs.Call.{findOf, nextOf, afterNext, rowsNext}
 
@@ -144,6 +146,33 @@ module _ (number depth : ℕ) where
 
       pub next-rows-clamped : (rows : List ℕ) → rowsNext clipped symbols start rows ≡ rowsNext asGiven symbols start rows
       next-rows-clamped rows = format-clamped (λ f. rowsNext f symbols start rows) rows (λ f t. simp t) number depth
+
+-- ---- the way back: a format, a link, a stream and a line
+
+module _ (number depth : ℕ) where
+  -- where there is no such link, stream or line, the answer does not depend on its number
+  abbrev nothing : Format → Answer ImageLine
+  nothing f = cond (isKnown f) (refused 2 0) (refused 1 0)
+
+  abbrev f : Format
+  f = asGiven number depth
+
+  no-link : (stream n m : ℕ) → 65535 ≤ m → backOf f m stream n ≡ nothing f
+  no-link stream n m h = ?
+
+  no-stream : (link n m : ℕ) → 65535 ≤ m → backOf f link m n ≡ nothing f
+  no-stream link n m h = ?
+
+  no-picture : (link stream m : ℕ) → 65535 ≤ m → backOf f link stream m ≡ nothing f
+  no-picture link stream m h = ?
+
+  pub back-clamped : (link stream n : ℕ)
+      → backOf (clipped number depth) (min link 65535) (min stream 65535) (min n 65535) ≡ backOf f link stream n
+  back-clamped link stream n =
+      format-clamped (λ g. backOf g (min link 65535) (min stream 65535) (min n 65535)) (refused 1 0) (λ g t. simp t) number depth
+      ∙ clamped-to (λ m. backOf f m (min stream 65535) (min n 65535)) 65535 link (nothing f) (no-link (min stream 65535) (min n 65535))
+      ∙ clamped-to (λ m. backOf f link m (min n 65535)) 65535 stream (nothing f) (no-stream link (min n 65535))
+      ∙ clamped-to (backOf f link stream) 65535 n (nothing f) (no-picture link stream)
 
 -- ---- sending: a format and a line
 

@@ -1,9 +1,11 @@
 // Pictures: the place of a sample, rows divided and joined, and the row that a line carries.
+use boundary::numbers::FormatNumbers;
 use boundary::numbers::PictureLineNumber;
 use boundary::numbers::StreamLineNumber;
 use picture_answers::pictures::PlaceAnswer;
+use picture_answers::pictures::WayBackAnswer;
 ghost use mathlib.Core.Path.{_≡_};
-ghost use Rattle.face.specs.Calls.{carriesPicture·answer, join·answer, join·row, place·answer, split·answer, split·first, split·second};
+ghost use Rattle.face.specs.Calls.{carriesPicture·answer, join·answer, join·row, place·answer, split·answer, split·first, split·second, wayBack·answer};
 
 // The place of a sample of a picture line: 2.
 #[no_mangle]
@@ -13,6 +15,23 @@ pub extern "C" fn brazulint2_place(line: PictureLineNumber, sample: u32) -> Plac
     let l = boundary::numbers::picture_line_from(line);
     let j = boundary::numbers::at_most_65535(sample);
     picture_answers::pictures::place_answer(picture::place::place_of(l, j))
+}
+
+// The line of the picture on a stream line of a link: 1, 2.
+#[no_mangle]
+pub extern "C" fn brazulint2_way_back(
+    format: FormatNumbers,
+    link: u32,
+    stream: u32,
+    line: StreamLineNumber,
+) -> WayBackAnswer
+    ensures { λ r. ⌜ r ≡ wayBack·answer format link stream line ⌝ }
+{
+    let f = boundary::numbers::format_from(format);
+    let k = boundary::numbers::at_most_65535(link);
+    let t = boundary::numbers::at_most_65535(stream);
+    let l = boundary::numbers::stream_line_from(line);
+    picture_answers::pictures::way_back_answer(way_back::back::picture_line_of(f, k, t, l))
 }
 
 // The row of a picture into those of two images: 3, 4.

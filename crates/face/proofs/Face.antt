@@ -4,10 +4,10 @@ use mathlib.Core.Path.{_≡_, refl, sym, ap, _∙_}
 use mathlib.Core.Bool.{true, false, true≢false}
 use mathlib.Core.List.{List, []}
 use mathlib.Core.Option.{Option, none, some}
-use Prim.Native.Nat.{ℕ, _+_, _*_, _<_}
+use Prim.Native.Nat.{ℕ, _+_, _*_, _≤_, _<_}
 use native.Mathlib.Omega.{arith}
 use lib.ListN.{length, getD, take, drop}
-use borrow.Author.Tests.{lt-ltb, le-ltb, eq-eqb}
+use borrow.Author.Tests.{eqb-true, lt-ltb, le-ltb, eq-eqb}
 use Rattle.ground.specs.Answer.{Answer, refused, given}
 use Rattle.ground.proofs.Ranges.{is-within, not-within}
 use Rattle.symbol.specs.declared.disparity.Disparity.{Disparity}
@@ -22,6 +22,7 @@ use Rattle.picture.specs.Place.{placedOf}
 use Rattle.dividing.specs.Row.{splitOf, joinOf}
 use Rattle.span.specs.Blanking.{fillOf}
 use Rattle.span.specs.Length.{lengthsOf}
+use Rattle.way_back.specs.Back.{backOf}
 use Rattle.window.specs.Read.{readOf, judgeOf, pictureOf}
 use Rattle.recording.specs.Call.{findOf, nextOf, afterNext, rowsNext}
 use Rattle.line.specs.declared.stream.StreamLine.{StreamLine}
@@ -31,7 +32,7 @@ use Rattle.span.specs.declared.format.Format.{Format}
 use Rattle.span.specs.Stream.{Request}
 use Rattle.span.specs.Format.{shapeOf, streams, samplesIn, symbolsIn}
 use Rattle.span.specs.Encoding.{afterRun}
-use Rattle.span.specs.Numbers.{IsFormat}
+use Rattle.span.specs.Numbers.{IsFormat, Symbols}
 use Rattle.span.specs.declared.content.ContentBytes.{ContentBytes}
 use Rattle.span.proofs.Lengths.{known-has-streams}
 use Rattle.span.proofs.Paper.{span-paper}
@@ -48,10 +49,11 @@ use Rattle.boundary.specs.Numbers.{disparityFrom, formatGiven, numberIn}
 use Rattle.character_answers.specs.Characters.{decodeAnswerOf}
 use Rattle.character_answers.proofs.Laws.{character-answers-laws}
 use Rattle.word_answers.specs.Words.{lineWordsAnswerOf, readLineWordsAnswerOf, repairAnswerOf, crccAnswerOf}
-use Rattle.picture_answers.specs.Pictures.{placeAnswerOf}
+use Rattle.picture_answers.specs.Pictures.{placeAnswerOf, wayBackAnswerOf}
 use Rattle.span_answers.specs.Spans.{valuesOf, lengthsAnswerOf, sendAnswerOf, readAnswerOf}
 use Rattle.recording_answers.specs.Recordings.{findAnswerOf, nextAnswerOf}
-use Rattle.demands.specs.Rules.{decodeRules, lineWordsRules, readLineWordsRules, repairRules, crccRules, placeRules, splitRules, joinRules, lengthsRules, sendRules, fillRules, readRules, judgeRules, findRules, nextRules}
+use Rattle.demands.specs.Rules.{decodeRules, lineWordsRules, readLineWordsRules, repairRules, crccRules, placeRules, backRules, splitRules, joinRules, lengthsRules, sendRules, fillRules, readRules, judgeRules, findRules, nextRules}
+use Rattle.demands.proofs.Delivering.{known-asked}
 use Rattle.demands.proofs.Demands.{demand-1, demand-2}
 use Rattle.demands.proofs.Sendings.{row-holds}
 use Rattle.window.proofs.Accepting.{row-passed}
@@ -165,6 +167,17 @@ module _ (f : Format) (symbols : List ℕ) (start : ℕ) (rows : List ℕ) where
   rows-after (given none) e = (λ t. absurd (true≢false (sym t)), λ _. demand-1 .nextNone f symbols start rows e .0)
   rows-after (given (some s)) e = (λ _. demand-1 .nextSome f symbols start rows s e .0, λ t. absurd (true≢false t))
 
+  -- what is kept, where there is none
+  kept-told : answer ≡ given none → (n : ℕ) → Symbols f n
+      → let a = nextAnswerOf answer after in
+      (length symbols + 1 ≤ start + n → a .resume ≡ start) × (start + n ≤ length symbols + 1 → a .resume + n ≡ length symbols + 1)
+  kept-told e n long =
+      let known = known-asked f symbols start rows none e in
+      let is : n ≡ symbolsIn (shapeOf f) = eqb-true _ _ (symbols-say f (known-says f .told known) n .holds long) in
+      let at = demand-1 .nextNone f symbols start rows e in
+      let same : nextAnswerOf answer after .resume ≡ after = resume-is answer after in
+      rw is (λ h. same ∙ at .1 h, λ h. ap (λ (k : ℕ). k + symbolsIn (shapeOf f)) same ∙ at .2 h)
+
 pub face : Face
 face = record {
   crossing = boundary-laws;
@@ -176,6 +189,7 @@ face = record {
     repaired = refl;
     crcc = refl;
     placed = refl;
+    back = refl;
     copied = refl;
     lengths = refl;
     filled = refl;
@@ -204,6 +218,8 @@ face = record {
   crcc = λ words c e. rw e (refl, refl, refl);
   placeTold = λ line sample. crosses placeAnswerOf (λ a. a .number) (λ n p. refl) (λ a. refl) (placedOf (line .number) sample) (placeRules (line .number) sample) (refl, tt) (demand-1 .place (line .number) sample);
   place = λ u l j p q r s t. rw (demand-2 .places [] u l j p q r s t .0) (refl, refl, refl, refl);
+  wayBackTold = λ format link stream line. crosses wayBackAnswerOf (λ a. a .number) (λ n p. refl) (λ a. refl) (backOf (formatGiven format) link stream (line .number)) (backRules (formatGiven format) link stream (line .number)) (refl, (refl, tt)) (demand-1 .back (formatGiven format) link stream (line .number));
+  wayBack = λ format link stream line x e. rw e (refl, refl);
   splitTold = λ row first second. crosses numberIn (λ n. n) (λ n p. refl) (λ a. refl) (splitOf row first second) (splitRules row first second) (refl, (refl, tt)) (demand-1 .split row first second .0);
   splitLent = λ row first second. let split = demand-1 .split row first second in (split .1, split .2);
   joinLent = λ first second row. demand-1 .join first second row .1;
@@ -251,6 +267,7 @@ face = record {
       (nextRules f symbols start (length rows)) (refl, (refl, (refl, (refl, tt)))) (demand-1 .next f symbols start rows);
   nextAt = λ format symbols start rows s e. rw e (refl, refl, values (s .delivery));
   nextNone = λ format symbols start rows e. rw e refl;
+  nextKept = λ format symbols start rows n e long. kept-told (formatGiven format) symbols start rows e n long;
   nextRows = λ format symbols start rows. rows-after (formatGiven format) symbols start rows _ refl;
   nextResume = λ format symbols start rows. resume-is (nextOf (formatGiven format) symbols start (length rows)) _;
 }

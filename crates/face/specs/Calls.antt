@@ -17,6 +17,7 @@ use Rattle.span.specs.Blanking.{fillOf, filledRow}
 use Rattle.span.specs.Stream.{Request}
 use Rattle.span.specs.Length.{lengthsOf}
 use Rattle.request.specs.Send.{request, sendOf, sentBuffer}
+use Rattle.way_back.specs.Back.{backOf}
 use Rattle.window.specs.Read.{judgeOf, readOf, rowsRead}
 use Rattle.recording.specs.Call.{findOf, nextOf, afterNext, rowsNext}
 use Rattle.boundary.specs.declared.numbers.FormatNumbers.{FormatNumbers}
@@ -33,7 +34,8 @@ use Rattle.word_answers.specs.declared.words.RepairAnswer.{RepairAnswer}
 use Rattle.word_answers.specs.declared.words.CrccAnswer.{CrccAnswer}
 use Rattle.word_answers.specs.Words.{lineWordsAnswerOf, readLineWordsAnswerOf, repairAnswerOf, crccAnswerOf}
 use Rattle.picture_answers.specs.declared.pictures.PlaceAnswer.{PlaceAnswer}
-use Rattle.picture_answers.specs.Pictures.{placeAnswerOf}
+use Rattle.picture_answers.specs.declared.pictures.WayBackAnswer.{WayBackAnswer}
+use Rattle.picture_answers.specs.Pictures.{placeAnswerOf, wayBackAnswerOf}
 use Rattle.span_answers.specs.declared.spans.LengthsAnswer.{LengthsAnswer}
 use Rattle.span_answers.specs.declared.spans.SendAnswer.{SendAnswer}
 use Rattle.span_answers.specs.declared.spans.ReadAnswer.{ReadAnswer}
@@ -73,6 +75,9 @@ crcc·answer words = crccAnswerOf (crccOf words)
 
 abbrev pub place·answer : PictureLineNumber → ℕ → PlaceAnswer
 place·answer line sample = placeAnswerOf (placedOf (line .number) sample)
+
+abbrev pub wayBack·answer : FormatNumbers → ℕ → ℕ → StreamLineNumber → WayBackAnswer
+wayBack·answer format link stream line = wayBackAnswerOf (backOf (formatGiven format) link stream (line .number))
 
 abbrev pub split·answer : List ℕ → List ℕ → List ℕ → ℕ
 split·answer row first second = numberIn (splitOf row first second)

@@ -34,15 +34,17 @@ use Rattle.span.specs.declared.format.Format.{Format}
 use Rattle.span.specs.Numbers.{Symbols, Samples}
 use Rattle.span.specs.Span.{spanSymbols, spanAfter}
 use Rattle.request.specs.Send.{request}
+use Rattle.way_back.specs.declared.back.ImageLine.{ImageLine}
+use Rattle.way_back.specs.Back.{backOf}
 use Rattle.window.specs.declared.delivery.Delivery.{Delivery}
 use Rattle.window.specs.Read.{judgeOf, readOf, pictureOf}
 use Rattle.recording.specs.declared.answer.Spanned.{Spanned}
 use Rattle.recording.specs.Call.{findOf, nextOf, afterNext}
 use Rattle.span_answers.specs.declared.spans.SendAnswer.{SendAnswer}
 use Rattle.demands.specs.Form.{Refusal, rule, Lent, Rows}
-use Rattle.demands.specs.Rules.{repairRules, readLineWordsRules, crccRules, splitRules, joinRules, fillRules, sendRules, judgeRules, readRules, findRules, nextRules}
+use Rattle.demands.specs.Rules.{repairRules, readLineWordsRules, crccRules, backRules, splitRules, joinRules, fillRules, sendRules, judgeRules, readRules, findRules, nextRules}
 use Rattle.face.specs.Refusals.{RefusalNumbers}
-use Rattle.face.specs.Calls.{decode·answer, encode·answer, lineWords·answer, readLineWords·answer, repair·answer, crcc·answer, place·answer, split·answer, split·first, split·second, join·answer, join·row, carriesPicture·answer, lengths·answer, send·answer, send·symbols, version·answer, fillBlanking·answer, fillBlanking·row, read·answer, read·rows, judge·answer, find·answer, next·answer, next·rows}
+use Rattle.face.specs.Calls.{decode·answer, encode·answer, lineWords·answer, readLineWords·answer, repair·answer, crcc·answer, place·answer, wayBack·answer, split·answer, split·first, split·second, join·answer, join·row, carriesPicture·answer, lengths·answer, send·answer, send·symbols, version·answer, fillBlanking·answer, fillBlanking·row, read·answer, read·rows, judge·answer, find·answer, next·answer, next·rows}
 
 -- ---- the number and the place of an answer
 
@@ -135,6 +137,14 @@ pub record Face : Type 1 where
       → j ≤ 1919
       → let a = place·answer (record { number = lineFrom u l }) (sampleFrom u j) in
       (a .image ≡ u) × (a .«image_line» ≡ l) × (a .«stream_line» .number ≡ l + 41) × (a .sample ≡ j)
+  pub wayBackTold :
+      (format : FormatNumbers) (link stream : ℕ) (line : StreamLineNumber)
+      → Told (wayBack·answer format link stream line .number) 0 (backRules (formatGiven format) link stream (line .number))
+  pub wayBack :
+      (format : FormatNumbers) (link stream : ℕ) (line : StreamLineNumber) (x : ImageLine)
+      → backOf (formatGiven format) link stream (line .number) ≡ given x
+      → let a = wayBack·answer format link stream line in
+      (a .image ≡ x .image) × (a .line .number ≡ x .line .0)
   pub splitTold : (row first second : List ℕ) → Told (split·answer row first second) 0 (splitRules row first second)
   pub splitLent :
       (row first second : List ℕ)
@@ -237,6 +247,13 @@ pub record Face : Type 1 where
       (format : FormatNumbers) (symbols : List ℕ) (start : ℕ) (rows : List ℕ)
       → nextOf (formatGiven format) symbols start (length rows) ≡ given none
       → next·answer format symbols start rows .found ≡ false
+  -- with what to keep of a link that goes on: everything from the start on, or the last symbols, one fewer than a span has, if they are fewer
+  pub nextKept :
+      (format : FormatNumbers) (symbols : List ℕ) (start : ℕ) (rows : List ℕ) (n : ℕ)
+      → nextOf (formatGiven format) symbols start (length rows) ≡ given none
+      → Symbols (formatGiven format) n
+      → let a = next·answer format symbols start rows in
+      (length symbols + 1 ≤ start + n → a .resume ≡ start) × (start + n ≤ length symbols + 1 → a .resume + n ≡ length symbols + 1)
   -- the rows: the picture of the span, else as they were
   pub nextRows :
       (format : FormatNumbers) (symbols : List ℕ) (start : ℕ) (rows : List ℕ)

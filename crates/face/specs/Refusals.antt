@@ -15,6 +15,8 @@ use Rattle.crcc.specs.declared.crcc.Crcc.the-variants as Crcc
 use Rattle.crcc.specs.Crcc.{paperCrcc}
 use Rattle.picture.specs.declared.place.Placed.the-variants as Placed
 use Rattle.picture.specs.Place.{paperPlaced}
+use Rattle.way_back.specs.declared.back.Back.the-variants as Back
+use Rattle.way_back.specs.Back.{paperBack}
 use Rattle.dividing.specs.declared.row.Copied.the-variants as Copied
 use Rattle.dividing.specs.Row.{paperCopied}
 use Rattle.span.specs.declared.length.Lengths.the-variants as Lengths
@@ -42,6 +44,7 @@ pub record RefusalNumbers : Type 0 where
   pub repaired : numbersOf (paperRepair Repair.Above4095 ∷ paperRepair Repair.BeyondRepair ∷ []) ≡ 7 ∷ 8 ∷ []
   pub crcc : numbersOf (paperCrcc Crcc.Above4095 ∷ []) ≡ 7 ∷ []
   pub placed : numbersOf (paperPlaced Placed.Outside ∷ []) ≡ 2 ∷ []
+  pub back : numbersOf (paperBack Back.UnknownFormat ∷ paperBack Back.NoLine ∷ []) ≡ 1 ∷ 2 ∷ []
   pub copied : numbersOf (paperCopied Copied.WrongInput ∷ paperCopied Copied.WrongOutput ∷ []) ≡ 3 ∷ 4 ∷ []
   pub lengths : numbersOf (paperLengths Lengths.Unknown ∷ []) ≡ 1 ∷ []
   pub filled : numbersOf (paperFilled Filled.UnknownFormat ∷ paperFilled Filled.WrongOutput ∷ []) ≡ 1 ∷ 4 ∷ []

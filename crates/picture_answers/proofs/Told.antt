@@ -17,9 +17,15 @@ use Rattle.span.specs.declared.blanking.Filled.{Filled}
 use Rattle.span.specs.declared.blanking.Filled.the-variants as Filled
 use Rattle.span.specs.Blanking.{paperFilled}
 use Rattle.span.proofs.FilledOneToOne.{filled-one-to-one}
+use Rattle.way_back.specs.declared.back.Back.{Back}
+use Rattle.way_back.specs.declared.back.Back.the-variants as Back
+use Rattle.way_back.specs.declared.back.ImageLine.{ImageLine}
+use Rattle.way_back.specs.Back.{paperBack}
+use Rattle.way_back.proofs.Laws.{back-one-to-one}
 use Rattle.picture_answers.specs.declared.pictures.PlaceAnswer.{PlaceAnswer}
+use Rattle.picture_answers.specs.declared.pictures.WayBackAnswer.{WayBackAnswer}
 use Rattle.boundary.specs.Numbers.{numberIn}
-use Rattle.picture_answers.specs.Pictures.{placeAnswerOf}
+use Rattle.picture_answers.specs.Pictures.{placeAnswerOf, wayBackAnswerOf}
 use Rattle.boundary.proofs.Told.{through, answerBy}
 
 placeBack : PlaceAnswer → Answer Place
@@ -34,6 +40,18 @@ place-told = through placeAnswerOf placeBack back placed-one-to-one
     back : (r : Placed) → placeBack (placeAnswerOf (paperPlaced r)) ≡ paperPlaced r
     back (Placed.At p) = refl
     back Placed.Outside = refl
+
+wayBackBack : WayBackAnswer → Answer ImageLine
+wayBackBack a = answerBy (a .number) 0 (record { image = a .image; line = record { 0 = a .line .number } })
+
+pub way-back-told : Injective (λ (r : Back). wayBackAnswerOf (paperBack r))
+unfolding wayBackBack
+way-back-told = through wayBackAnswerOf wayBackBack back back-one-to-one
+  where
+    back : (r : Back) → wayBackBack (wayBackAnswerOf (paperBack r)) ≡ paperBack r
+    back (Back.Line x) = refl
+    back Back.UnknownFormat = refl
+    back Back.NoLine = refl
 
 -- a number alone, of a call that answers nothing else
 numberBack : ℕ → Answer (Unit {0})

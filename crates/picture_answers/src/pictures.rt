@@ -1,13 +1,17 @@
 // What the calls on places and rows answer.
+use boundary::numbers::PictureLineNumber;
 use boundary::numbers::StreamLineNumber;
 use dividing::row::Copied;
 use picture::place::Placed;
 use span::blanking::Filled;
+use way_back::back::Back;
 ghost use mathlib.Core.Path.{_≡_};
+ghost use Rattle.ground.specs.Answer.{refused};
 ghost use Rattle.picture.specs.Place.{paperPlaced};
 ghost use Rattle.dividing.specs.Row.{paperCopied};
 ghost use Rattle.span.specs.Blanking.{paperFilled};
-ghost use Rattle.picture_answers.specs.Pictures.{placeAnswerOf};
+ghost use Rattle.way_back.specs.Back.{paperBack};
+ghost use Rattle.picture_answers.specs.Pictures.{placeAnswerOf, wayBackAnswerOf};
 ghost use Rattle.boundary.specs.Numbers.{numberIn};
 
 #[repr(C)]
@@ -37,6 +41,37 @@ pub fn place_answer(r: Placed) -> PlaceAnswer
             stream_line: StreamLineNumber { number: 0 },
             sample: 0,
         },
+    }
+}
+
+#[repr(C)]
+pub struct WayBackAnswer {
+    pub number: u32,
+    pub image: u32,
+    pub line: PictureLineNumber,
+}
+
+fn no_line(number: u32) -> WayBackAnswer
+    ensures { λ r. ⌜ r ≡ wayBackAnswerOf (refused number 0) ⌝ }
+{
+    WayBackAnswer {
+        number,
+        image: 0,
+        line: PictureLineNumber { number: 0 },
+    }
+}
+
+pub fn way_back_answer(r: Back) -> WayBackAnswer
+    ensures { λ a. ⌜ a ≡ wayBackAnswerOf (paperBack r) ⌝ }
+{
+    match r {
+        Back::Line(x) => WayBackAnswer {
+            number: 0,
+            image: x.image as u32,
+            line: boundary::numbers::picture_line_number(x.line),
+        },
+        Back::UnknownFormat => no_line(1),
+        Back::NoLine => no_line(2),
     }
 }
 

@@ -60,7 +60,7 @@ abbrev backAgain : Answer ImageLine → Back
 backAgain (refused number place) = cond (eqb number 1) UnknownFormat NoLine
 backAgain (given x) = Line x
 
-back-one-to-one : Injective paperBack
+pub back-one-to-one : Injective paperBack
 back-one-to-one = told-again backAgain again
   where
     again : (r : Back) → backAgain (paperBack r) ≡ r
