@@ -39,8 +39,8 @@
  * INTERFACES
  *
  * The names that are linked carry the number of the interface: brazulint_send is brazulint2_send in libbrazulint.a. An object that was
- * compiled with the header of another interface does not link. Structs may grow with the interface, and a format or a request that leaves
- * new fields 0 is refused, or asks for what it asked before; this header says which. So fill them by the names of their fields.
+ * compiled with the header of another interface does not link. Structs may grow with the interface, so fill them by the names of their
+ * fields: a new field of a format that is left 0 is refused.
  *
  * AN EXAMPLE: a line is sent, and every span of the recording is delivered (examples/c/first.c)
  *
