@@ -27,8 +27,9 @@
  *        3    50 Hz           4                7680               19008   1, 2, 3, 4
  *
  * Symbols have ten bits each in a uint16_t, the bit sent first lowest. Samples and rows are stored stream by stream: 1920 of stream 1, then
- * 1920 of stream 2, and so on. A link carries one component of the picture. So a picture of three components takes six links in formats 1
- * and 2, two for each component, and three links in format 3. Nothing in a span says which component or which two images it carries.
+ * 1920 of stream 2, and so on. A link carries one component of the picture. So a picture of three components (4:4:4) takes six links in
+ * formats 1 and 2, two for each component, and three links in format 3. Of a span only the content bytes can say which component and which
+ * images it carries; they are sent as they are named, and judged by no call.
  *
  * The depth is 10 or 12 bits. At depth 10 a sample is sent shifted left by two, and what comes back is the shifted word of twelve bits: 4
  * is delivered as 16 and 1019 as 4076. So the rows of lines 42 to 1121 are shifted right by two to have the samples again. Blanking is not
@@ -39,8 +40,8 @@
  * INTERFACES
  *
  * The names that are linked carry the number of the interface: brazulint_send is brazulint2_send in libbrazulint.a. An object that was
- * compiled with the header of another interface does not link. Structs may grow with the interface, and a format or a request that leaves
- * new fields 0 is refused, or asks for what it asked before; this header says which. So fill them by the names of their fields.
+ * compiled with the header of another interface does not link. Structs may grow with the interface, so fill them by the names of their
+ * fields: a new field of a format that is left 0 is refused.
  *
  * AN EXAMPLE: a line is sent, and every span of the recording is delivered (examples/c/first.c)
  *

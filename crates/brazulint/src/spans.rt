@@ -1,6 +1,7 @@
 // One span: its lengths, sending, blanking, reading and judging.
 use boundary::numbers::FormatNumbers;
 use boundary::numbers::SendRequest;
+use boundary::numbers::format_from;
 use span_answers::spans::LengthsAnswer;
 use span_answers::spans::ReadAnswer;
 use span_answers::spans::SendAnswer;
@@ -12,8 +13,7 @@ ghost use Rattle.face.specs.Calls.{fillBlanking·answer, fillBlanking·row, jud
 pub extern "C" fn brazulint2_lengths(format: FormatNumbers) -> LengthsAnswer
     ensures { λ r. ⌜ r ≡ lengths·answer format ⌝ }
 {
-    let f = boundary::numbers::format_from(format);
-    span_answers::spans::lengths_answer(span::length::lengths_of(f))
+    span_answers::spans::lengths_answer(span::length::lengths_of(format_from(format)))
 }
 
 // A span, from what is asked for and the samples: 1, 2, 3, 4, 6.
@@ -29,7 +29,7 @@ pub extern "C" fn brazulint2_send(
 {
     let line = asked.line;
     let bytes = asked.content;
-    let f = boundary::numbers::format_from(format);
+    let f = format_from(format);
     let l = boundary::numbers::stream_line_from(line);
     let d = boundary::numbers::disparity_from(asked.positive);
     let content = boundary::numbers::content_from(asked.named, bytes);
@@ -42,8 +42,10 @@ pub extern "C" fn brazulint2_fill_blanking(format: FormatNumbers, row: &mut [u16
     ensures answer { λ r. ⌜ r ≡ fillBlanking·answer format (now (row .entry)) ⌝ }
     ensures row { λ _. ⌜ now (row .exit) ≡ fillBlanking·row format (now (row .entry)) ⌝ }
 {
-    let f = boundary::numbers::format_from(format);
-    picture_answers::pictures::filled_number(span::blanking::fill_blanking(f, row))
+    picture_answers::pictures::filled_number(span::blanking::fill_blanking(
+        format_from(format),
+        row,
+    ))
 }
 
 // A span into rows: 1, 3, 4, 20 to 26.
@@ -56,8 +58,7 @@ pub extern "C" fn brazulint2_read(
     ensures answer { λ r. ⌜ r ≡ read·answer format (now (symbols .entry)) (now (rows .entry)) ⌝ }
     ensures rows { λ _. ⌜ now (rows .exit) ≡ read·rows format (now (symbols .entry)) (now (rows .entry)) ⌝ }
 {
-    let f = boundary::numbers::format_from(format);
-    span_answers::spans::read_answer(read::read::read(f, symbols, rows))
+    span_answers::spans::read_answer(read::read::read(format_from(format), symbols, rows))
 }
 
 // A span without rows: 1, 3, 20 to 26.
@@ -65,6 +66,5 @@ pub extern "C" fn brazulint2_read(
 pub extern "C" fn brazulint2_judge(format: FormatNumbers, symbols: &[u16]) -> ReadAnswer
     ensures { λ r. ⌜ r ≡ judge·answer format (now (symbols .entry)) ⌝ }
 {
-    let f = boundary::numbers::format_from(format);
-    span_answers::spans::read_answer(read::read::judge(f, symbols))
+    span_answers::spans::read_answer(read::read::judge(format_from(format), symbols))
 }

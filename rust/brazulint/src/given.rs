@@ -23,7 +23,15 @@ impl Format {
     }
 }
 
-/// A line of a stream, 1 to 1125; of these 42 to 1121 carry lines of a picture.
+/// A line of a stream, 1 to 1125; of these 42 to 1121 carry lines of a picture. It is not a line of a picture:
+///
+/// ```
+/// assert!(brazulint::carries_picture(brazulint::StreamLine(42)));
+/// ```
+///
+/// ```compile_fail,E0308
+/// assert!(brazulint::carries_picture(brazulint::PictureLine(42)));
+/// ```
 #[repr(C)]
 #[derive(Clone, Copy, Debug, PartialEq, Eq, Hash, PartialOrd, Ord, Default)]
 pub struct StreamLine(pub u32);

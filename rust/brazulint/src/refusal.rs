@@ -71,6 +71,12 @@ impl Refusal {
         self.row().0
     }
 
+    /// What it is, in the header's words.
+    #[must_use]
+    pub fn words(self) -> &'static str {
+        self.row().1
+    }
+
     /// Where, if the refusal has a place.
     #[must_use]
     pub fn place(self) -> Option<u64> {
@@ -108,10 +114,7 @@ impl fmt::Display for Refusal {
     fn fmt(&self, f: &mut fmt::Formatter) -> fmt::Result {
         let (number, words, counted) = self.row();
         write!(f, "refusal {number}: {words}")?;
-        match self.place() {
-            Some(place) => write!(f, " ({counted} {place})"),
-            None => Ok(()),
-        }
+        self.place().map_or(Ok(()), |place| write!(f, " ({counted} {place})"))
     }
 }
 

@@ -5,6 +5,7 @@ mod characters;
 mod damage;
 mod expected;
 mod flips;
+mod header;
 mod lent;
 mod night;
 mod pictures;
@@ -25,7 +26,8 @@ use std::process::ExitCode;
 type Comparison = fn() -> Report;
 
 /// All comparisons except the random one.
-const COMPARISONS: [(&str, Comparison); 11] = [
+const COMPARISONS: [(&str, Comparison); 12] = [
+    ("header", header::run),
     ("vectors", vectors::run),
     ("characters", characters::run),
     ("words", words::run),

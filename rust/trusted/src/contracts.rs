@@ -103,7 +103,8 @@ pub extern \"C\" fn brazulint2_send_named(
 
     #[test]
     fn without_parameters() {
-        let version = "#[no_mangle]\npub extern \"C\" fn brazulint2_version() -> u32\n    ensures { λ r. ⌜ r ≡ version·answer ⌝ }\n{\n    1\n}\n";
+        let version =
+            "#[no_mangle]\npub extern \"C\" fn brazulint2_version() -> u32\n    ensures { λ r. ⌜ r ≡ version·answer ⌝ }\n{\n    1\n}\n";
         assert_eq!(told(version), None);
         assert!(told(&version.replace("version·answer", "lengths·answer")).is_some());
     }

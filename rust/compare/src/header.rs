@@ -1,0 +1,32 @@
+//! The wrapper's names for numbers, and the header's.
+
+use crate::report::Report;
+use brazulint::{version, Refusal, LIMIT, MOST_SAMPLES, MOST_SYMBOLS, VERSION};
+
+/// The header that C callers have.
+const HEADER: &str = include_str!("../../../include/brazulint.h");
+
+/// `NotAllowed(0)` is BRAZULINT_NOT_ALLOWED in the header.
+fn header_name(refusal: Refusal) -> String {
+    let told = format!("{refusal:?}");
+    let variant = told.chars().take_while(|c| c.is_alphanumeric());
+    variant.fold("BRAZULINT".to_string(), |name, c| name + if c.is_uppercase() { "_" } else { "" } + &c.to_uppercase().to_string())
+}
+
+/// The wrapper has the header's numbers: each refusal under its name, with its words, the version, and the greatest lengths.
+pub fn run() -> Report {
+    let mut r = Report::default();
+    for number in (1..=8).chain(20..=26) {
+        let refusal = Refusal::check(number, 0).expect_err("a refusal");
+        let name = header_name(refusal);
+        r.holds(|| format!("the header has no {name} = {number}"), HEADER.contains(&format!("    {name} = {number}")));
+        let text = format!("case {name}: return \"{}\";", refusal.words());
+        r.holds(|| format!("the header has other words than the wrapper for {name}"), HEADER.contains(&text));
+    }
+    r.answer(|| "version".into(), version(), VERSION);
+    let numbers = [("VERSION", VERSION as usize), ("MOST_SAMPLES", MOST_SAMPLES), ("MOST_SYMBOLS", MOST_SYMBOLS), ("LIMIT", LIMIT)];
+    for (name, number) in numbers {
+        r.holds(|| format!("the header has no {name} {number}"), HEADER.contains(&format!("#define BRAZULINT_{name} {number}\n")));
+    }
+    r
+}
