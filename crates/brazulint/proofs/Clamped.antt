@@ -2,7 +2,7 @@
 -- laws says that a call answers the same for both, and leaves the same in lent memory.
 -- Assumes nothing.
 use mathlib.Core.Path.{_≡_, refl, sym, ap, _∙_}
-use mathlib.Core.Bool.{Bool, true, false, cond}
+use mathlib.Core.Bool.{Bool, true, false, cond, _&&_, and-false}
 use mathlib.Core.List.{List}
 use Prim.Native.Nat.{ℕ, _≤_, min}
 use native.Mathlib.Nat.{min-eq-left, min-eq-right}
@@ -28,7 +28,8 @@ use Rattle.span.specs.Length.{lengthsOf}
 use Rattle.span.specs.Blanking.{fillOf, filledRow}
 use Rattle.request.specs.Send.{request, sendOf, sentBuffer}
 use Rattle.way_back.specs.declared.back.ImageLine.{ImageLine}
-use Rattle.way_back.specs.Back.{linksBy, hasStream, backOf}
+use Rattle.way_back.specs.Back.{hasStream, backOf}
+use Rattle.way_back.proofs.Backs.{has-told}
 use Rattle.window.specs.Read.{judgeOf, readOf, rowsRead}
 use Rattle.recording.specs.Call.{findOf, nextOf, afterNext, rowsNext}
 
@@ -157,22 +158,38 @@ module _ (number depth : ℕ) where
   abbrev f : Format
   f = asGiven number depth
 
+  refused-by : (link stream n : ℕ) → (hasStream f link stream && isActive n) ≡ false → backOf f link stream n ≡ nothing f
+  refused-by link stream n t = on-test (isKnown f) (λ k. rw (k, t)) (λ k. rw k)
+
   no-link : (stream n m : ℕ) → 65535 ≤ m → backOf f m stream n ≡ nothing f
-  no-link stream n m h = ?
+  no-link stream n m h =
+      on-test (hasStream f m stream)
+      (λ t. absurd (omega (arith, has-told f m stream t .link-to)))
+      (λ t. refused-by m stream n (rw t))
 
   no-stream : (link n m : ℕ) → 65535 ≤ m → backOf f link m n ≡ nothing f
-  no-stream link n m h = ?
+  no-stream link n m h =
+      on-test (hasStream f link m)
+      (λ t. let x = has-told f link m t in absurd (omega (arith, x .stream-to, x .pairs)))
+      (λ t. refused-by link m n (rw t))
 
   no-picture : (link stream m : ℕ) → 65535 ≤ m → backOf f link stream m ≡ nothing f
-  no-picture link stream m h = ?
+  no-picture link stream m h =
+      let blank : isActive m ≡ false = is-above 42 1121 m (omega arith) (omega arith) in
+      refused-by link stream m (ap (λ (t : Bool). hasStream f link stream && t) blank ∙ and-false (hasStream f link stream))
 
-  pub back-clamped : (link stream n : ℕ)
+  back-clamped : (link stream n : ℕ)
       → backOf (clipped number depth) (min link 65535) (min stream 65535) (min n 65535) ≡ backOf f link stream n
   back-clamped link stream n =
       format-clamped (λ g. backOf g (min link 65535) (min stream 65535) (min n 65535)) (refused 1 0) (λ g t. simp t) number depth
       ∙ clamped-to (λ m. backOf f m (min stream 65535) (min n 65535)) 65535 link (nothing f) (no-link (min stream 65535) (min n 65535))
       ∙ clamped-to (λ m. backOf f link m (min n 65535)) 65535 stream (nothing f) (no-stream link (min n 65535))
       ∙ clamped-to (backOf f link stream) 65535 n (nothing f) (no-picture link stream)
+
+  -- with what the call is given
+  pub back-asked : {g : Format} {k t l : ℕ} (link stream n : ℕ) → g ≡ clipped number depth → k ≡ min link 65535 → t ≡ min stream 65535
+      → l ≡ min n 65535 → backOf g k t l ≡ backOf f link stream n
+  back-asked link stream n a b c d = rw (a, b, c, d) (back-clamped link stream n)
 
 -- ---- sending: a format and a line
 

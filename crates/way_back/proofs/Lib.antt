@@ -1,3 +1,3 @@
-mod Backs
+pub mod Backs
 pub mod Laws
 pub mod Paper
