@@ -34,7 +34,7 @@ fn open_picture() -> i32 {
 
 // What was lost, as text.
 fn print_summary(heard: &[u16]) {
-    let mut text = [0u8; 128];
+    let mut text = [0u8; 256];
     if let Summarised::Bytes(end) = reception::summary::put_summary(heard, &mut text) {
         io::write_all(STDOUT_FILENO, &text[..end]);
     }
