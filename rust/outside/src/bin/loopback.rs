@@ -2,7 +2,7 @@
 //! what the program given as the first argument writes into a folder, the second argument, and prints.
 
 use random::Random;
-use outside::printed::written_by;
+use outside::printed::{said_when_full, written_by};
 use plain::picture::{join, place};
 use plain::recording::delivery;
 use plain::span::{send, shape, Asked, ROW};
@@ -190,6 +190,10 @@ fn compare(program: &Path, folder: &Path) {
         let told = run(program, folder, Some(name)).stdin(Stdio::null()).output().expect("the program starts");
         assert!(told.status.success() && told.stdout.is_empty() && !told.stderr.is_empty(), "{name}");
     }
+    // A standard output that takes nothing: the picture is there, and the summary is not.
+    let said = said_when_full(run(program, folder, Some("knocked.pgm")), &[]);
+    assert_eq!(said, "the summary: No space left on device\n");
+    assert!(std::fs::read(folder.join("knocked.pgm")).expect("a picture") == file, "another picture");
     println!("the rig writes and prints what the plain reader receives for {} knocks, {BY_CHANCE} of them of seed {SEED}", knocks.len());
 }
 
