@@ -2,7 +2,7 @@
 -- Assumes nothing.
 use Rattle.generate.specs.Laws.{GenerateLaws}
 use Rattle.generate.proofs.LowFirst.{read-again}
-use Rattle.generate.proofs.Outputs.{six-count, signal-long}
+use Rattle.generate.proofs.Outputs.{six-count, six-refuse, signal-long}
 use Rattle.generate.proofs.Wants.{meets-1, meets-2, meets-3, too-long, is-given}
 use Rattle.generate.proofs.Whole.{pieces, next-piece, none-left}
 
@@ -14,6 +14,7 @@ generate-laws = record {
   tooLong = too-long;
   isGiven = is-given;
   sixCount = six-count;
+  sixRefuse = six-refuse;
   readAgain = read-again;
   signalLong = signal-long;
   pieces = pieces;

@@ -15,7 +15,7 @@ use Rattle.span.specs.Span.{signalFrom, spanSymbols, spanAfter}
 use Rattle.span.proofs.Lengths.{length-of-symbols}
 use Rattle.text.specs.Words.{wordInBytes}
 use Rattle.generate.specs.declared.parameters.Parameters.{Parameters}
-use Rattle.generate.specs.Generated.{spanOn, spansFrom, written, generated}
+use Rattle.generate.specs.Generated.{spanOn, spansFrom, written, generated, refusalBy, refusal}
 use Rattle.generate.specs.Parameters.{wantedFormat, countIn, isShort, wantedOf}
 
 -- ---- six bytes
@@ -47,6 +47,17 @@ six-count (a ∷ b ∷ c ∷ d ∷ e ∷ f ∷ rest) =
     let six = a ∷ b ∷ c ∷ d ∷ e ∷ f ∷ [] in
     let all = a ∷ b ∷ c ∷ d ∷ e ∷ f ∷ rest in
     ap (written six) (all-there six (omega arith) ∙ sym (all-there all (omega arith))) ∙ same-start six all refl (wantedOf all)
+
+pub six-refuse : (input : List ℕ) → refusal (take 6 input) ≡ refusal input
+six-refuse [] = refl
+six-refuse (a ∷ []) = refl
+six-refuse (a ∷ b ∷ []) = refl
+six-refuse (a ∷ b ∷ c ∷ []) = refl
+six-refuse (a ∷ b ∷ c ∷ d ∷ []) = refl
+six-refuse (a ∷ b ∷ c ∷ d ∷ e ∷ []) = refl
+six-refuse (a ∷ b ∷ c ∷ d ∷ e ∷ f ∷ rest) =
+    ap refusalBy
+    (all-there (a ∷ b ∷ c ∷ d ∷ e ∷ f ∷ []) (omega arith) ∙ sym (all-there (a ∷ b ∷ c ∷ d ∷ e ∷ f ∷ rest) (omega arith)))
 
 -- ---- as long
 

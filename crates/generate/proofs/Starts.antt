@@ -1,24 +1,34 @@
--- The start that was put, and what it leaves.
+-- The start that was put, and what it leaves; and the refusal.
 -- Assumes nothing.
 use mathlib.Core.Path.{_≡_, refl, sym, ap, subst, _∙_}
 use mathlib.Core.List.{List, [], _∷_}
+use mathlib.Core.Logic.{⊎-elim}
 use Prim.Native.Nat.{ℕ, _≤_}
+use native.Mathlib.Nat.{zero-add}
 use native.Mathlib.Omega.{arith}
+use types.Run.{OneOf}
 use lib.ListN.{length, take}
 use lib.Seq.{sets, length-sets, length-take-le}
 use Rattle.io.specs.Counts.{Counts}
 use Rattle.ground.specs.Answer.{refused, given}
-use Rattle.ground.proofs.Putting.{Put}
+use Rattle.ground.proofs.Putting.{Put, put-length}
 use Rattle.text.specs.Number.{placesOf}
 use Rattle.text.specs.Put.{endOf, putOf}
 use Rattle.text.proofs.Putting.{put-told}
 use Rattle.generate.specs.declared.left.Left.{Left}
 use Rattle.generate.specs.declared.parameters.Parameters.{Parameters}
+use Rattle.generate.specs.declared.parameters.Wanted.{Wanted}
+use Rattle.generate.specs.declared.parameters.Wanted.the-variants.{Recording, UnknownFormat, NoLine, WrongInput}
 use Rattle.generate.specs.declared.start.Start.{Start}
-use Rattle.generate.specs.Generated.{refusedWith}
+use Rattle.generate.specs.Generated.{refusedWith, refusalBy, refusal}
 use Rattle.generate.specs.Parameters.{wantedOf}
+use Rattle.generate.specs.Inside.Parameters.{paperWanted}
 use Rattle.generate.specs.Pieces.{startText, fileStart, allOf, nothing, leftBy, leftOf, Ready}
 use Rattle.generate.proofs.Ready.{whole-told, left-ready}
+
+-- the keys of a `match` that are left after that of a recording
+pub no-key : OneOf (1 ∷ 2 ∷ 3 ∷ []) 0 → ⊥
+no-key = ⊎-elim (λ z. omega arith) (⊎-elim (λ z. omega arith) (λ z. omega arith))
 
 -- what is promised of the start and of the buffer
 abbrev pub Started : List ℕ → List ℕ → List ℕ → Start → Type 0
@@ -42,20 +52,24 @@ module _ (input before : List ℕ) where
         ),
       )
 
-  -- a refusal
-  pub refusal :
-      {number : ℕ} {after : List ℕ} {r : Start} (text : List ℕ)
-      → wantedOf input ≡ refused number 0 → text ≡ refusedWith number → length text ≤ length before
-      → r ≡ record { end = length text; left = nothing } → after ≡ sets before 0 text
-      → Started input before after r
-  refusal {after} text bad is room r written =
-      subst (λ (s : Start). Started input before after s) (sym r)
-      (started (ap (startText input) bad ∙ sym is) room refl (sym (ap leftBy bad)) written)
+  refused-start : {number : ℕ} {left : Left} → wantedOf input ≡ refused number 0 → left ≡ nothing
+      → Started input before before (record { end = 0; left = left })
+  refused-start bad rest =
+      started {text = []} (ap (startText input) bad) (omega arith) refl (rest ∙ sym (ap leftBy bad)) refl
+
+  -- nothing, where nothing is wanted that is not refused
+  pub no-start :
+      (r : Wanted) → ((p : Parameters) → r ≡ Recording p → ⊥) → paperWanted r ≡ wantedOf input → {left : Left} → left ≡ nothing
+      → Started input before before (record { end = 0; left = left })
+  no-start (Recording p) x e rest = absurd (x p refl)
+  no-start UnknownFormat x e rest = refused-start (sym e) rest
+  no-start NoLine x e rest = refused-start (sym e) rest
+  no-start WrongInput x e rest = refused-start (sym e) rest
 
   -- the header
   pub header :
       {p : Parameters} {end : ℕ} {left : Left} {after : List ℕ}
-      → wantedOf input ≡ given p → 10 ≤ length before
+      → wantedOf input ≡ given p → 2 ≤ length before
       → end ≡ endOf (length before) 0 (take 2 input) → after ≡ putOf before 0 (take 2 input) → left ≡ allOf p
       → Started input before after (record { end = end; left = left })
   header {p} {end} {left} {after} good room ends written rest =
@@ -63,6 +77,28 @@ module _ (input before : List ℕ) where
       let two : length (take 2 input) ≡ 2 = length-take-le 2 input (omega arith) in
       let put : Put before after 0 end (take 2 input) = put-told (take 2 input) (omega arith) ends written in
       started (ap (startText input) good) (omega arith) (omega (arith, put .ends)) (rest ∙ sym (ap leftBy good)) (put .written)
+
+-- what is promised of the refusal
+abbrev pub Refused : List ℕ → List ℕ → List ℕ → ℕ → Type 0
+Refused input before after end = Counts end after × ((end ≡ length (refusal input)) × (after ≡ sets before 0 (refusal input)))
+
+module _ (input before : List ℕ) where
+  pub no-refusal : {p : Parameters} → wantedOf input ≡ given p → Refused input before before 0
+  no-refusal good =
+      let none : refusal input ≡ [] = ap refusalBy good in
+      ((omega arith, refl), (sym (ap length none), sym (ap (sets before 0) none)))
+
+  pub refuses :
+      {number end : ℕ} {after : List ℕ} (text : List ℕ)
+      → wantedOf input ≡ refused number 0 → text ≡ refusedWith number → length text ≤ length before
+      → end ≡ endOf (length before) 0 text → after ≡ putOf before 0 text
+      → Refused input before after end
+  refuses {number} {end} {after} text bad is room ends written =
+      let told : text ≡ refusal input = is ∙ sym (ap refusalBy bad) in
+      let put : Put before after 0 end text = put-told text (omega arith) ends written in
+      let same : length after ≡ length before = put-length put in
+      let most : end ≤ length after = omega (arith, put .ends) in
+      ((most, sym (length-take-le end after most)), (put .ends ∙ zero-add (length text) ∙ ap length told, put .written ∙ ap (sets before 0) told))
 
 -- the texts, as they are written in the code
 pub text-1 : 114 ∷ 101 ∷ 102 ∷ 117 ∷ 115 ∷ 101 ∷ 100 ∷ 32 ∷ 49 ∷ 10 ∷ [] ≡ refusedWith 1

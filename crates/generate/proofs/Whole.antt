@@ -1,7 +1,7 @@
 -- The pieces, one after the other, are what is written.
 -- Assumes nothing.
-use mathlib.Core.Path.{_≡_, refl, sym, ap, _∙_}
-use mathlib.Core.List.{List, [], _++_, append-nil}
+use mathlib.Core.Path.{_≡_, refl, ap, _∙_}
+use mathlib.Core.List.{List, [], _++_}
 use Prim.Native.Nat.{ℕ, zero, suc, _-_, _<_}
 use native.Mathlib.Omega.{arith}
 use Rattle.ground.specs.Answer.{Answer, refused, given}
@@ -11,7 +11,7 @@ use Rattle.span.specs.Span.{signalFrom, signal, spanSymbols, spanAfter}
 use Rattle.symbol.specs.declared.disparity.Disparity.{Disparity}
 use Rattle.generate.specs.declared.left.Left.{Left}
 use Rattle.generate.specs.declared.parameters.Parameters.{Parameters}
-use Rattle.generate.specs.Generated.{spanOn, spansFrom, lowFirst, refusedWith, written, generated}
+use Rattle.generate.specs.Generated.{spanOn, spansFrom, lowFirst, written, generated}
 use Rattle.generate.specs.Parameters.{wantedOf}
 use Rattle.generate.specs.Pieces.{startText, fileStart, leftBy, leftOf}
 use Rattle.generate.specs.Inside.Pieces.{restOf, spanBytes, nextLeft}
@@ -20,7 +20,7 @@ use Rattle.generate.proofs.LowFirst.{low-append}
 -- the start, and then what is left
 by-answer : (input : List ℕ) (a : Answer Parameters) → written input a ≡ startText input a ++ restOf (leftBy a)
 unfolding restOf spansFrom signalFrom lowFirst signal
-by-answer input (refused number place) = sym (append-nil (refusedWith number))
+by-answer input (refused number place) = refl
 by-answer input (given p) = refl
 
 pub pieces : (input : List ℕ) → generated input ≡ fileStart input ++ restOf (leftOf input)

@@ -14,7 +14,7 @@ use Rattle.span.specs.Span.{signalFrom}
 use Rattle.recording.specs.Recording.{limit}
 use Rattle.text.specs.Words.{wordsInBytes}
 use Rattle.generate.specs.declared.left.Left.{Left}
-use Rattle.generate.specs.Generated.{spansFrom, lowFirst, generated}
+use Rattle.generate.specs.Generated.{spansFrom, lowFirst, generated, refusal}
 use Rattle.generate.specs.Parameters.{wantedFormat, firstLineIn, countIn, parametersIn, wantedOf}
 use Rattle.generate.specs.Pieces.{fileStart, leftOf}
 use Rattle.generate.specs.Inside.Pieces.{restOf, spanBytes, nextLeft}
@@ -46,6 +46,7 @@ pub record GenerateLaws : Type 0 where
       → wantedOf input ≡ given (parametersIn input)
   -- what follows the six bytes is ignored
   pub sixCount : (input : List ℕ) → generated (take 6 input) ≡ generated input
+  pub sixRefuse : (input : List ℕ) → refusal (take 6 input) ≡ refusal input
   -- the words read back from the bytes of symbols are the symbols (document 01, "Values to hold against it": low byte first)
   pub readAgain : (l : List ℕ) → wordsInBytes (length l) (lowFirst l) ≡ l
   -- n spans have n times the symbols of one

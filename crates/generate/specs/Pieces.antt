@@ -3,7 +3,7 @@
 use Prim.Native.Nat.{ℕ, zero, suc, _<_}
 use mathlib.Core.Path.{_≡_}
 use mathlib.Core.Bool.{true}
-use mathlib.Core.List.{List}
+use mathlib.Core.List.{List, []}
 use lib.ListN.{take}
 use Rattle.ground.specs.Answer.{Answer, refused, given}
 use Rattle.line.specs.Stream.{isLine, lineAfter}
@@ -16,12 +16,12 @@ use Rattle.generate.specs.declared.left.Left.{Left}
 use Rattle.generate.specs.declared.parameters.Parameters.{Parameters}
 use Rattle.generate.specs.declared.write.Written.{Written}
 use Rattle.generate.specs.declared.write.Written.the-variants.{All, Stopped}
-use Rattle.generate.specs.Generated.{refusedWith, spanOn}
+use Rattle.generate.specs.Generated.{spanOn}
 use Rattle.generate.specs.Parameters.{wantedOf}
 
--- the start: the format and depth bytes, or the refusal
+-- the start: the format and depth bytes, or nothing
 abbrev pub startText : List ℕ → Answer Parameters → List ℕ
-startText input (refused number place) = refusedWith number
+startText input (refused number place) = []
 startText input (given p) = take 2 input
 
 abbrev pub fileStart : List ℕ → List ℕ

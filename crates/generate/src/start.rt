@@ -1,4 +1,4 @@
-// The start of what is written, and what is left after it.
+// The start of what is written, and what is left after it; and the refusal.
 use crate::left::Left;
 use crate::parameters::Parameters;
 use crate::parameters::Wanted;
@@ -7,6 +7,7 @@ ghost use Prim.Native.Nat.{_≤_};
 ghost use lib.ListN.{length};
 ghost use lib.Seq.{sets};
 ghost use Rattle.io.specs.Counts.{Counts};
+ghost use Rattle.generate.specs.Generated.{refusal};
 ghost use Rattle.generate.specs.Pieces.{fileStart, allOf, nothing as none, leftOf, Ready};
 
 // How many bytes it has, and what is left.
@@ -44,40 +45,43 @@ fn nothing() -> Left
     }
 }
 
-// A refusal, and nothing left.
-fn put_refusal(words: &[u8], out: &mut [u8]) -> Start
-    requires { ⌜ length (now words) ≤ length (now out) ⌝ }
-    ensures start { λ r. ⌜ r ≡ record { end = length (now (words .entry)); left = none } ⌝ }
-    ensures written { λ _. ⌜ now (out .exit) ≡ sets (now (out .entry)) 0 (now (words .entry)) ⌝ }
-{
-    let end = text::put::put_text(words, out, 0);
-    let left = nothing();
-    Start { end, left }
-}
-
-// The format and depth bytes, or the refusal.
+// The format and depth bytes, or nothing where a recording is refused.
 pub(crate) fn put_start(input: &[u8], out: &mut [u8]) -> Start
-    requires { ⌜ 10 ≤ length (now out) ⌝ }
+    requires { ⌜ 2 ≤ length (now out) ⌝ }
     ensures counts { λ r. ⌜ Counts (r .end) (now (out .exit)) ⌝ }
     ensures ready { λ r. ⌜ Ready (r .left) ⌝ }
     ensures end { λ r. ⌜ r .end ≡ length (fileStart (now (input .entry))) ⌝ }
     ensures left { λ r. ⌜ r .left ≡ leftOf (now (input .entry)) ⌝ }
     ensures written { λ _. ⌜ now (out .exit) ≡ sets (now (out .entry)) 0 (fileStart (now (input .entry))) ⌝ }
 {
+    let Wanted::Recording(p) = crate::parameters::wanted_in(input) else {
+        let left = nothing();
+        return Start { end: 0, left };
+    };
+    let end = text::put::put_text(&input[..2], out, 0);
+    let left = all_of(p);
+    Start { end, left }
+}
+
+// The refusal, or nothing where there is none.
+pub(crate) fn put_refusal(input: &[u8], out: &mut [u8]) -> usize
+    requires { ⌜ 10 ≤ length (now out) ⌝ }
+    ensures counts { λ r. ⌜ Counts r (now (out .exit)) ⌝ }
+    ensures end { λ r. ⌜ r ≡ length (refusal (now (input .entry))) ⌝ }
+    ensures written { λ _. ⌜ now (out .exit) ≡ sets (now (out .entry)) 0 (refusal (now (input .entry))) ⌝ }
+{
     match crate::parameters::wanted_in(input) {
-        Wanted::Recording(p) => {
-            let end = text::put::put_text(&input[..2], out, 0);
-            let left = all_of(p);
-            return Start { end, left };
+        Wanted::Recording(_) => {
+            return 0;
         },
         Wanted::UnknownFormat => {
-            return put_refusal(b"refused 1\n", out);
+            return text::put::put_text(b"refused 1\n", out, 0);
         },
         Wanted::NoLine => {
-            return put_refusal(b"refused 2\n", out);
+            return text::put::put_text(b"refused 2\n", out, 0);
         },
         Wanted::WrongInput => {
-            return put_refusal(b"refused 3\n", out);
+            return text::put::put_text(b"refused 3\n", out, 0);
         },
     }
 }

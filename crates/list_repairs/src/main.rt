@@ -1,4 +1,5 @@
-// Lists the repair of timing words: words from standard input, low byte first, up to 64 KiB; a line of text for each.
+// Lists the repair of timing words: words from standard input, low byte first, up to 64 KiB; a line of text for each, to standard
+// output. Why the write failed, if it did, to standard error.
 mod listing;
 
 use libc::STDIN_FILENO;
@@ -9,5 +10,7 @@ fn main() {
     let mut out = listing::room();
     let n = io::read_full(STDIN_FILENO, &mut input);
     let end = listing::put_listing(&input[..n], &mut out);
-    io::write_all(STDOUT_FILENO, &out[..end]);
+    if !io::write_all(STDOUT_FILENO, &out[..end]) {
+        os::fail(b"the listing");
+    }
 }

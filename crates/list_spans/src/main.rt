@@ -1,5 +1,5 @@
 // Lists the spans of a recording: a format byte, a depth byte and symbols from standard input, low byte first, at most 32,767 of them; a
-// line of text for each span delivered.
+// line of text for each span delivered, to standard output. Why the write failed, if it did, to standard error.
 mod list;
 
 use libc::STDIN_FILENO;
@@ -12,5 +12,7 @@ fn main() {
     let mut rows = [0u16; 7680];
     let n = io::read_full(STDIN_FILENO, &mut input);
     let end = list::put_listing(&input[..n], &mut symbols, &mut rows, &mut out);
-    io::write_all(STDOUT_FILENO, &out[..end]);
+    if !io::write_all(STDOUT_FILENO, &out[..end]) {
+        os::fail(b"the listing");
+    }
 }

@@ -11,13 +11,13 @@ fn number_of(a: u8, b: u8, c: u8, d: u8) -> u32
     a as u32 + b as u32 * 256 + c as u32 * 65536 + d as u32 * 16777216
 }
 
-// Place and length from the first eight bytes; if there are fewer, a millisecond from the middle of the frame on.
+// Place and length from the first eight bytes; if there are fewer, a millisecond around the middle of the test picture's rings.
 pub(crate) fn knock_of(input: &[u8]) -> Knock
     ensures { λ r. ⌜ r ≡ knockIn (now (input .entry)) ⌝ }
 {
     if input.len() < 8 {
         return Knock {
-            place: 10692000,
+            place: 7078104,
             long: 1069200,
         };
     }

@@ -1,5 +1,6 @@
 // The loopback rig: a test picture over one link, line by line through a whole frame, with one plug knocked. Eight bytes from standard
-// input say where and for how long; the picture that arrives goes to a file, and a summary of what was lost to standard output.
+// input say where and for how long; the picture that arrives goes to a file, and a summary of what was lost to standard output. What cannot be
+// opened or written is said on standard error.
 mod file;
 mod frame;
 mod input;
@@ -34,16 +35,18 @@ fn open_picture() -> i32 {
 
 // What was lost, as text.
 fn print_summary(heard: &[u16]) {
-    let mut text = [0u8; 128];
+    let mut text = [0u8; 256];
     if let Summarised::Bytes(end) = reception::summary::put_summary(heard, &mut text) {
-        io::write_all(STDOUT_FILENO, &text[..end]);
+        if !io::write_all(STDOUT_FILENO, &text[..end]) {
+            os::fail(b"the summary");
+        }
     }
 }
 
-fn write_header(fd: i32) {
+fn write_header(fd: i32) -> bool {
     let mut head = [0u8; 32];
     let n = file::put_header(&mut head);
-    io::write_all(fd, &head[..n]);
+    io::write_all(fd, &head[..n])
 }
 
 // The picture after its header, and then the summary.
@@ -51,7 +54,10 @@ fn run(fd: i32, k: Knock) {
     let mut heard = [0u16; 1125];
     let mut picture = [0u16; 38400];
     let mut bytes = [0u8; 76800];
-    write_header(fd);
+    if !write_header(fd) {
+        os::fail(b"the picture");
+        return;
+    }
     match frame::write_frame(fd, k, &mut heard, &mut picture, &mut bytes) {
         Written::All(_) => print_summary(&heard),
         Written::Stopped => os::fail(b"the picture"),

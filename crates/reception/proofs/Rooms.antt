@@ -34,11 +34,11 @@ module _ (heard : List ℕ) (out : ℕ) where
   summary-meets-3 x = simp (ne-eqb (length heard) 1125 x)
 
   module _ (frame : length heard ≡ 1125) where
-    pub summary-meets-4 : out < 128 → summarisedOf heard out ≡ refused 4 0
-    summary-meets-4 h = simp (eq-eqb (length heard) 1125 frame, lt-leb 128 out h)
+    pub summary-meets-4 : out < 256 → summarisedOf heard out ≡ refused 4 0
+    summary-meets-4 h = simp (eq-eqb (length heard) 1125 frame, lt-leb 256 out h)
 
-    pub sums : 128 ≤ out → summarisedOf heard out ≡ given (length (summary heard))
-    sums h = simp (eq-eqb (length heard) 1125 frame, le-leb 128 out h)
+    pub sums : 256 ≤ out → summarisedOf heard out ≡ given (length (summary heard))
+    sums h = simp (eq-eqb (length heard) 1125 frame, le-leb 256 out h)
 
 module _ (heard out : List ℕ) where
   -- what the call promises
@@ -49,10 +49,10 @@ module _ (heard out : List ℕ) where
   no-frame x = let e = summary-meets-3 heard (length out) x in (tt, (sym e, when-refused out (sets out 0 (summary heard)) e))
 
   module _ (frame : length heard ≡ 1125) where
-    pub no-room : length out < 128 → Promised WrongOutput out
+    pub no-room : length out < 256 → Promised WrongOutput out
     no-room h = let e = summary-meets-4 heard (length out) frame h in (tt, (sym e, when-refused out (sets out 0 (summary heard)) e))
 
-    pub room : 128 ≤ length out → {end : ℕ} {after : List ℕ} → Counts end after → end ≡ length (summary heard) → after ≡ sets out 0 (summary heard)
+    pub room : 256 ≤ length out → {end : ℕ} {after : List ℕ} → Counts end after → end ≡ length (summary heard) → after ≡ sets out 0 (summary heard)
         → Promised (Bytes end) after
     room h counts e w =
         let good = sums heard (length out) frame h in

@@ -1,15 +1,17 @@
--- What is printed: how many lines were sent, delivered and lost, and which were the first and the last lost.
+-- What is printed: how many stream lines were sent, delivered and lost, and which were the first and the last lost, with the picture lines
+-- that they carry (004, 5.3 and 6.1).
 -- Assumes nothing.
 use Prim.Native.Nat.{ℕ, zero, suc, _+_, _-_}
 use mathlib.Core.Bool.{Bool, cond}
 use mathlib.Core.List.{List, [], _∷_, _++_}
-use mathlib.Core.Option.{Option·getD}
+use mathlib.Core.Option.{Option, none, some, Option·getD}
 use lib.Dec.{eqb, leb}
 use lib.ListN.{length, getD}
 use lib.Seq.{sets}
 use Rattle.ground.specs.Answer.{Answer, refused, given, unless, checked, unlessRefused}
 use Rattle.ground.specs.Search.{firstBelow}
 use Rattle.io.specs.Counts.{Counts}
+use Rattle.picture.specs.Place.{pictureLineOn}
 use Rattle.text.specs.Number.{decimal}
 use Rattle.text.specs.Put.{newline}
 use Rattle.reception.specs.declared.summary.Summarised.{Summarised}
@@ -42,25 +44,55 @@ lastLost heard = lastOf heard (length heard)
 abbrev pub item : List ℕ → ℕ → List ℕ
 item label n = label ++ (decimal n ++ (newline ∷ []))
 
+-- "stream lines sent ", "stream lines delivered ", "stream lines lost "
 abbrev pub sentLabel : List ℕ
-sentLabel = 115 ∷ 101 ∷ 110 ∷ 116 ∷ 32 ∷ []
+sentLabel = 115 ∷ 116 ∷ 114 ∷ 101 ∷ 97 ∷ 109 ∷ 32 ∷ 108 ∷ 105 ∷ 110 ∷ 101 ∷ 115 ∷ 32 ∷ 115 ∷ 101 ∷ 110 ∷ 116 ∷ 32 ∷ []
 
 abbrev pub deliveredLabel : List ℕ
-deliveredLabel = 100 ∷ 101 ∷ 108 ∷ 105 ∷ 118 ∷ 101 ∷ 114 ∷ 101 ∷ 100 ∷ 32 ∷ []
+deliveredLabel = 115 ∷ 116 ∷ 114 ∷ 101 ∷ 97 ∷ 109 ∷ 32 ∷ 108 ∷ 105 ∷ 110 ∷ 101 ∷ 115 ∷ 32 ∷ 100 ∷ 101 ∷ 108 ∷ 105 ∷ 118 ∷ 101 ∷ 114 ∷ 101 ∷ 100 ∷ 32 ∷ []
 
 abbrev pub lostLabel : List ℕ
-lostLabel = 108 ∷ 111 ∷ 115 ∷ 116 ∷ 32 ∷ []
+lostLabel = 115 ∷ 116 ∷ 114 ∷ 101 ∷ 97 ∷ 109 ∷ 32 ∷ 108 ∷ 105 ∷ 110 ∷ 101 ∷ 115 ∷ 32 ∷ 108 ∷ 111 ∷ 115 ∷ 116 ∷ 32 ∷ []
 
--- "first line lost ", "last line lost "
+-- "first stream line lost ", "last stream line lost "
 abbrev pub firstLabel : List ℕ
-firstLabel = 102 ∷ 105 ∷ 114 ∷ 115 ∷ 116 ∷ 32 ∷ 108 ∷ 105 ∷ 110 ∷ 101 ∷ 32 ∷ 108 ∷ 111 ∷ 115 ∷ 116 ∷ 32 ∷ []
+firstLabel = 102 ∷ 105 ∷ 114 ∷ 115 ∷ 116 ∷ 32 ∷ 115 ∷ 116 ∷ 114 ∷ 101 ∷ 97 ∷ 109 ∷ 32 ∷ 108 ∷ 105 ∷ 110 ∷ 101 ∷ 32 ∷ 108 ∷ 111 ∷ 115 ∷ 116 ∷ 32 ∷ []
 
 abbrev pub lastLabel : List ℕ
-lastLabel = 108 ∷ 97 ∷ 115 ∷ 116 ∷ 32 ∷ 108 ∷ 105 ∷ 110 ∷ 101 ∷ 32 ∷ 108 ∷ 111 ∷ 115 ∷ 116 ∷ 32 ∷ []
+lastLabel = 108 ∷ 97 ∷ 115 ∷ 116 ∷ 32 ∷ 115 ∷ 116 ∷ 114 ∷ 101 ∷ 97 ∷ 109 ∷ 32 ∷ 108 ∷ 105 ∷ 110 ∷ 101 ∷ 32 ∷ 108 ∷ 111 ∷ 115 ∷ 116 ∷ 32 ∷ []
 
--- which lines were lost, if any
+-- " (picture lines ", " and ", ")" and a newline; " (frame blanking)" and a newline
+abbrev pub linesLabel : List ℕ
+linesLabel = 32 ∷ 40 ∷ 112 ∷ 105 ∷ 99 ∷ 116 ∷ 117 ∷ 114 ∷ 101 ∷ 32 ∷ 108 ∷ 105 ∷ 110 ∷ 101 ∷ 115 ∷ 32 ∷ []
+
+abbrev pub andLabel : List ℕ
+andLabel = 32 ∷ 97 ∷ 110 ∷ 100 ∷ 32 ∷ []
+
+abbrev pub linesEnd : List ℕ
+linesEnd = 41 ∷ newline ∷ []
+
+abbrev pub blankingText : List ℕ
+blankingText = 32 ∷ 40 ∷ 102 ∷ 114 ∷ 97 ∷ 109 ∷ 101 ∷ 32 ∷ 98 ∷ 108 ∷ 97 ∷ 110 ∷ 107 ∷ 105 ∷ 110 ∷ 103 ∷ 41 ∷ newline ∷ []
+
+-- the two picture lines that a stream line carries: a first for images 1 and 2, a second for images 3 and 4
+abbrev pub linesText : ℕ → ℕ → List ℕ
+linesText a b = linesLabel ++ (decimal a ++ (andLabel ++ (decimal b ++ linesEnd)))
+
+abbrev pub carriedBy : Option ℕ → Option ℕ → List ℕ
+carriedBy (some a) (some b) = linesText a b
+carriedBy (some a) none = blankingText
+carriedBy none second = blankingText
+
+abbrev pub carriedText : ℕ → List ℕ
+carriedText n = carriedBy (pictureLineOn n 1) (pictureLineOn n 3)
+
+-- a stream line that was lost, and what it carries
+abbrev pub lostItem : List ℕ → ℕ → List ℕ
+lostItem label n = label ++ (decimal n ++ carriedText n)
+
+-- the first and the last that was lost, if any
 abbrev pub which : List ℕ → List ℕ
-which heard = item firstLabel (firstLost heard) ++ item lastLabel (lastLost heard)
+which heard = lostItem firstLabel (firstLost heard) ++ lostItem lastLabel (lastLost heard)
 
 abbrev pub summary : List ℕ → List ℕ
 summary heard =
@@ -77,9 +109,9 @@ paperSummarised (Bytes n) = given n
 paperSummarised WrongInput = refused 3 0
 paperSummarised WrongOutput = refused 4 0
 
--- 3 if these are not the flags of a frame's 1,125 lines, then 4 if there is no room for 128 bytes; otherwise how many bytes were put
+-- 3 if these are not the flags of a frame's 1,125 lines, then 4 if there is no room for 256 bytes; otherwise how many bytes were put
 abbrev pub summarisedOf : List ℕ → ℕ → Answer ℕ
-summarisedOf heard out = checked (unless 3 (eqb (length heard) 1125) ∷ unless 4 (leb 128 out) ∷ []) (length (summary heard))
+summarisedOf heard out = checked (unless 3 (eqb (length heard) 1125) ∷ unless 4 (leb 256 out) ∷ []) (length (summary heard))
 
 abbrev pub summaryPut : List ℕ → List ℕ → List ℕ
 summaryPut heard out = unlessRefused (summarisedOf heard (length out)) out (sets out 0 (summary heard))

@@ -1,7 +1,7 @@
 -- The codes of the test picture are those that a picture may have; and some of them by their values.
 -- Assumes nothing.
 use mathlib.Core.Path.{_≡_, refl}
-use Prim.Native.Nat.{ℕ, _*_, _≤_, _<_}
+use Prim.Native.Nat.{ℕ, _-_, _*_, _≤_, _<_}
 use native.Mathlib.Nat.{mul-le-mul-left}
 use native.Mathlib.Omega.{arith}
 use Rattle.test_picture.specs.TestPicture.{testSample}
@@ -21,12 +21,25 @@ module _ (line sample : ℕ) where
   unfolding testSample
   code-high = omega arith
 
--- the middle, the end of the first ring and the beginning of the next, and two corners
+-- the middle of the rings, the end of the first and the beginning of the next, and two corners
 pub values :
-    (testSample 1080 1920 ≡ 16)
-    × (testSample 1080 3362 ≡ 4077)
-    × (testSample 1080 3363 ≡ 18)
-    × (testSample 1 0 ≡ 1361)
-    × (testSample 2160 3839 ≡ 1358)
+    (testSample 720 1280 ≡ 4079)
+    × (testSample 720 2722 ≡ 18)
+    × (testSample 720 2723 ≡ 4077)
+    × (testSample 1 0 ≡ 3934)
+    × (testSample 2160 3839 ≡ 3495)
 unfolding testSample
 values = (refl, refl, refl, refl, refl)
+
+-- mirrored left to right, top to bottom, and both
+pub mirrored :
+    (testSample 720 (3839 - 1280) ≡ 884)
+    × (testSample (2161 - 720) 1280 ≡ 3064)
+    × (testSample (2161 - 720) (3839 - 1280) ≡ 3933)
+unfolding testSample
+mirrored = (refl, refl, refl)
+
+-- the first sample of each image
+pub exchanged : (testSample 1 0 ≡ 3934) × (testSample 1 1 ≡ 3939) × (testSample 2 0 ≡ 3937) × (testSample 2 1 ≡ 3942)
+unfolding testSample
+exchanged = (refl, refl, refl, refl)

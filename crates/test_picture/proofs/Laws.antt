@@ -1,7 +1,7 @@
 -- What holds of the test picture, proved: each field cites the law that says it.
 -- Assumes nothing.
 use Rattle.test_picture.specs.Laws.{TestPictureLaws}
-use Rattle.test_picture.proofs.Codes.{values, code-low, code-high}
+use Rattle.test_picture.proofs.Codes.{values, mirrored, exchanged, code-low, code-high}
 use Rattle.test_picture.proofs.Images.{on-two, on-four, sample-is}
 use Rattle.test_picture.proofs.OneToOne.{put-one-to-one}
 use Rattle.test_picture.proofs.Puttings.{puts-row, row-meets-2, row-meets-4}
@@ -11,6 +11,8 @@ use Rattle.test_picture.proofs.Sendings.{are-blanking, samples-long, is
 pub test-picture-laws : TestPictureLaws
 test-picture-laws = record {
   values = values;
+  mirrored = mirrored;
+  exchanged = exchanged;
   codes = λ line sample. (code-low line sample, code-high line sample);
   rowTen = row-ten;
   rowTwelve = row-twelve;

@@ -26,13 +26,20 @@ abbrev images : Format → ℕ → List ℕ
 images f line = divided 0 1920 (rowAt f line) ++ divided 1 1920 (rowAt f line)
 
 pub record TestPictureLaws : Type 0 where
-  -- the middle, the end of the first ring and the beginning of the next, and two corners
+  -- the middle of the rings, the end of the first and the beginning of the next, and two corners
   pub values :
-      (testSample 1080 1920 ≡ 16)
-      × (testSample 1080 3362 ≡ 4077)
-      × (testSample 1080 3363 ≡ 18)
-      × (testSample 1 0 ≡ 1361)
-      × (testSample 2160 3839 ≡ 1358)
+      (testSample 720 1280 ≡ 4079)
+      × (testSample 720 2722 ≡ 18)
+      × (testSample 720 2723 ≡ 4077)
+      × (testSample 1 0 ≡ 3934)
+      × (testSample 2160 3839 ≡ 3495)
+  -- it is not the same mirrored: the place of the brightest is another left to right, top to bottom, and turned by half a circle
+  pub mirrored :
+      (testSample 720 (3839 - 1280) ≡ 884)
+      × (testSample (2161 - 720) 1280 ≡ 3064)
+      × (testSample (2161 - 720) (3839 - 1280) ≡ 3933)
+  -- nor with its images exchanged: samples beside each other, lines beside each other, and both, are not the same
+  pub exchanged : (testSample 1 0 ≡ 3934) × (testSample 1 1 ≡ 3939) × (testSample 2 0 ≡ 3937) × (testSample 2 1 ≡ 3942)
   -- a code is one that a picture may have: 16 to 4079, and at ten bits a quarter of it, 4 to 1019 (document 01, "Words of a stream")
   pub codes : (line sample : ℕ) → (16 ≤ testSample line sample) × (testSample line sample ≤ 4079)
   pub rowTen :

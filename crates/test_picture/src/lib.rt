@@ -1,4 +1,4 @@
-// A test picture: rings around the middle of a 4K picture, and the samples of it that a link carries.
+// A test picture: rings around a place left of and above the middle of a 4K picture, and the samples of it that a link carries.
 pub mod answer;
 mod copy;
 pub mod row;

@@ -17,9 +17,9 @@ fn apart(a: u64, b: u64) -> u64
 fn sample_at(line: PictureLine, sample: u16) -> u16
     ensures { λ r. ⌜ r ≡ testSample (line .0) sample ⌝ }
 {
-    let dx = apart(sample as u64, 1920);
-    let dy = apart(line::picture::number_of(line) as u64, 1080);
-    (16 + (dx * dx + dy * dy) / 512 % 4064) as u16
+    let dx = apart(sample as u64, 1280);
+    let dy = apart(line::picture::number_of(line) as u64, 720);
+    (4079 - (dx * dx + dy * dy) / 512 % 4064) as u16
 }
 
 // The codes of a line, in steps of this many.

@@ -1,4 +1,4 @@
-//! The test picture (docs/DECISIONS.md, "The test picture"): rings around the middle, and what a link of the first images carries of it.
+//! The test picture (docs/DECISIONS.md, "The test picture"): rings around a place left of and above the middle, and what a link of the first images carries of it.
 
 use crate::picture::place;
 use crate::span::{Shape, ROW};
@@ -6,8 +6,8 @@ use crate::words::{is_active, BLANKING};
 
 /// The twelve-bit code of a sample of a picture line.
 pub fn code(line: u32, sample: u32) -> u16 {
-    let (down, right) = (i64::from(line) - 1080, i64::from(sample) - 1920);
-    16 + ((down.pow(2) + right.pow(2)) / 512 % 4064) as u16
+    let (down, right) = (i64::from(line) - 720, i64::from(sample) - 1280);
+    4079 - ((down.pow(2) + right.pow(2)) / 512 % 4064) as u16
 }
 
 /// The samples of a stream line, stream by stream. Each sample of the two picture lines that it carries goes where the division puts it;

@@ -36,11 +36,20 @@ slice-aggregate-write-all c =
 write-all-requires : tie.Need-write-all-requires
 write-all-requires c κs = search needs
 
+slice-aggregate-fail : tie.Need-slice-aggregate-fail
+slice-aggregate-fail c = search needs
+
+fail-requires : tie.Need-fail-requires
+fail-requires c κs = search needs
+
 returns : tie.Need-returns
 returns c = search needs
 
 returns-2 : tie.Need-returns-2
 returns-2 c = search needs
+
+returns-3 : tie.Need-returns-3
+returns-3 c = search needs
 
 pub print-summary-spec : {M : Type 1} → statement M
 print-summary-spec =
@@ -52,5 +61,8 @@ print-summary-spec =
     array-share-prefix-text
     slice-aggregate-write-all
     write-all-requires
+    slice-aggregate-fail
+    fail-requires
     returns
-    returns-2)
+    returns-2
+    returns-3)

@@ -2,12 +2,13 @@
 //! writes; and what `list_spans`, the second argument, must list of it, known from what was asked for. With the words `make DIR` it writes
 //! the stored input and what must be written for it into a folder.
 
-use outside::printed::{printed, written};
+use outside::printed::{both_streams, printed, said_when_full, written};
 use plain::recording::LIMIT;
 use plain::span::{send, shape, Asked};
 use plain::test_picture::samples;
 use plain::words::line_after;
 use plain::{refuse_unless, Answer};
+use std::process::Command;
 
 /// Six bytes: format, depth, first line, number of spans.
 fn input(format: u8, depth: u8, line: u16, count: u16) -> Vec<u8> {
@@ -41,10 +42,6 @@ fn recording(input: &[u8]) -> Answer<Vec<u8>> {
         positive = after;
     }
     Ok(bytes)
-}
-
-fn generated(input: &[u8]) -> Vec<u8> {
-    recording(input).unwrap_or_else(|(number, _)| format!("refused {number}\n").into_bytes())
 }
 
 /// What is listed of a recording that was asked for: the spans that are whole in the first 32,767 symbols.
@@ -94,24 +91,29 @@ fn bad() -> Vec<(u32, Vec<u8>)> {
 fn compare(program: &str, lister: &str) {
     let (good, bad) = (good(), bad());
     for input in &good {
-        let all = generated(input);
+        let all = recording(input).expect("a good call");
         for (bytes, piece) in [(input.clone(), 1), (input.clone(), 6), ([&input[..], b"more"].concat(), 3)] {
             assert!(written(program, &bytes, piece) == all, "{input:?}, in pieces of {piece}");
         }
         assert_eq!(printed(lister, &all, 65_536), listing(input), "{input:?}: listed");
     }
     for (number, input) in &bad {
-        let refused = format!("refused {number}\n");
-        assert_eq!(String::from_utf8(generated(input)).as_ref(), Ok(&refused), "{input:?}");
-        assert_eq!(printed(program, input, 6), refused, "{input:?}");
+        assert_eq!(recording(input), Err((*number, 0)), "{input:?}");
+        let (bytes, errors) = both_streams(Command::new(program), input, 6);
+        assert!(bytes.is_empty(), "{input:?}: refused, and something on standard output");
+        assert_eq!(String::from_utf8_lossy(&errors), format!("refused {number}\n"), "{input:?}");
+    }
+    for count in [0, 1] {
+        let said = said_when_full(Command::new(program), &input(1, 12, 42, count));
+        assert_eq!(said, "the recording: No space left on device\n", "{count} spans");
     }
     println!("the program writes {} recordings as the plain sender does, and list_spans lists their spans;", good.len());
-    println!("  {} inputs are refused by their numbers", bad.len());
+    println!("  {} inputs are refused by their numbers, on standard error", bad.len());
 }
 
 fn make(folder: &str) {
     let stored = input(1, 12, 42, 1);
-    for (name, bytes) in [("stdin", &stored), ("stdout", &generated(&stored))] {
+    for (name, bytes) in [("stdin", &stored), ("stdout", &recording(&stored).expect("a good call"))] {
         std::fs::write(format!("{folder}/{name}"), bytes).expect("the folder takes files");
     }
 }

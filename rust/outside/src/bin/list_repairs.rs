@@ -1,8 +1,9 @@
 //! What the program that lists repairs must print, computed from document 01 and tables 6 and 7 of 004, and compared with what the
 //! program given as the argument prints, for input whole and in small pieces.
 
-use outside::printed::printed;
+use outside::printed::{printed, said_when_full};
 use plain::words::{repair, xyz};
+use std::process::Command;
 
 /// The most bytes that are read of an input.
 const MOST: usize = 65_536;
@@ -44,5 +45,6 @@ fn main() {
             assert_eq!(printed(&program, input, piece), listing(input), "{name}, in pieces of {piece}");
         }
     }
+    assert_eq!(said_when_full(Command::new(&program), &[1, 8, 3, 8]), "the listing: No space left on device\n");
     println!("the program lists {} inputs as document 01 says, whole and in pieces", inputs.len());
 }

@@ -2,8 +2,8 @@
 //! what the program given as the first argument writes into a folder, the second argument, and prints.
 
 use random::Random;
-use outside::printed::written_by;
-use plain::picture::join;
+use outside::printed::{said_when_full, written_by};
+use plain::picture::{join, place};
 use plain::recording::delivery;
 use plain::span::{send, shape, Asked, ROW};
 use plain::test_picture::samples;
@@ -24,8 +24,9 @@ const HEADER: &[u8] = b"P5\n3840 2160\n4095\n";
 /// Place and length.
 type Knock = (u32, u32);
 
-/// From the middle of the frame on, a thousandth of the 50 frames in a second.
-const DEFAULT: Knock = (FRAME / 2, FRAME / 20);
+/// A thousandth of the 50 frames in a second, around the middle of the span of stream line 401, which carries picture line 720, the middle of
+/// the test picture's rings.
+const DEFAULT: Knock = (400 * SPAN + SPAN / 2 - FRAME / 40, FRAME / 20);
 
 /// Every symbol of a frame of the test picture, the disparity handed from line to line.
 fn sent() -> Vec<u16> {
@@ -98,12 +99,30 @@ impl Rig {
             }
             assert!(lines.is_empty(), "lines that were not sent in piece {piece}");
         }
-        let mut text = format!("sent {LINES}\ndelivered {}\nlost {}\n", LINES as usize - lost.len(), lost.len());
-        if let (Some(first), Some(last)) = (lost.first(), lost.last()) {
-            text += &format!("first line lost {first}\nlast line lost {last}\n");
-        }
-        (file, text)
+        (file, summary(&lost))
     }
+}
+
+/// The two picture lines that a stream line carries, by where the division puts the lines of the picture.
+fn carried(stream_line: u32) -> String {
+    let on = |line: &u32| place(*line, 0).expect("a line of the picture").stream_line == stream_line;
+    match (1..=2160).filter(on).collect::<Vec<u32>>()[..] {
+        [] => "frame blanking".into(),
+        [odd, even] => format!("picture lines {odd} and {even}"),
+        _ => panic!("stream line {stream_line} carries other than two lines of the picture"),
+    }
+}
+
+/// What is printed for the stream lines that were lost.
+fn summary(lost: &[u32]) -> String {
+    let mut text = format!("stream lines sent {LINES}\nstream lines delivered {}\n", LINES as usize - lost.len());
+    text += &format!("stream lines lost {}\n", lost.len());
+    for (name, line) in [("first", lost.first()), ("last", lost.last())] {
+        if let Some(line) = line {
+            text += &format!("{name} stream line lost {line} ({})\n", carried(*line));
+        }
+    }
+    text
 }
 
 /// The edges of the frame, of a piece and of a span, and more than there is.
@@ -112,6 +131,7 @@ fn edges() -> Vec<Knock> {
     vec![
         DEFAULT,
         (FRAME / 2, 0),
+        (FRAME / 2, FRAME / 20),
         (0, 1),
         (0, SPAN),
         (FRAME - 1, 1),
@@ -170,6 +190,10 @@ fn compare(program: &Path, folder: &Path) {
         let told = run(program, folder, Some(name)).stdin(Stdio::null()).output().expect("the program starts");
         assert!(told.status.success() && told.stdout.is_empty() && !told.stderr.is_empty(), "{name}");
     }
+    // A standard output that takes nothing: the picture is there, and the summary is not.
+    let said = said_when_full(run(program, folder, Some("knocked.pgm")), &[]);
+    assert_eq!(said, "the summary: No space left on device\n");
+    assert!(std::fs::read(folder.join("knocked.pgm")).expect("a picture") == file, "another picture");
     println!("the rig writes and prints what the plain reader receives for {} knocks, {BY_CHANCE} of them of seed {SEED}", knocks.len());
 }
 

@@ -16,7 +16,7 @@ returns c =
 returns-2 : tie.Need-returns-2
 returns-2 c =
     let a = c .before .before .before .before .args in
-    let few : length (a .out .now) < 128 = omega (arith, c .if2 .taken) in
+    let few : length (a .out .now) < 256 = omega (arith, c .if2 .taken) in
     no-room (a .heard .now) (a .out .now) (c .before .if1 .left) few
 
 put-all-requires : tie.Need-put-all-requires
@@ -30,7 +30,7 @@ returns-3 c =
     let put = c .before .before in
     let test = put .before .before in
     let a = test .before .before .before .before .args in
-    let enough : 128 ≤ length (a .out .now) = omega (arith, test .if2 .left) in
+    let enough : 256 ≤ length (a .out .now) = omega (arith, test .if2 .left) in
     let e = put .put-all .ensures in
     room (a .heard .now) (a .out .now) (test .before .if1 .left) enough (e .0) (e .1 .0) (e .1 .1)
 

@@ -5,23 +5,23 @@ use Rattle.reception.proofs.Items.{which-put}
 use Rattle.reception.proofs.summary.put_which.Statement.{statement}
 use Rattle.reception.proofs.summary.put_which.Tie as tie
 
-slice-aggregate-put-item : tie.Need-slice-aggregate-put-item
-slice-aggregate-put-item c = search needs
+slice-aggregate-put-lost : tie.Need-slice-aggregate-put-lost
+slice-aggregate-put-lost c = search needs
 
 first-lost-requires : tie.Need-first-lost-requires
 first-lost-requires c κs = search needs
 
-put-item-requires : tie.Need-put-item-requires
-put-item-requires c κs = search needs
+put-lost-requires : tie.Need-put-lost-requires
+put-lost-requires c κs = search needs
 
-slice-aggregate-put-item-2 : tie.Need-slice-aggregate-put-item-2
-slice-aggregate-put-item-2 c = search needs
+slice-aggregate-put-lost-2 : tie.Need-slice-aggregate-put-lost-2
+slice-aggregate-put-lost-2 c = search needs
 
 last-lost-requires : tie.Need-last-lost-requires
 last-lost-requires c κs = search needs
 
-put-item-requires-2 : tie.Need-put-item-requires-2
-put-item-requires-2 c κs = search needs
+put-lost-requires-2 : tie.Need-put-lost-requires-2
+put-lost-requires-2 c κs = search needs
 
 same-length : tie.Need-same-length
 same-length c = search needs
@@ -32,17 +32,17 @@ returns c =
     let first = second .before .before .before .before .before .before in
     let a = first .before .before .before .before .before .before .args in
     which-put (a .heard .now) (a .out .now) (a .at) _ _ _ _ (first .before .before .first-lost .ensures .0)
-    (second .before .before .last-lost .ensures .0) (first .put-item .ensures) (second .put-item2 .ensures)
+    (second .before .before .last-lost .ensures .0) (first .put-lost .ensures) (second .put-lost2 .ensures)
 
 pub put-which-spec : {M : Type 1} → statement M
 put-which-spec =
     tie.close
     (tie.spec
-    slice-aggregate-put-item
+    slice-aggregate-put-lost
     first-lost-requires
-    put-item-requires
-    slice-aggregate-put-item-2
+    put-lost-requires
+    slice-aggregate-put-lost-2
     last-lost-requires
-    put-item-requires-2
+    put-lost-requires-2
     same-length
     returns)

@@ -1,7 +1,7 @@
 -- `test_picture::row::sample_at` meets its contract, which is its code; no square is too large.
 -- Assumes nothing.
 use mathlib.Core.Path.{_≡_, ap₂}
-use Prim.Native.Nat.{ℕ, _+_, _*_, _/_, _%_, _<_}
+use Prim.Native.Nat.{ℕ, _+_, _-_, _*_, _/_, _%_, _<_}
 use native.Mathlib.Omega.{arith}
 use borrow.Author.Needs.{needs}
 use Rattle.test_picture.specs.TestPicture.{apart, testSample}
@@ -41,8 +41,8 @@ add-result c =
     let b : dy < 65536 = omega arith in
     omega (arith, square-below dx a, square-below dy b)
 
-add-result-2 : tie.Need-add-result-2
-add-result-2 c = search needs
+sub-result : tie.Need-sub-result
+sub-result c = search needs
 
 cast-result : tie.Need-cast-result
 cast-result c = search needs
@@ -51,9 +51,9 @@ returns : tie.Need-returns
 unfolding testSample
 returns c =
     let a = c .before .before .before .args in
-    let dx : c .before .before .apart .result ≡ apart (a .sample) 1920 = omega arith in
-    let dy : c .apart2 .result ≡ apart (a .line .0) 1080 = omega arith in
-    ap₂ (λ (x y : ℕ). 16 + (x * x + y * y) / 512 % 4064) dx dy
+    let dx : c .before .before .apart .result ≡ apart (a .sample) 1280 = omega arith in
+    let dy : c .apart2 .result ≡ apart (a .line .0) 720 = omega arith in
+    ap₂ (λ (x y : ℕ). 4079 - (x * x + y * y) / 512 % 4064) dx dy
 
 pub sample-at-spec : {M : Type 1} → statement M
 sample-at-spec =
@@ -66,6 +66,6 @@ sample-at-spec =
     mul-result
     mul-result-2
     add-result
-    add-result-2
+    sub-result
     cast-result
     returns)

@@ -6,8 +6,9 @@ mod inputs;
 
 use random::Random;
 use inputs::{edges, recording, stored, Known};
-use outside::printed::printed;
+use outside::printed::{printed, said_when_full};
 use plain::recording::delivery;
+use std::process::Command;
 
 /// The most symbols that are read of an input.
 const MOST: usize = 32_767;
@@ -55,6 +56,7 @@ fn compare_all(program: &str, known: &[Known]) {
         let (input, piece) = (recording(&mut random), random.pick(&PIECES));
         listed += compare(program, &format!("recording {turn} of seed {SEED}"), &input, &[piece]);
     }
+    assert_eq!(said_when_full(Command::new(program), &[]), "the listing: No space left on device\n");
     println!("the program lists {} inputs as document 01 says, whole and in pieces,", known.len());
     println!("  and {RECORDINGS} recordings of seed {SEED}, with {listed} spans in them");
 }
