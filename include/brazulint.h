@@ -37,6 +37,22 @@
  *
  * The running disparity is a bool: true is positive. It is false before a fresh signal; after that, it is what the previous call answered.
  *
+ * A LIVE LINK
+ *
+ * A link never ends, and brazulint_next takes one recording. So what arrives is taken in pieces: each is appended to what was kept, the spans
+ * are taken out of it, and what comes before `resume` is given up when there is none any more. Nothing before that place can begin a span,
+ * whatever arrives later, and fewer symbols are kept than a span has. The pieces deliver exactly what all of it would deliver at once, for
+ * every way of cutting it and for damaged signals too; that is proved. From examples/c/live.c, which shows lines as they come and tells lost
+ * ones (what stands between two spans is judged) from standard input, in chunks of any size:
+ *
+ LIVE
+ *
+ * - A piece and what is kept have at most BRAZULINT_LIMIT symbols together, so a piece may have 2,078,145 in any format. A call that finds
+ *   nothing costs about COST whatever its size, and then what it looks at: nothing is looked at twice. So pieces of a span or more cost
+ *   nothing, and pieces of a few symbols cost a call each.
+ * - After "none" the rows are old. A line that did not come leaves the row of an earlier picture wherever you show it: blank it.
+ * - One thread for each link: calls share nothing. A thread needs BRAZULINT_STACK bytes of stack, with room for the C library's own.
+ *
  * INTERFACES
  *
  * The names that are linked carry the number of the interface: brazulint_send is brazulint2_send in libbrazulint.a. An object that was
@@ -89,6 +105,7 @@
 #define brazulint_split BRAZULINT_LINK_NAME(BRAZULINT_INTERFACE, _split)
 #define brazulint_join BRAZULINT_LINK_NAME(BRAZULINT_INTERFACE, _join)
 #define brazulint_place BRAZULINT_LINK_NAME(BRAZULINT_INTERFACE, _place)
+#define brazulint_way_back BRAZULINT_LINK_NAME(BRAZULINT_INTERFACE, _way_back)
 #define brazulint_line_words BRAZULINT_LINK_NAME(BRAZULINT_INTERFACE, _line_words)
 #define brazulint_read_line_words BRAZULINT_LINK_NAME(BRAZULINT_INTERFACE, _read_line_words)
 #define brazulint_repair BRAZULINT_LINK_NAME(BRAZULINT_INTERFACE, _repair)
@@ -119,7 +136,7 @@ BRAZULINT_MUST_USE uint32_t brazulint_version(void);
 enum {
     BRAZULINT_DONE = 0,
     BRAZULINT_UNKNOWN_FORMAT = 1, /* unknown format or depth */
-    BRAZULINT_NO_LINE = 2,        /* no such stream line (1 to 1125); no such picture line (1 to 2160) or sample (0 to 3839) */
+    BRAZULINT_NO_LINE = 2,        /* no such stream line (1 to 1125), picture line (1 to 2160) or sample (0 to 3839); no such link or stream */
     BRAZULINT_WRONG_INPUT = 3,    /* an input of the wrong length; a recording that is too long */
     BRAZULINT_WRONG_OUTPUT = 4,   /* an output of the wrong length */
     BRAZULINT_WRONG_START = 5,    /* a start beyond the recording */
@@ -142,7 +159,7 @@ static inline const char *brazulint_refusal_text(uint32_t number) {
     switch (number) {
     case BRAZULINT_DONE: return "done";
     case BRAZULINT_UNKNOWN_FORMAT: return "unknown format or depth";
-    case BRAZULINT_NO_LINE: return "no such line or sample";
+    case BRAZULINT_NO_LINE: return "no such line, sample, link or stream";
     case BRAZULINT_WRONG_INPUT: return "an input of the wrong length, or a recording that is too long";
     case BRAZULINT_WRONG_OUTPUT: return "an output of the wrong length";
     case BRAZULINT_WRONG_START: return "a start beyond the recording";
@@ -174,6 +191,9 @@ typedef struct {
 #define BRAZULINT_MOST_SAMPLES 7680
 #define BRAZULINT_MOST_SYMBOLS 19008
 #define BRAZULINT_LIMIT 2097152
+
+/* Bytes of stack for a thread that makes any of the calls, with room for what the C library takes. */
+#define BRAZULINT_STACK 65536
 
 /* A line of a stream, 1 to 1125; of these 42 to 1121 carry lines of a picture. */
 typedef struct {
@@ -275,7 +295,8 @@ typedef struct {
     uint32_t number; /* 1, 3, 4, 5 */
     bool found;
     uint64_t place;
-    uint64_t resume; /* where to continue: the end of the span; `start` if none is delivered, also after a refusal */
+    uint64_t resume; /* where to continue: the end of the span; where there is none, the place before which nothing can begin one, whatever
+                      * arrives later; `start` after a refusal */
     brazulint_delivery delivery;
 } brazulint_next_answer;
 
@@ -309,6 +330,20 @@ typedef struct {
 
 /* Where a sample of a picture line goes: lines count from 1, samples from 0. */
 BRAZULINT_MUST_USE brazulint_place_answer brazulint_place(brazulint_picture_line line, uint32_t sample);
+
+typedef struct {
+    uint32_t number;             /* 1, 2 */
+    uint32_t image;              /* the basic image that the stream carries, 1 to 4 */
+    brazulint_picture_line line; /* the picture's line on that stream line */
+} brazulint_way_back_answer;
+
+/*
+ * The way back: which line of the picture a stream line brings. `link` says which of the links of its component it is, 1 or 2 in formats 1 and
+ * 2, and 1 in format 3; `stream` counts from 1. A link or stream that there is not, and a stream line that carries no picture, are refused
+ * with 2. It undoes brazulint_place: a sample's stream line, on the link and stream of its image, brings the sample's line.
+ */
+BRAZULINT_MUST_USE brazulint_way_back_answer brazulint_way_back(brazulint_format format, uint32_t link, uint32_t stream,
+                                                                brazulint_stream_line line);
 
 /* ---- Words of a stream */
 

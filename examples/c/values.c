@@ -136,6 +136,14 @@ static void pictures(void) {
     IS(p.number == 0 && p.image == 4 && p.image_line == 1080 && p.stream_line.number == 1121 && p.sample == 1919);
     p = brazulint_place((brazulint_picture_line){65537}, 0);
     IS(p.number == 2 && p.image == 0 && p.image_line == 0 && p.stream_line.number == 0 && p.sample == 0);
+    brazulint_way_back_answer w = brazulint_way_back(HZ_120, 2, 1, (brazulint_stream_line){128});
+    IS(w.number == 0 && w.image == 3 && w.line.number == 174); /* l is 87: lines 173 and 174 of the picture */
+    w = brazulint_way_back((brazulint_format){BRAZULINT_50_HZ, 10}, 1, 4, (brazulint_stream_line){1121});
+    IS(w.number == 0 && w.image == 4 && w.line.number == 2160);
+    w = brazulint_way_back(HZ_120, 3, 1, (brazulint_stream_line){128});
+    IS(w.number == 2 && w.image == 0 && w.line.number == 0);
+    IS(brazulint_way_back((brazulint_format){0, 12}, 1, 1, (brazulint_stream_line){42}).number == 1);
+    IS(brazulint_way_back(HZ_120, 1, 65537, (brazulint_stream_line){42}).number == 2);
     for (size_t i = 0; i < 3840; i++) row[i] = (uint16_t)(40000 + i);
     IS(brazulint_split(row, 3840, first, 1920, second, 1920) == 0);
     IS(first[0] == 40000 && second[0] == 40001 && second[1919] == 43839);

@@ -1,6 +1,6 @@
 //! The structs of the header, field for field. The header says what each field means; a field without meaning is 0 or false.
 
-use crate::given::StreamLine;
+use crate::given::{PictureLine, StreamLine};
 use crate::refusal::Refusal;
 
 macro_rules! structs {
@@ -37,6 +37,9 @@ structs! {
     /// Refusal 2.
     #[must_use]
     PlaceAnswer { number: u32, image: u32, image_line: u32, stream_line: StreamLine, sample: u32 }
+    /// Refusals 1 and 2.
+    #[must_use]
+    WayBackAnswer { number: u32, image: u32, line: PictureLine }
     /// Refusal 2.
     #[must_use]
     LineWordsAnswer { number: u32, ln0: u32, ln1: u32 }
@@ -94,6 +97,13 @@ impl NextAnswer {
 impl PlaceAnswer {
     pub fn result(self) -> Result<PlaceAnswer, Refusal> {
         Refusal::check(self.number, 0).map(|()| self)
+    }
+}
+
+impl WayBackAnswer {
+    /// The basic image, and the line of the picture.
+    pub fn result(self) -> Result<(u32, PictureLine), Refusal> {
+        Refusal::check(self.number, 0).map(|()| (self.image, self.line))
     }
 }
 

@@ -23,12 +23,14 @@
 
 mod answers;
 mod given;
+mod live;
 pub mod raw;
 mod refusal;
 mod spans;
 
 pub use answers::*;
 pub use given::*;
+pub use live::Live;
 pub use refusal::Refusal;
 pub use spans::{spans, Span, Spans};
 
@@ -107,7 +109,8 @@ pub fn find(format: Format, symbols: &[u16], start: u64) -> FindAnswer {
     call!(brazulint2_find(format, symbols.as_ptr(), symbols.len(), start))
 }
 
-/// Finds a span and reads it into `rows` at once; continue from `resume`. After "none", as after a refusal, the rows are old: they stay as
+/// Finds a span and reads it into `rows` at once; continue from `resume`. Where there is none, nothing before `resume` can begin a span,
+/// whatever arrives later (`Live` goes by it). After "none", as after a refusal, the rows are old: they stay as
 /// they were, so what an earlier call left there is still there and looks like a good row. Look at `found` before you look at the rows.
 /// `spans` has rows of its own for each span.
 pub fn next(format: Format, symbols: &[u16], start: u64, rows: &mut [u16]) -> NextAnswer {
@@ -129,6 +132,12 @@ pub fn join(first: &[u16], second: &[u16], row: &mut [u16]) -> Result<(), Refusa
 /// Where a sample of a picture line goes.
 pub fn place(line: PictureLine, sample: u32) -> PlaceAnswer {
     call!(brazulint2_place(line, sample))
+}
+
+/// The way back: the line of the picture that a stream line brings, and its basic image. `link` is one of the links of its component, `stream`
+/// one of the link's streams, both from 1.
+pub fn way_back(format: Format, link: u32, stream: u32, line: StreamLine) -> WayBackAnswer {
+    call!(brazulint2_way_back(format, link, stream, line))
 }
 
 /// The two words of a stream line's number.

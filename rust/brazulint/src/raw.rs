@@ -45,6 +45,7 @@ extern "C" {
         row_room: usize,
     ) -> u32;
     pub fn brazulint2_place(line: PictureLine, sample: u32) -> PlaceAnswer;
+    pub fn brazulint2_way_back(format: Format, link: u32, stream: u32, line: StreamLine) -> WayBackAnswer;
     pub fn brazulint2_line_words(line: StreamLine) -> LineWordsAnswer;
     pub fn brazulint2_read_line_words(ln0: u32, ln1: u32) -> ReadLineWordsAnswer;
     pub fn brazulint2_repair(word: u32) -> RepairAnswer;

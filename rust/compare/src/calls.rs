@@ -45,6 +45,12 @@ pub fn place(r: &mut Report, line: u32, sample: u32) {
     r.answer(|| format!("place({line}, {sample})"), brazulint::place(PictureLine(line), sample), plain);
 }
 
+pub fn way_back(r: &mut Report, (format, depth): (u32, u32), link: u32, stream: u32, line: u32) {
+    let plain = expected::way_back(plain::picture::way_back(format, depth, link, stream, line));
+    let answer = brazulint::way_back(Format::new(format, depth), link, stream, StreamLine(line));
+    r.answer(|| format!("way_back({format}, {depth}, {link}, {stream}, {line})"), answer, plain);
+}
+
 pub fn carries_picture(r: &mut Report, line: u32) {
     let plain = plain::picture::carries_picture(line);
     r.answer(|| format!("carries_picture({line})"), brazulint::carries_picture(StreamLine(line)), plain);
@@ -150,7 +156,7 @@ pub fn next(r: &mut Report, format: u32, depth: u32, symbols: &[u16], start: u64
     let plain = plain::recording::next(format, depth, symbols, start, room);
     let span = plain::span::lengths(format, depth).map_or(0, |lengths| lengths[1] as u64);
     let call = || format!("next({format}, {depth}, {} symbols, from {start}, room for {room})", symbols.len());
-    r.answer(call, answer, expected::next(&plain, start, span));
+    r.answer(call, answer, expected::next(&plain, start, span, symbols.len() as u64));
     let left = match &plain {
         Ok(Some((_, delivered))) => Left::Holds(&delivered.rows),
         _ => Left::AsItWas,
@@ -168,7 +174,7 @@ pub fn deliver(r: &mut Report, format: u32, depth: u32, symbols: &[u16]) {
         let mut rows = Lent::new(samples);
         let answer = brazulint::next(Format::new(format, depth), symbols, start, rows.lend());
         let call = || format!("step {step} through {} symbols of format {format}, depth {depth}", symbols.len());
-        r.answer(call, answer, expected::next(&plain, start, span as u64));
+        r.answer(call, answer, expected::next(&plain, start, span as u64, symbols.len() as u64));
         let left = match &plain {
             Ok(Some((_, delivered))) => Left::Holds(&delivered.rows),
             _ => Left::AsItWas,

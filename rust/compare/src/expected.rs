@@ -25,7 +25,7 @@ pub fn send(plain: &Answer<(Vec<u16>, bool)>) -> SendAnswer {
     }
 }
 
-fn delivery(d: &Delivered) -> Delivery {
+pub fn delivery(d: &Delivered) -> Delivery {
     let [sav1, sav2, eav1, eav2] = d.content;
     let content = Content { sav1, sav2, eav1, eav2 };
     Delivery { line: StreamLine(d.line), content, positive_before: d.positive_before, positive_after: d.positive_after, repairs: d.repairs }
@@ -46,11 +46,12 @@ pub fn find(plain: Answer<Option<u64>>) -> FindAnswer {
     }
 }
 
-/// `symbols` is the length of a span. If none is delivered, also after a refusal, the place to continue from is the start.
-pub fn next(plain: &Answer<Option<(u64, Delivered)>>, start: u64, symbols: u64) -> NextAnswer {
+/// `symbols` is the length of a span, `all` that of the recording. If there is none, the place to continue from is the first of which the
+/// window is not whole, but not before the start; after a refusal it is the start.
+pub fn next(plain: &Answer<Option<(u64, Delivered)>>, start: u64, symbols: u64, all: u64) -> NextAnswer {
     match plain {
         Ok(Some((place, d))) => NextAnswer { number: 0, found: true, place: *place, resume: *place + symbols, delivery: delivery(d) },
-        Ok(None) => NextAnswer { resume: start, ..Default::default() },
+        Ok(None) => NextAnswer { resume: start.max((all + 1).saturating_sub(symbols)), ..Default::default() },
         Err((number, _)) => NextAnswer { number: *number, resume: start, ..Default::default() },
     }
 }
@@ -59,6 +60,13 @@ pub fn place(plain: Answer<Place>) -> PlaceAnswer {
     match plain {
         Ok(p) => PlaceAnswer { number: 0, image: p.image, image_line: p.line, stream_line: StreamLine(p.stream_line), sample: p.sample },
         Err((number, _)) => PlaceAnswer { number, ..Default::default() },
+    }
+}
+
+pub fn way_back(plain: Answer<(u32, u32)>) -> WayBackAnswer {
+    match plain {
+        Ok((image, line)) => WayBackAnswer { number: 0, image, line: PictureLine(line) },
+        Err((number, _)) => WayBackAnswer { number, ..Default::default() },
     }
 }
 

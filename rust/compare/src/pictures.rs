@@ -14,8 +14,25 @@ pub fn run() -> Report {
     for line in (0..=1200).chain([2000, 2047, 65_535, 65_536, 65_577, 65_578, 65_536 + 1121, (1 << 24) + 42, (1 << 31) + 42, u32::MAX]) {
         calls::carries_picture(&mut r, line);
     }
+    r.add(in_two(ways_back));
     r.add(in_two(rows));
     r
+}
+
+/// Every link, stream and stream line that there is, and their neighbours; of every format, also of those that there are not.
+fn ways_back(part: usize, r: &mut Report) {
+    for kind in [(0, 12), (1, 10), (1, 12), (2, 12), (3, 10), (3, 12), (3, 0), (4, 12), (257, 12)].into_iter().skip(part).step_by(2) {
+        for (link, stream) in (0..=3).flat_map(|link| (0..=5).map(move |stream| (link, stream))) {
+            for line in (0..=1126).chain([65_536 + 42, u32::MAX]) {
+                calls::way_back(r, kind, link, stream, line);
+            }
+        }
+        for far in [255, 256, 257, 65_535, 65_536, 65_537, 1 << 31, u32::MAX] {
+            calls::way_back(r, kind, far, 1, 42);
+            calls::way_back(r, kind, 1, far, 42);
+            calls::way_back(r, kind, 1, 1, far);
+        }
+    }
 }
 
 fn places(r: &mut Report) {

@@ -4,7 +4,8 @@ use crate::calls;
 use crate::pieces::{any_recording, any_start, inserted, inverted, lost, noise};
 use crate::report::{in_two, Report};
 use crate::spans::{any_asked, any_samples, any_sent, shape_of, KINDS};
-use brazulint::{Content, Delivery, Format, Span, StreamLine};
+use crate::expected;
+use brazulint::{Content, Delivery, Format, Live, Span, StreamLine};
 use random::Random;
 use plain::span::{row_words, send, Asked};
 
@@ -13,7 +14,36 @@ pub fn run() -> Report {
     r.add(in_two(at_every_place));
     r.add(in_two(one_bit));
     r.add(in_two(one_symbol));
+    r.add(in_two(live));
     r
+}
+
+/// A link in pieces: the same as all of it at once, by plain, however it is cut.
+fn live(part: usize, r: &mut Report) {
+    let mut random = Random(0x505 + part as u64);
+    for round in 0..25 {
+        for (format, depth) in KINDS {
+            let length = random.below(80_000);
+            let recording = any_recording(&mut random, format, depth, length);
+            let longest = [2, 100, 5_000, 20_000, 60_000][round % 5];
+            r.context = format!("round {round} of half {part}, pieces of less than {longest}");
+            in_pieces(r, &mut random, format, depth, &recording, longest);
+        }
+    }
+}
+
+fn in_pieces(r: &mut Report, random: &mut Random, format: u32, depth: u32, recording: &[u16], longest: usize) {
+    let mut link = Live::new(Format::new(format, depth)).expect("a known format");
+    let (mut from, mut spans) = (0, Vec::new());
+    while from < recording.len() {
+        let to = recording.len().min(from + random.below(longest));
+        spans.extend(link.arrive(&recording[from..to]).expect("a piece that is not too long"));
+        from = to;
+    }
+    let told: Vec<_> = spans.into_iter().map(|span| (span.place, span.delivery, span.rows)).collect();
+    let plain = plain::recording::delivery(format, depth, recording).expect("a known format");
+    let whole: Vec<_> = plain.into_iter().map(|(place, d)| (place, expected::delivery(&d), d.rows)).collect();
+    r.holds(|| format!("{} symbols in pieces deliver something else", recording.len()), told == whole);
 }
 
 fn any_recordings(part: usize, r: &mut Report) {

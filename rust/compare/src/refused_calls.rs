@@ -156,7 +156,7 @@ fn nulls(r: &mut Report) {
         r.answer(|| "judge of nothing".into(), raw::brazulint2_judge(format, from, 0), read);
         let found = expected::find(plain::recording::find(1, 12, &[], 0));
         r.answer(|| "find in nothing".into(), raw::brazulint2_find(format, from, 0, 0), found);
-        let next = expected::next(&plain::recording::next(1, 12, &[], 0, 0), 0, 7920);
+        let next = expected::next(&plain::recording::next(1, 12, &[], 0, 0), 0, 7920, 0);
         r.answer(|| "next in nothing".into(), raw::brazulint2_next(format, from, 0, 0, to, 0), next);
         let split = expected::number(&plain::picture::split(&[], [0, 0]));
         r.answer(|| "split of nothing".into(), raw::brazulint2_split(from, 0, to, 0, to, 0), split);
