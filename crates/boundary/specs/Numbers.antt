@@ -1,5 +1,5 @@
--- Numbers and structs as callers from C give them, and the number of an answer. The paper's definitions take any number, so they get what is
--- given, in full.
+-- Numbers and structs as callers from C give them, and the number of an answer. The paper's definitions take any number, so they get what
+-- is given, in full.
 -- Assumes nothing.
 use Prim.Native.Nat.{ℕ}
 use mathlib.Core.Bool.{Bool, true, false}

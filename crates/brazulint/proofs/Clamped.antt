@@ -32,6 +32,8 @@ use Rattle.way_back.specs.Back.{hasStream, backOf}
 use Rattle.way_back.proofs.Backs.{has-told}
 use Rattle.window.specs.Read.{judgeOf, readOf, rowsRead}
 use Rattle.recording.specs.Call.{findOf, nextOf, afterNext, rowsNext}
+use Rattle.boundary.specs.declared.numbers.FormatNumbers.{FormatNumbers}
+use Rattle.boundary.specs.Numbers.{formatGiven}
 
 -- what is the same for all numbers from a top on is the same for a number and the smaller of it and the top
 pub clamped : {A : Type 0} (g : ℕ → A) (top n : ℕ) → ((m : ℕ) → top ≤ m → g m ≡ g top) → g (min n top) ≡ g n
@@ -101,62 +103,63 @@ unknown-depth number m h = on-test (within 1 3 number) (λ t. simp (t, ten, twel
     twelve : eqb m 12 ≡ false
     twelve = ne-eqb m 12 (λ e. omega arith)
 
+-- a format whose numbers are clamped
+abbrev pub clipped : FormatNumbers → Format
+clipped given = formatFrom (min (given .number) 255) (min (given .depth) 255)
+
 -- what is the same for all unknown formats
-pub format-clamped : {A : Type 0} (g : Format → A) (x : A) → ((f : Format) → isKnown f ≡ false → g f ≡ x) → (number depth : ℕ)
-    → g (formatFrom (min number 255) (min depth 255)) ≡ g (formatFrom number depth)
-format-clamped g x is number depth =
-    clamped-to (λ m. g (formatFrom m (min depth 255))) 255 number x (λ m h. is (formatFrom m (min depth 255)) (unknown-number m (min depth 255) h))
+pub format-clamped : {A : Type 0} (g : Format → A) (x : A) → ((f : Format) → isKnown f ≡ false → g f ≡ x) → (given : FormatNumbers)
+    → g (clipped given) ≡ g (formatGiven given)
+format-clamped g x is given =
+    let number = given .number in
+    let depth = given .depth in
+    let deep = min depth 255 in
+    clamped-to (λ m. g (formatFrom m deep)) 255 number x (λ m h. is (formatFrom m deep) (unknown-number m deep h))
     ∙ clamped-to (λ m. g (formatFrom number m)) 255 depth x (λ m h. is (formatFrom number m) (unknown-depth number m h))
 
-module _ (number depth : ℕ) where
-  abbrev clipped : Format
-  clipped = formatFrom (min number 255) (min depth 255)
-
-  abbrev asGiven : Format
-  asGiven = formatFrom number depth
-
-  pub lengths-clamped : lengthsOf clipped ≡ lengthsOf asGiven
-  lengths-clamped = format-clamped lengthsOf (refused 1 0) (λ f t. simp t) number depth
+module _ (given : FormatNumbers) where
+  pub lengths-clamped : lengthsOf (clipped given) ≡ lengthsOf (formatGiven given)
+  lengths-clamped = format-clamped lengthsOf (refused 1 0) (λ f t. simp t) given
 
   module _ (row : List ℕ) where
-    pub fill-clamped : fillOf clipped row ≡ fillOf asGiven row
-    fill-clamped = format-clamped (λ f. fillOf f row) (refused 1 0) (λ f t. simp t) number depth
+    pub fill-clamped : fillOf (clipped given) row ≡ fillOf (formatGiven given) row
+    fill-clamped = format-clamped (λ f. fillOf f row) (refused 1 0) (λ f t. simp t) given
 
-    pub filled-clamped : filledRow clipped row ≡ filledRow asGiven row
-    filled-clamped = format-clamped (λ f. filledRow f row) row (λ f t. simp t) number depth
+    pub filled-clamped : filledRow (clipped given) row ≡ filledRow (formatGiven given) row
+    filled-clamped = format-clamped (λ f. filledRow f row) row (λ f t. simp t) given
 
   module _ (symbols : List ℕ) where
-    pub judge-clamped : judgeOf clipped symbols ≡ judgeOf asGiven symbols
-    judge-clamped = format-clamped (λ f. judgeOf f symbols) (refused 1 0) (λ f t. simp t) number depth
+    pub judge-clamped : judgeOf (clipped given) symbols ≡ judgeOf (formatGiven given) symbols
+    judge-clamped = format-clamped (λ f. judgeOf f symbols) (refused 1 0) (λ f t. simp t) given
 
-    pub read-clamped : (room : ℕ) → readOf clipped symbols room ≡ readOf asGiven symbols room
-    read-clamped room = format-clamped (λ f. readOf f symbols room) (refused 1 0) (λ f t. simp t) number depth
+    pub read-clamped : (room : ℕ) → readOf (clipped given) symbols room ≡ readOf (formatGiven given) symbols room
+    read-clamped room = format-clamped (λ f. readOf f symbols room) (refused 1 0) (λ f t. simp t) given
 
-    pub rows-clamped : (rows : List ℕ) → rowsRead clipped symbols rows ≡ rowsRead asGiven symbols rows
-    rows-clamped rows = format-clamped (λ f. rowsRead f symbols rows) rows (λ f t. simp t) number depth
+    pub rows-clamped : (rows : List ℕ) → rowsRead (clipped given) symbols rows ≡ rowsRead (formatGiven given) symbols rows
+    rows-clamped rows = format-clamped (λ f. rowsRead f symbols rows) rows (λ f t. simp t) given
 
     module _ (start : ℕ) where
-      pub find-clamped : findOf clipped symbols start ≡ findOf asGiven symbols start
-      find-clamped = format-clamped (λ f. findOf f symbols start) (refused 1 0) (λ f t. simp t) number depth
+      pub find-clamped : findOf (clipped given) symbols start ≡ findOf (formatGiven given) symbols start
+      find-clamped = format-clamped (λ f. findOf f symbols start) (refused 1 0) (λ f t. simp t) given
 
-      pub next-clamped : (room : ℕ) → nextOf clipped symbols start room ≡ nextOf asGiven symbols start room
-      next-clamped room = format-clamped (λ f. nextOf f symbols start room) (refused 1 0) (λ f t. simp t) number depth
+      pub next-clamped : (room : ℕ) → nextOf (clipped given) symbols start room ≡ nextOf (formatGiven given) symbols start room
+      next-clamped room = format-clamped (λ f. nextOf f symbols start room) (refused 1 0) (λ f t. simp t) given
 
-      pub after-clamped : (room : ℕ) → afterNext clipped symbols start room ≡ afterNext asGiven symbols start room
-      after-clamped room = format-clamped (λ f. afterNext f symbols start room) start (λ f t. simp t) number depth
+      pub after-clamped : (room : ℕ) → afterNext (clipped given) symbols start room ≡ afterNext (formatGiven given) symbols start room
+      after-clamped room = format-clamped (λ f. afterNext f symbols start room) start (λ f t. simp t) given
 
-      pub next-rows-clamped : (rows : List ℕ) → rowsNext clipped symbols start rows ≡ rowsNext asGiven symbols start rows
-      next-rows-clamped rows = format-clamped (λ f. rowsNext f symbols start rows) rows (λ f t. simp t) number depth
+      pub next-rows-clamped : (rows : List ℕ) → rowsNext (clipped given) symbols start rows ≡ rowsNext (formatGiven given) symbols start rows
+      next-rows-clamped rows = format-clamped (λ f. rowsNext f symbols start rows) rows (λ f t. simp t) given
 
 -- ---- the way back: a format, a link, a stream and a line
 
-module _ (number depth : ℕ) where
+module _ (given : FormatNumbers) where
   -- where there is no such link, stream or line, the answer does not depend on its number
   abbrev nothing : Format → Answer ImageLine
   nothing f = cond (isKnown f) (refused 2 0) (refused 1 0)
 
   abbrev f : Format
-  f = asGiven number depth
+  f = formatGiven given
 
   refused-by : (link stream n : ℕ) → (hasStream f link stream && isActive n) ≡ false → backOf f link stream n ≡ nothing f
   refused-by link stream n t = on-test (isKnown f) (λ k. rw (k, t)) (λ k. rw k)
@@ -179,15 +182,15 @@ module _ (number depth : ℕ) where
       refused-by link stream m (ap (λ (t : Bool). hasStream f link stream && t) blank ∙ and-false (hasStream f link stream))
 
   back-clamped : (link stream n : ℕ)
-      → backOf (clipped number depth) (min link 65535) (min stream 65535) (min n 65535) ≡ backOf f link stream n
+      → backOf (clipped given) (min link 65535) (min stream 65535) (min n 65535) ≡ backOf f link stream n
   back-clamped link stream n =
-      format-clamped (λ g. backOf g (min link 65535) (min stream 65535) (min n 65535)) (refused 1 0) (λ g t. simp t) number depth
+      format-clamped (λ g. backOf g (min link 65535) (min stream 65535) (min n 65535)) (refused 1 0) (λ g t. simp t) given
       ∙ clamped-to (λ m. backOf f m (min stream 65535) (min n 65535)) 65535 link (nothing f) (no-link (min stream 65535) (min n 65535))
       ∙ clamped-to (λ m. backOf f link m (min n 65535)) 65535 stream (nothing f) (no-stream link (min n 65535))
       ∙ clamped-to (backOf f link stream) 65535 n (nothing f) (no-picture link stream)
 
   -- with what the call is given
-  pub back-asked : {g : Format} {k t l : ℕ} (link stream n : ℕ) → g ≡ clipped number depth → k ≡ min link 65535 → t ≡ min stream 65535
+  pub back-asked : {g : Format} {k t l : ℕ} (link stream n : ℕ) → g ≡ clipped given → k ≡ min link 65535 → t ≡ min stream 65535
       → l ≡ min n 65535 → backOf g k t l ≡ backOf f link stream n
   back-asked link stream n a b c d = rw (a, b, c, d) (back-clamped link stream n)
 
@@ -201,18 +204,18 @@ module _ (d : Disparity) (content : Content) (samples : List ℕ) where
   untouched : (f : Format) (symbols : List ℕ) (m : ℕ) → 65535 ≤ m → sentBuffer d f (request m content samples) symbols ≡ symbols
   untouched f symbols m h = on-test (isKnown f) (λ t. simp (t, no-line m h)) (λ t. simp t)
 
-  module _ (number depth line : ℕ) where
+  module _ (given : FormatNumbers) (line : ℕ) where
     pub send-clamped : (room : ℕ)
-        → sendOf d (clipped number depth) (request (min line 65535) content samples) room
-        ≡ sendOf d (asGiven number depth) (request line content samples) room
+        → sendOf d (clipped given) (request (min line 65535) content samples) room
+        ≡ sendOf d (formatGiven given) (request line content samples) room
     send-clamped room =
-        format-clamped (λ f. sendOf d f (request (min line 65535) content samples) room) (refused 1 0) (λ f t. simp t) number depth
-        ∙ clamped-to (λ n. sendOf d (asGiven number depth) (request n content samples) room) 65535 line _ (lineless (asGiven number depth) room)
+        format-clamped (λ f. sendOf d f (request (min line 65535) content samples) room) (refused 1 0) (λ f t. simp t) given
+        ∙ clamped-to (λ n. sendOf d (formatGiven given) (request n content samples) room) 65535 line _ (lineless (formatGiven given) room)
 
     pub sent-clamped : (symbols : List ℕ)
-        → sentBuffer d (clipped number depth) (request (min line 65535) content samples) symbols
-        ≡ sentBuffer d (asGiven number depth) (request line content samples) symbols
+        → sentBuffer d (clipped given) (request (min line 65535) content samples) symbols
+        ≡ sentBuffer d (formatGiven given) (request line content samples) symbols
     sent-clamped symbols =
-        format-clamped (λ f. sentBuffer d f (request (min line 65535) content samples) symbols) symbols (λ f t. simp t) number depth
-        ∙ clamped-to (λ n. sentBuffer d (asGiven number depth) (request n content samples) symbols) 65535 line symbols
-        (untouched (asGiven number depth) symbols)
+        format-clamped (λ f. sentBuffer d f (request (min line 65535) content samples) symbols) symbols (λ f t. simp t) given
+        ∙ clamped-to (λ n. sentBuffer d (formatGiven given) (request n content samples) symbols) 65535 line symbols
+        (untouched (formatGiven given) symbols)

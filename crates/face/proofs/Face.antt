@@ -111,7 +111,8 @@ module _ (d : Disparity) (f : Format) (a : Request) (entry : List ℕ) where
       let r = sendAnswerOf (sendOf d f a room) in
       Told (r .number) (r .place) (sendRules f a room)
   send-told =
-      crosses-placed sendAnswerOf (λ x. x .number) (λ n p. refl) (λ e. refl) (λ x. x .place) (λ n p. refl) (λ e. refl) (sendOf d f a room) (sendRules f a room)
+      crosses-placed sendAnswerOf (λ x. x .number) (λ n p. refl) (λ e. refl) (λ x. x .place) (λ n p. refl) (λ e. refl) (sendOf d f a room)
+      (sendRules f a room)
       (demand-1 .send d f a entry .0)
 
 -- ---- the content bytes of a call that names them
@@ -202,31 +203,60 @@ face = record {
   decodePositive = λ c h. ap (λ (r : Answer After). decodeAnswerOf r .character) (demand-2 .code Positive c h) ∙ character-answers-laws .characterTold c h;
   decodeAfter = λ c h. rw (demand-2 .code Negative c h) (says _);
   decodeAfterPositive = λ c h. rw (demand-2 .code Positive c h) (says _);
-  decodeTold = λ symbol. crosses decodeAnswerOf (λ a. a .number) (λ n p. refl) (λ a. refl) (decodeOf Negative symbol) (decodeRules Negative symbol) (refl, (refl, tt)) (demand-1 .decode Negative symbol);
-  decodeToldPositive = λ symbol. crosses decodeAnswerOf (λ a. a .number) (λ n p. refl) (λ a. refl) (decodeOf Positive symbol) (decodeRules Positive symbol) (refl, (refl, tt)) (demand-1 .decode Positive symbol);
+  decodeTold = λ symbol.
+      crosses decodeAnswerOf (λ a. a .number) (λ n p. refl) (λ a. refl) (decodeOf Negative symbol)
+      (decodeRules Negative symbol) (refl, (refl, tt))
+      (demand-1 .decode Negative symbol);
+  decodeToldPositive = λ symbol.
+      crosses decodeAnswerOf (λ a. a .number) (λ n p. refl) (λ a. refl) (decodeOf Positive symbol)
+      (decodeRules Positive symbol) (refl, (refl, tt))
+      (demand-1 .decode Positive symbol);
   encodeNegative = λ c h. simp (lt-ltb c 268 h) (refl, refl);
   encodePositive = λ c h. simp (lt-ltb c 268 h) (refl, refl);
   encodeAfter = λ c h. simp (lt-ltb c 268 h) (says _, says _);
   encodeNone = λ positive c h. simp (le-ltb c 268 h);
-  lineWordsTold = λ line. crosses lineWordsAnswerOf (λ a. a .number) (λ n p. refl) (λ a. refl) (numberedOf (line .number)) (lineWordsRules (line .number)) (refl, tt) (demand-1 .lineWords (line .number));
+  lineWordsTold = λ line.
+      crosses lineWordsAnswerOf (λ a. a .number) (λ n p. refl) (λ a. refl) (numberedOf (line .number))
+      (lineWordsRules (line .number)) (refl, tt)
+      (demand-1 .lineWords (line .number));
   lineWords = λ line p q. rw (line-good (line .number) p q) (refl, refl);
-  readLineWordsTold = λ a b. crosses readLineWordsAnswerOf (λ a. a .number) (λ n p. refl) (λ a. refl) (namedOf a b) (readLineWordsRules a b) (refl, (refl, tt)) (demand-1 .readLineWords a b);
+  readLineWordsTold = λ a b.
+      crosses readLineWordsAnswerOf (λ a. a .number) (λ n p. refl) (λ a. refl) (namedOf a b) (readLineWordsRules a b) (refl, (refl, tt))
+      (demand-1 .readLineWords a b);
   readLineWords = λ line p q. ap (λ (r : Answer StreamLine). readLineWordsAnswerOf r .line .number) (read-sent line p q);
-  repairTold = λ word. crosses repairAnswerOf (λ a. a .number) (λ n p. refl) (λ a. refl) (repairOf word) (repairRules word) (refl, (refl, tt)) (demand-1 .repair word);
+  repairTold = λ word.
+      crosses repairAnswerOf (λ a. a .number) (λ n p. refl) (λ a. refl) (repairOf word) (repairRules word) (refl, (refl, tt))
+      (demand-1 .repair word);
   repair = λ word r e. rw e (refl, refl);
-  crccTold = λ words. crosses crccAnswerOf (λ a. a .number) (λ n p. refl) (λ a. refl) (crccOf words) (crccRules words) (refl, tt) (demand-1 .crcc words);
+  crccTold = λ words.
+      crosses crccAnswerOf (λ a. a .number) (λ n p. refl) (λ a. refl) (crccOf words) (crccRules words) (refl, tt)
+      (demand-1 .crcc words);
   crcc = λ words c e. rw e (refl, refl, refl);
-  placeTold = λ line sample. crosses placeAnswerOf (λ a. a .number) (λ n p. refl) (λ a. refl) (placedOf (line .number) sample) (placeRules (line .number) sample) (refl, tt) (demand-1 .place (line .number) sample);
+  placeTold = λ line sample.
+      crosses placeAnswerOf (λ a. a .number) (λ n p. refl) (λ a. refl) (placedOf (line .number) sample)
+      (placeRules (line .number) sample) (refl, tt)
+      (demand-1 .place (line .number) sample);
   place = λ u l j p q r s t. rw (demand-2 .places [] u l j p q r s t .0) (refl, refl, refl, refl);
-  wayBackTold = λ format link stream line. crosses wayBackAnswerOf (λ a. a .number) (λ n p. refl) (λ a. refl) (backOf (formatGiven format) link stream (line .number)) (backRules (formatGiven format) link stream (line .number)) (refl, (refl, tt)) (demand-1 .back (formatGiven format) link stream (line .number));
+  wayBackTold = λ format link stream line.
+      let f = formatGiven format in
+      crosses wayBackAnswerOf (λ a. a .number) (λ n p. refl) (λ a. refl) (backOf f link stream (line .number))
+      (backRules f link stream (line .number)) (refl, (refl, tt))
+      (demand-1 .back f link stream (line .number));
   wayBack = λ format link stream line x e. rw e (refl, refl);
-  splitTold = λ row first second. crosses numberIn (λ n. n) (λ n p. refl) (λ a. refl) (splitOf row first second) (splitRules row first second) (refl, (refl, tt)) (demand-1 .split row first second .0);
+  splitTold = λ row first second.
+      crosses numberIn (λ n. n) (λ n p. refl) (λ a. refl) (splitOf row first second) (splitRules row first second) (refl, (refl, tt))
+      (demand-1 .split row first second .0);
   splitLent = λ row first second. let split = demand-1 .split row first second in (split .1, split .2);
   joinLent = λ first second row. demand-1 .join first second row .1;
-  joinTold = λ first second row. crosses numberIn (λ n. n) (λ n p. refl) (λ a. refl) (joinOf first second row) (joinRules first second row) (refl, (refl, tt)) (demand-1 .join first second row .0);
+  joinTold = λ first second row.
+      crosses numberIn (λ n. n) (λ n p. refl) (λ a. refl) (joinOf first second row) (joinRules first second row) (refl, (refl, tt))
+      (demand-1 .join first second row .0);
   carriesPicture = λ line p q. simp (is-within 42 1121 (line .number) p q);
   carriesBlanking = λ line out. simp (not-within 42 1121 (line .number) out);
-  lengthsTold = λ format. crosses lengthsAnswerOf (λ a. a .number) (λ n p. refl) (λ a. refl) (lengthsOf (formatGiven format)) (lengthsRules (formatGiven format)) (refl, tt) (demand-1 .lengths (formatGiven format));
+  lengthsTold = λ format.
+      crosses lengthsAnswerOf (λ a. a .number) (λ n p. refl) (λ a. refl) (lengthsOf (formatGiven format))
+      (lengthsRules (formatGiven format)) (refl, tt)
+      (demand-1 .lengths (formatGiven format));
   lengths = λ format known.
       let f = formatGiven format in
       rw (lengths-given f (known-says f .holds known))
@@ -245,19 +275,26 @@ face = record {
       (sent-from Negative f a symbols, sent-from Positive f a symbols);
   contentSent = λ format line positive content samples symbols.
       content-sent (disparityFrom positive) (formatGiven format) (line .number) content samples symbols;
-  fillBlankingTold = λ format row. crosses numberIn (λ n. n) (λ n p. refl) (λ a. refl) (fillOf (formatGiven format) row) (fillRules (formatGiven format) (length row)) (refl, (refl, tt)) (demand-1 .fill (formatGiven format) row .0);
+  fillBlankingTold = λ format row.
+      crosses numberIn (λ n. n) (λ n p. refl) (λ a. refl) (fillOf (formatGiven format) row)
+      (fillRules (formatGiven format) (length row)) (refl, (refl, tt))
+      (demand-1 .fill (formatGiven format) row .0);
   fillBlankingLent = λ format row. demand-1 .fill (formatGiven format) row .1;
   readLent = λ format symbols rows. demand-1 .read (formatGiven format) symbols rows .1;
   readTold = λ format symbols rows.
-      crosses-placed readAnswerOf (λ a. a .number) (λ n p. refl) (λ a. refl) (λ a. a .place) (λ n p. refl) (λ a. refl) (readOf (formatGiven format) symbols (length rows)) (readRules (formatGiven format) symbols (length rows))
+      crosses-placed readAnswerOf (λ a. a .number) (λ n p. refl) (λ a. refl) (λ a. a .place) (λ n p. refl) (λ a. refl) (readOf (formatGiven format) symbols (length rows))
+      (readRules (formatGiven format) symbols (length rows))
       (demand-1 .read (formatGiven format) symbols rows .0);
   read = λ format symbols rows d e. rw e (values d);
   judgeTold = λ format symbols.
-      crosses-placed readAnswerOf (λ a. a .number) (λ n p. refl) (λ a. refl) (λ a. a .place) (λ n p. refl) (λ a. refl) (judgeOf (formatGiven format) symbols) (judgeRules (formatGiven format) symbols)
+      crosses-placed readAnswerOf (λ a. a .number) (λ n p. refl) (λ a. refl) (λ a. a .place) (λ n p. refl) (λ a. refl) (judgeOf (formatGiven format) symbols)
+      (judgeRules (formatGiven format) symbols)
       (demand-1 .judge (formatGiven format) symbols);
   judge = λ format symbols d e. rw e (values d);
   findTold = λ format symbols start.
-      crosses findAnswerOf (λ a. a .number) (λ n p. refl) found-good (findOf (formatGiven format) symbols start) (findRules (formatGiven format) symbols start) (refl, (refl, (refl, tt))) (demand-1 .find (formatGiven format) symbols start);
+      crosses findAnswerOf (λ a. a .number) (λ n p. refl) found-good (findOf (formatGiven format) symbols start)
+      (findRules (formatGiven format) symbols start) (refl, (refl, (refl, tt)))
+      (demand-1 .find (formatGiven format) symbols start);
   findAt = λ format symbols start place e. rw e (refl, refl);
   findNone = λ format symbols start e. rw e refl;
   nextTold = λ format symbols start rows.

@@ -31,7 +31,12 @@ use Rattle.boundary.proofs.Told.{through, answerBy}
 placeBack : PlaceAnswer → Answer Place
 placeBack p =
     answerBy (p .number) 0
-    (record { image = p .image; line = record { 0 = p .«image_line» }; stream = record { 0 = p .«stream_line» .number }; sample = p .sample })
+    (record {
+      image = p .image;
+      line = record { 0 = p .«image_line» };
+      stream = record { 0 = p .«stream_line» .number };
+      sample = p .sample;
+    })
 
 pub place-told : Injective (λ (r : Placed). placeAnswerOf (paperPlaced r))
 unfolding placeBack

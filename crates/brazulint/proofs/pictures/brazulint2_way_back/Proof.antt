@@ -34,7 +34,7 @@ returns c =
     let l = c .before .before .stream-line-from .ensures in
     c .way-back-answer .ensures
     ∙ ap wayBackAnswerOf
-    (c .before .picture-line-of .ensures ∙ back-asked (a .format .number) (a .format .depth) (a .link) (a .stream) (a .line .number) f k t l)
+    (c .before .picture-line-of .ensures ∙ back-asked (a .format) (a .link) (a .stream) (a .line .number) f k t l)
 
 pub brazulint2-way-back-spec : {M : Type 1} → statement M
 brazulint2-way-back-spec =

@@ -26,7 +26,7 @@ returns c =
     ∙ ap findAnswerOf
     (c .before .find .ensures
     ∙ ap (λ (g : Format). findOf g (a .symbols .now) (a .start)) f
-    ∙ find-clamped (a .format .number) (a .format .depth) (a .symbols .now) (a .start))
+    ∙ find-clamped (a .format) (a .symbols .now) (a .start))
 
 pub brazulint2-find-spec : {M : Type 1} → statement M
 brazulint2-find-spec =

@@ -32,13 +32,13 @@ returns c =
           ∙ ap₂ nextAnswerOf
           (e .0
           ∙ ap (λ (g : Format). nextOf g (a .symbols .now) (a .start) room) f
-          ∙ next-clamped (a .format .number) (a .format .depth) (a .symbols .now) (a .start) room)
+          ∙ next-clamped (a .format) (a .symbols .now) (a .start) room)
           (e .1 .0
           ∙ ap (λ (g : Format). afterNext g (a .symbols .now) (a .start) room) f
-          ∙ after-clamped (a .format .number) (a .format .depth) (a .symbols .now) (a .start) room),
+          ∙ after-clamped (a .format) (a .symbols .now) (a .start) room),
       e .1 .1
           ∙ ap (λ (g : Format). rowsNext g (a .symbols .now) (a .start) (a .rows .now)) f
-          ∙ next-rows-clamped (a .format .number) (a .format .depth) (a .symbols .now) (a .start) (a .rows .now),
+          ∙ next-rows-clamped (a .format) (a .symbols .now) (a .start) (a .rows .now),
     )
 
 pub brazulint2-next-spec : {M : Type 1} → statement M

@@ -27,8 +27,8 @@ returns c =
     let f = c .before .before .before .before .before .format-from .ensures in
     let e = c .before .before .before .fill-blanking .ensures in (
       c .filled-number .ensures
-          ∙ ap numberIn (e .0 ∙ ap (λ (g : Format). fillOf g (a .row .now)) f ∙ fill-clamped (a .format .number) (a .format .depth) (a .row .now)),
-      e .1 ∙ ap (λ (g : Format). filledRow g (a .row .now)) f ∙ filled-clamped (a .format .number) (a .format .depth) (a .row .now),
+          ∙ ap numberIn (e .0 ∙ ap (λ (g : Format). fillOf g (a .row .now)) f ∙ fill-clamped (a .format) (a .row .now)),
+      e .1 ∙ ap (λ (g : Format). filledRow g (a .row .now)) f ∙ filled-clamped (a .format) (a .row .now),
     )
 
 pub brazulint2-fill-blanking-spec : {M : Type 1} → statement M

@@ -24,7 +24,7 @@ returns c =
     let f = c .before .before .format-from .ensures in
     c .read-answer .ensures
     ∙ ap readAnswerOf
-    (c .before .judge .ensures ∙ ap (λ (g : Format). judgeOf g (a .symbols .now)) f ∙ judge-clamped (a .format .number) (a .format .depth) (a .symbols .now))
+    (c .before .judge .ensures ∙ ap (λ (g : Format). judgeOf g (a .symbols .now)) f ∙ judge-clamped (a .format) (a .symbols .now))
 
 pub brazulint2-judge-spec : {M : Type 1} → statement M
 brazulint2-judge-spec =

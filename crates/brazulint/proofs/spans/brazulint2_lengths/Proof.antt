@@ -22,7 +22,7 @@ returns c =
     let a = c .before .before .before .args in
     let f = c .before .before .format-from .ensures in
     c .lengths-answer .ensures
-    ∙ ap lengthsAnswerOf (c .before .lengths-of .ensures ∙ ap lengthsOf f ∙ lengths-clamped (a .format .number) (a .format .depth))
+    ∙ ap lengthsAnswerOf (c .before .lengths-of .ensures ∙ ap lengthsOf f ∙ lengths-clamped (a .format))
 
 pub brazulint2-lengths-spec : {M : Type 1} → statement M
 brazulint2-lengths-spec =

@@ -31,10 +31,10 @@ returns c =
           ∙ ap readAnswerOf
           (e .0
           ∙ ap (λ (g : Format). readOf g (a .symbols .now) (length (a .rows .now))) f
-          ∙ read-clamped (a .format .number) (a .format .depth) (a .symbols .now) (length (a .rows .now))),
+          ∙ read-clamped (a .format) (a .symbols .now) (length (a .rows .now))),
       e .1
           ∙ ap (λ (g : Format). rowsRead g (a .symbols .now) (a .rows .now)) f
-          ∙ rows-clamped (a .format .number) (a .format .depth) (a .symbols .now) (a .rows .now),
+          ∙ rows-clamped (a .format) (a .symbols .now) (a .rows .now),
     )
 
 pub brazulint2-read-spec : {M : Type 1} → statement M

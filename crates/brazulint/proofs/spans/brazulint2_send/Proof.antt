@@ -40,15 +40,16 @@ returns c =
     let k = c .before .before .before .before .before .content-from .ensures in
     let e = c .before .before .before .send .ensures in
     let content = contentFrom (a .asked .named) (a .asked .content) in
+    let before = disparityFrom (a .asked .positive) in
     let line = a .asked .line .number in (
       c .send-answer .ensures
           ∙ ap sendAnswerOf
           (e .0
           ∙ same-answer (a .samples .now) d f l k (length (a .symbols .now))
-          ∙ send-clamped (disparityFrom (a .asked .positive)) content (a .samples .now) (a .format .number) (a .format .depth) line (length (a .symbols .now))),
+          ∙ send-clamped before content (a .samples .now) (a .format) line (length (a .symbols .now))),
       e .1
           ∙ same-buffer (a .samples .now) d f l k (a .symbols .now)
-          ∙ sent-clamped (disparityFrom (a .asked .positive)) content (a .samples .now) (a .format .number) (a .format .depth) line (a .symbols .now),
+          ∙ sent-clamped before content (a .samples .now) (a .format) line (a .symbols .now),
     )
 
 pub brazulint2-send-spec : {M : Type 1} → statement M
