@@ -51,7 +51,7 @@
  *   nothing costs about COST whatever its size, and then what it looks at: nothing is looked at twice. So pieces of a span or more cost
  *   nothing, and pieces of a few symbols cost a call each.
  * - After "none" the rows are old. A line that did not come leaves the row of an earlier picture wherever you show it: blank it.
- * - One thread for each link: calls share nothing. A thread needs BRAZULINT_STACK bytes of stack, with room for the C library's own.
+ * - One thread for each link: calls share nothing. A thread needs BRAZULINT_STACK bytes of stack, and what it takes besides.
  *
  * INTERFACES
  *
@@ -192,8 +192,8 @@ typedef struct {
 #define BRAZULINT_MOST_SYMBOLS 19008
 #define BRAZULINT_LIMIT 2097152
 
-/* Bytes of stack for a thread that makes any of the calls, with room for what the C library takes. */
-#define BRAZULINT_STACK 65536
+/* The bytes of stack of a thread that makes any of the calls; what the thread does besides comes on top. */
+#define BRAZULINT_STACK 40960
 
 /* A line of a stream, 1 to 1125; of these 42 to 1121 carry lines of a picture. */
 typedef struct {

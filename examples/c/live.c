@@ -17,7 +17,7 @@
 #include <stdlib.h>
 #include <string.h>
 
-enum { MOST_BYTES = 1 << 20, LINES = 1125 };
+enum { MOST_BYTES = 1 << 20, LINES = 1125, PRINTING = 24 * 1024 };
 
 /* What has arrived of a link and is kept. Places are counted in all that arrived. */
 typedef struct {
@@ -82,13 +82,13 @@ static uint32_t take_spans(live_link *link) {
         link->start = next.resume;
     } while (next.found);
 
-    tell_lost(link, link->given_up + link->start); /* no span begins before `start`, whatever arrives later */
-    size_t keep = link->start;
-    if (link->told < link->given_up + keep) keep = link->told - link->given_up; /* what is still to be judged */
-    link->count -= keep;
-    memmove(link->symbols, link->symbols + keep, link->count * sizeof *link->symbols);
-    link->start -= keep;
-    link->given_up += keep;
+    size_t gone = link->start; /* no span begins before it, whatever arrives later */
+    tell_lost(link, link->given_up + gone);
+    if (link->told < link->given_up + gone) gone = link->told - link->given_up; /* the rest is still to be judged */
+    link->count -= gone;
+    memmove(link->symbols, link->symbols + gone, link->count * sizeof *link->symbols);
+    link->start -= gone;
+    link->given_up += gone;
     return 0;
 }
 /* end */
@@ -133,6 +133,7 @@ static void *run(void *argument) {
     link.shown = calloc((LINES + 1) * link.samples, sizeof *link.shown);
     if (link.symbols == NULL || link.rows == NULL || link.shown == NULL) exit(1);
     t->number = receive(&link, t->most);
+    tell_lost(&link, link.given_up + link.count);
     printf("the end, after %" PRIu64 " symbols\n", link.given_up + link.count);
     free(link.symbols);
     free(link.rows);
@@ -140,7 +141,7 @@ static void *run(void *argument) {
     return NULL;
 }
 
-/* One thread for each link: nothing is shared between them, and none needs more stack than this. */
+/* One thread for each link: nothing is shared between them. Beside the library's stack there is some for printing. */
 int main(int count, char **arguments) {
     task t = {.most = count > 1 ? strtoul(arguments[1], NULL, 10) : 65536};
     if (t.most < 1 || t.most > MOST_BYTES) {
@@ -149,7 +150,7 @@ int main(int count, char **arguments) {
     }
     pthread_t thread;
     pthread_attr_t attributes;
-    if (pthread_attr_init(&attributes) != 0 || pthread_attr_setstacksize(&attributes, BRAZULINT_STACK) != 0) return 1;
+    if (pthread_attr_init(&attributes) != 0 || pthread_attr_setstacksize(&attributes, BRAZULINT_STACK + PRINTING) != 0) return 1;
     if (pthread_create(&thread, &attributes, run, &t) != 0 || pthread_join(thread, NULL) != 0) return 1;
     if (t.number != 0) fprintf(stderr, "refused %" PRIu32 ": %s\n", t.number, brazulint_refusal_text(t.number));
     return t.number != 0;
