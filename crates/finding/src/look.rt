@@ -1,14 +1,12 @@
-// The quick look: each symbol is examined once, at the speed of memory.
+// The search for places at which a span may begin. A window that is accepted has K28.5 at its first two symbols and at no other (test 20),
+// so the last K28.5 of a window says how far the search may go on.
 ghost use mathlib.Core.Path.{_≡_};
 ghost use Prim.Native.Nat.{_+_, _≤_};
 ghost use lib.ListN.{length};
-ghost use Rattle.recording.specs.Inside.Look.{commaIn, gathered, commaAt, commaPair, lookAhead, mayBegin, LookInv};
+ghost use Rattle.recording.specs.Inside.Look.{commaIn, gathered, commaAt, beginsAt, MayBegin, LookInv, LastInv};
 
 // Symbols that are examined together. The number is a constant, so that the compiler unrolls the loop over them.
 const PIECE: usize = 64;
-
-// Symbols after a start that are examined before a span is read, so that starts close to each other do not cost a span each.
-const NEAR: usize = 128;
 
 // 1 for K28.5 in either form, else 0.
 fn comma(s: u16) -> u16
@@ -24,7 +22,7 @@ fn comma(s: u16) -> u16
 }
 
 // 0 only if none of `count` symbols is K28.5. None is tested by itself, so that the loop has one exit.
-pub(crate) fn commas(symbols: &[u16], from: usize, count: usize) -> u16
+fn commas(symbols: &[u16], from: usize, count: usize) -> u16
     requires { ⌜ from + count ≤ length (now symbols) ⌝ }
     ensures { λ r. ⌜ r ≡ gathered count (commaAt (now (symbols .entry)) from) ⌝ }
 {
@@ -37,68 +35,62 @@ pub(crate) fn commas(symbols: &[u16], from: usize, count: usize) -> u16
     found
 }
 
-// 0 only if no two in a row are K28.5: so nearly everywhere in noise, even where K28.5 is in it.
-fn twice(symbols: &[u16], from: usize, count: usize) -> u16
-    requires { ⌜ from + count + 1 ≤ length (now symbols) ⌝ }
-    ensures { λ r. ⌜ r ≡ gathered count (commaPair (now (symbols .entry)) from) ⌝ }
-{
-    let mut found = 0;
-    let mut k = 0;
-    while k < count {
-        found = found | comma(symbols[from + k]) & comma(symbols[from + k + 1]);
-        k += 1;
-    }
-    found
-}
-
-// Whether a span may begin at a place: K28.5 is there twice, and not again soon after. The third symbol is tested by itself first, so that
-// a run of K28.5 is passed over quickly.
-fn may_begin(symbols: &[u16], i: usize) -> bool
-    requires { ⌜ i + 2 + lookAhead ≤ length (now symbols) ⌝ }
-    ensures { λ r. ⌜ r ≡ mayBegin (now (symbols .entry)) i ⌝ }
+// Whether K28.5 is at a place and at the next.
+pub(crate) fn begins(symbols: &[u16], i: usize) -> bool
+    requires { ⌜ i + 2 ≤ length (now symbols) ⌝ }
+    ensures { λ r. ⌜ r ≡ beginsAt (now (symbols .entry)) i ⌝ }
 {
     if comma(symbols[i]) == 1 {
-        if comma(symbols[i + 1]) == 1 {
-            if comma(symbols[i + 2]) == 0 {
-                return commas(symbols, i + 2, NEAR) == 0;
-            }
-        }
+        return comma(symbols[i + 1]) == 1;
     }
     false
 }
 
-// The first place in a range at which a span may begin; the end of the range if there is none.
-fn look_in(symbols: &[u16], from: usize, to: usize) -> usize
-    requires { ⌜ to + 2 + lookAhead ≤ length (now symbols) ⌝ }
-    ensures { λ q. ⌜ LookInv (now (symbols .entry)) from q ⌝ }
+// The place after the last K28.5 of a range, searched for from the end; the beginning of the range if there is none.
+fn after_last_in(symbols: &[u16], from: usize, to: usize) -> usize
+    requires { ⌜ from ≤ to ⌝ }
+    requires { ⌜ to ≤ length (now symbols) ⌝ }
+    ensures { λ k. ⌜ LastInv (now (symbols .entry)) from to k ⌝ }
 {
-    let mut i = from;
-    while i < to {
-        if may_begin(symbols, i) {
-            return i;
+    let mut k = to;
+    while from < k {
+        if comma(symbols[k - 1]) == 1 {
+            return k;
         }
-        i += 1;
+        k -= 1;
     }
-    i
+    k
 }
 
-// The same, piece by piece: most have no K28.5. The last piece may extend beyond the end.
-pub(crate) fn look(symbols: &[u16], from: usize, to: usize) -> usize
-    requires { ⌜ to + 66 + lookAhead ≤ length (now symbols) ⌝ }
-    ensures { λ q. ⌜ LookInv (now (symbols .entry)) from q ⌝ }
+// The same, piece by piece as long as there is none.
+fn after_last(symbols: &[u16], from: usize, to: usize) -> usize
+    requires { ⌜ from ≤ to ⌝ }
+    requires { ⌜ to ≤ length (now symbols) ⌝ }
+    ensures { λ k. ⌜ LastInv (now (symbols .entry)) from to k ⌝ }
 {
-    let mut i = from;
-    while i < to {
-        let end = i + PIECE;
-        if commas(symbols, i, PIECE) != 0 {
-            if twice(symbols, i, PIECE) != 0 {
-                let q = look_in(symbols, i, end);
-                if q < end {
-                    return q;
-                }
-            }
+    let mut k = to;
+    while PIECE <= k - from {
+        if commas(symbols, k - PIECE, PIECE) != 0 {
+            return after_last_in(symbols, from, k);
         }
-        i = end;
+        k -= PIECE;
     }
-    i
+    after_last_in(symbols, from, k)
+}
+
+// The next place after i at which a span may begin, as far as window i tells. Where K28.5 stands behind its first two symbols, nothing begins
+// at i, nor before the place before the last of them; where none does, nothing else begins in the window, and its end is answered.
+pub(crate) fn pass(symbols: &[u16], i: usize, n: usize) -> usize
+    requires { ⌜ 3 ≤ n ⌝ }
+    requires { ⌜ i + n ≤ length (now symbols) ⌝ }
+    ensures passed { λ q. ⌜ LookInv n (now (symbols .entry)) (i + 1) q ⌝ }
+    ensures inside { λ q. ⌜ q ≤ i + n ⌝ }
+    ensures other { λ q. ⌜ ((q ≡ i + n → ⊥) → MayBegin n (now (symbols .entry)) i → ⊥) ⌝ }
+{
+    let end = i + n;
+    let k = after_last(symbols, i + 2, end);
+    if k == i + 2 {
+        return end;
+    }
+    k - 2
 }

@@ -1,3 +1,4 @@
+pub mod Accepted
 pub mod Laws
 pub mod OneToOne
 pub mod Picturing

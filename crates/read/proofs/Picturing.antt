@@ -36,7 +36,7 @@ use Rattle.read_test21_26.specs.Inside.Holds.{picture25, fill26, wrongIn}
 use Rattle.read_test21_26.specs.Inside.Picture.{allAllowed}
 use Rattle.read_test21_26.specs.declared.service.Verdict.{Verdict}
 use Rattle.read_test21_26.specs.declared.service.Verdict.the-variants.{AllHold}
-use Rattle.read_test21_26.specs.Inside.Verdict.{verdictOf, firstRow}
+use Rattle.read_test21_26.specs.Inside.Verdict.{verdictOf, isFailed, firstRow}
 use Rattle.window.specs.Inside.Window.{IsWindow}
 use Rattle.window.proofs.Windows.{length-rows}
 use Rattle.read.specs.Inside.Picture.{pictureTests, rightPicture}
@@ -259,3 +259,26 @@ module _ (f : Format) (w : List ℕ) (is : IsWindow f w) where
   pub picture-fails : {v : Verdict} → rightPicture f (lineRead s word) (pictureOf f w) ≡ false → v ≡ verdictOf 25 (wrong25 f w) AllHold
       → v ≡ firstRow (pictureTests f w)
   picture-fails t e = e ∙ wrong-25 (verdictOf 26 fails26 AllHold) t
+
+  -- ---- that they do not hold, without a place
+  first-failed : (number : ℕ) (rest : Verdict) (o : Option ℕ) → (o ≡ none → ⊥) → isFailed (verdictOf number o rest) ≡ true
+  first-failed number rest none x = absurd (x refl)
+  first-failed number rest (some k) x = refl
+
+  rest-failed : (number : ℕ) (rest : Verdict) (o : Option ℕ) → isFailed rest ≡ true → isFailed (verdictOf number o rest) ≡ true
+  rest-failed number rest none t = t
+  rest-failed number rest (some k) t = refl
+
+  pub picture-refused : rightPicture f (lineRead s word) (pictureOf f w) ≡ false → isFailed (firstRow (pictureTests f w)) ≡ true
+  unfolding pictureOf
+  picture-refused t =
+      first-failed 25 (verdictOf 26 fails26 AllHold) fails25
+      (λ e.
+      on-test (isActive (lineRead s word)) (λ a. true≢false (sym (none-wrong (sym (active-25 a) ∙ e)) ∙ rw a at t))
+      (λ a. true≢false (rw a at t)))
+
+  pub fill-refused : fillRight (shapeOf f) w ≡ false → isFailed (firstRow (pictureTests f w)) ≡ true
+  fill-refused t =
+      rest-failed 25 (verdictOf 26 fails26 AllHold) fails25
+      (first-failed 26 AllHold fails26
+      (λ e. true≢false (sym (looked-26 ∙ ap (λ (o : Option ℕ). not (isSome o)) (sym fill-26 ∙ e)) ∙ t)))

@@ -16,7 +16,7 @@ ghost use Rattle.window.specs.Inside.Window.{IsWindow};
 ghost use Rattle.read.specs.Inside.Picture.{pictureTests, wrongPlace, rightPicture};
 
 // Whether every word of the picture may be a sample's; on a blanking line any word may.
-fn picture_is_right(f: Format, line: StreamLine, rows: &[u16]) -> bool
+pub(crate) fn picture_is_right(f: Format, line: StreamLine, rows: &[u16]) -> bool
     ensures { λ r. ⌜ r ≡ rightPicture f (line .0) (now (rows .entry)) ⌝ }
 {
     if line::stream::is_active(line) {

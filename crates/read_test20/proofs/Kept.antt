@@ -8,9 +8,8 @@ use mathlib.Core.Option.{Option, none, some}
 use Prim.Native.Nat.{ℕ, _+_, _/_, _%_, _≤_, _<_}
 use native.Mathlib.Numerals.{add-one}
 use native.Mathlib.Omega.{arith}
-use lib.Dec.{eqb}
-use lib.ListN.{length, replicate}
-use borrow.Author.Tests.{eq-eqb, ne-eqb, not-false}
+use lib.ListN.{length}
+use borrow.Author.Tests.{not-false}
 use Rattle.ground.specs.Range.{within}
 use Rattle.ground.specs.Search.{firstBelow, isSome}
 use Rattle.ground.proofs.Ranges.{from-low, to-high}
@@ -24,20 +23,16 @@ use Rattle.symbol.proofs.Ones.{symbol-below}
 use Rattle.decoder.specs.Inside.Mask.{maskOf}
 use Rattle.read_test20.proofs.Window.{same-test, kind-sav, kind-eav, kind-byte}
 use Rattle.span.specs.declared.format.Shape.{Shape}
-use Rattle.span.specs.Format.{streams, eavAt}
+use Rattle.span.specs.Format.{eavAt}
 use Rattle.crcc.specs.declared.sums.Sums.{Sums}
 use Rattle.window.specs.Inside.Columns.{sumsOf}
 use Rattle.window.specs.Inside.Fill.{fillRight}
-use Rattle.window.specs.Tests.{rows as rowsOf}
-use Rattle.window.specs.Words.{wordAt}
 use Rattle.window.specs.Scan.{meant, symbolAt, startOf, runningAt, fits, holds20}
 use Rattle.window.proofs.Symbols.{some-meant, legal-told, running-on}
-use Rattle.read_test20.specs.declared.whole.Taken.{Taken}
-use Rattle.read_test20.specs.declared.whole.Taken.the-variants.{Whole, Invalid}
 use Rattle.read_test20.specs.declared.whole.Valid.{Valid}
 use Rattle.read_test20.specs.Inside.Run.{suits, place20}
 use Rattle.read_test20.specs.Inside.See.{TenBits, AreBytes, maskBy}
-use Rattle.read_test20.specs.Inside.Whole.{Twice, AllHold, validOf, takenOf, rowsTaken}
+use Rattle.read_test20.specs.Inside.Whole.{Twice, AllHold, validOf}
 
 -- ---- a special character
 
@@ -134,7 +129,7 @@ bytes-in b h l = record { each = λ j n m. b .each j (omega arith) (omega arith)
 
 -- ---- the answer
 
-all-right : (p : Shape) (w : List ℕ) → place20 p w ≡ length w → AllHold p w
+pub all-right : (p : Shape) (w : List ℕ) → place20 p w ≡ length w → AllHold p w
 unfolding place20
 all-right p w e = go (firstBelow (length w) (λ i. not (holds20 p w i))) refl
   where
@@ -142,28 +137,10 @@ all-right p w e = go (firstBelow (length w) (λ i. not (holds20 p w i))) refl
     go none q = record { each = λ j h. not-false (holds20 p w j) (miss (λ i. not (holds20 p w i)) (length w) q .never j (omega arith) h) }
     go (some k) q = let at : k ≡ length w = rw q at e in absurd (omega (arith, hit (λ i. not (holds20 p w i)) (length w) k q .below))
 
--- a window that is not whole, and one that is
-module _ (p : Shape) (w : List ℕ) where
-  module _ (not-all : AllHold p w → ⊥) where
-    some-wrong : eqb (place20 p w) (length w) ≡ false
-    some-wrong = ne-eqb (place20 p w) (length w) (λ e. not-all (all-right p w e))
-
-    pub is-fault : {r : Taken} → r ≡ Invalid (place20 p w) → r ≡ takenOf p w
-    is-fault e = e ∙ rw some-wrong
-
-    pub are-zero : {rows : List ℕ} (entry : List ℕ) (n : ℕ) → rows ≡ replicate n 0 → n ≡ length entry → rows ≡ rowsTaken p w entry
-    are-zero entry n e long = e ∙ rw (some-wrong, long)
-
-  module _ (all : place20 p w ≡ length w) where
-    pub is-whole : {r : Taken} {v : Valid} → r ≡ Whole v → v ≡ validOf p w → r ≡ takenOf p w
-    is-whole e q = e ∙ rw (eq-eqb (place20 p w) (length w) all) (ap Whole q)
-
-    pub are-picture : {rows : List ℕ} (entry : List ℕ) → rows ≡ rowsOf (streams p) (wordAt p w) → rows ≡ rowsTaken p w entry
-    are-picture entry e = e ∙ rw (eq-eqb (place20 p w) (length w) all)
-
-    pub is-valid : {a : Bool} {b c : Disparity} {d : Sums} → a ≡ fillRight p w → b ≡ startOf w → c ≡ runningAt w (place20 p w) → d ≡ sumsOf p w
-        → record { filled = a; before = b; after = c; sums = d } ≡ validOf p w
-    is-valid ea eb ec ed = rw (ea, eb, ec, ed, all)
+-- what is known of one that is
+pub is-valid : (p : Shape) (w : List ℕ) → place20 p w ≡ length w → {a : Bool} {b c : Disparity} {d : Sums} → a ≡ fillRight p w → b ≡ startOf w
+    → c ≡ runningAt w (place20 p w) → d ≡ sumsOf p w → record { filled = a; before = b; after = c; sums = d } ≡ validOf p w
+is-valid p w all ea eb ec ed = rw (ea, eb, ec, ed, all)
 
 -- two tests, each of which holds where the other does
 pub agree : (a b : Bool) → (a ≡ true → b ≡ true) → (b ≡ true → a ≡ true) → a ≡ b

@@ -2,6 +2,7 @@ pub mod Blanks
 pub mod Gathering
 pub mod Getting
 pub mod Kept
+pub mod Passing
 pub mod Runs
 pub mod Seeing
 pub mod Streams

@@ -13,7 +13,7 @@ const K28_5: u16 = 261;
 const K29_7: u16 = 266;
 
 // The disparity whose K28.5 is symbol 0.
-fn start_of(symbols: &[u16]) -> Disparity
+pub(crate) fn start_of(symbols: &[u16]) -> Disparity
     ensures { λ r. ⌜ r ≡ startOf (now (symbols .entry)) ⌝ }
 {
     if 0 < symbols.len() {
@@ -78,14 +78,4 @@ pub(crate) fn first_wrong(
         }
     }
     i
-}
-
-// The same from the beginning.
-pub(crate) fn first_wrong_of_all(t: &[u16; 1024], p: Shape, symbols: &[u16]) -> usize
-    requires { ⌜ now t ≡ decodingTable ⌝ }
-    requires { ⌜ p .«stream_pairs» ≤ 2 ⌝ }
-    ensures { λ r. ⌜ r ≡ place20 p (now (symbols .entry)) ⌝ }
-{
-    let before = start_of(symbols);
-    first_wrong(t, p, symbols, 0, decoder::mask::mask_of(before))
 }

@@ -8,19 +8,19 @@ use symbol::disparity::Disparity;
 ghost use mathlib.Core.Path.{_≡_};
 ghost use mathlib.Core.Bool.{true, false};
 ghost use Prim.Native.Nat.{_+_, _-_, _*_, _%_, _≤_};
-ghost use lib.ListN.{length, replicate};
+ghost use lib.ListN.{length};
 ghost use Rattle.decoder.specs.Inside.Decoder.{decodingTable};
 ghost use Rattle.decoder.specs.Inside.Mask.{maskOf, ofMask};
-ghost use Rattle.span.specs.Format.{samplesIn};
+ghost use Rattle.span.specs.Format.{shapeOf, samplesIn};
 ghost use Rattle.span.specs.Inside.Layout.{eavSymbol, ancillarySymbol};
-ghost use Rattle.window.specs.Scan.{runningAt};
+ghost use Rattle.window.specs.Scan.{startOf, runningAt};
 ghost use Rattle.window.specs.Inside.Fill.{fillRight};
 ghost use Rattle.window.specs.Inside.Given.{Given};
-ghost use Rattle.read_test20.specs.declared.whole.Taken.the-variants.{Invalid};
+ghost use Rattle.read_test20.specs.declared.whole.Outcome.the-variants.{Faulty};
 ghost use Rattle.read_test20.specs.Inside.Blank.{AreBlank};
 ghost use Rattle.read_test20.specs.Inside.Run.{RunInv, ScanInv, place20};
 ghost use Rattle.read_test20.specs.Inside.See.{TenBits, AreBytes, maskBy};
-ghost use Rattle.read_test20.specs.Inside.Whole.{Twice, AllHold, takenOf, rowsTaken, takenIf, rowsIf, Begun, EavHolds, Tied, RunTo, Ending};
+ghost use Rattle.read_test20.specs.Inside.Whole.{Twice, AllHold, PassedWindow, PassedIf, takenIf, rowsIf, wholeIn, wholeIf, rowsWhole, Begun, EavHolds, Tied, RunTo, Ending};
 
 // What is known of a window whose symbols are all valid.
 pub struct Valid {
@@ -39,6 +39,29 @@ pub enum Taken {
     // The first symbol that is not; the rows are all zero.
     Invalid(usize),
     // Not a window of a known format, or not rows of its length: nothing was examined, and the rows are as they were.
+    NotExamined,
+}
+
+// The same for who asks only whether all symbols are valid.
+pub enum Examined {
+    // They are, and the rows have the picture.
+    Whole(Valid),
+    // They are not, or nothing was examined; the rows may hold anything.
+    Refused,
+}
+
+// How far test 20 is known to hold.
+pub(crate) struct Reached {
+    // At every symbol before this one.
+    pub(crate) place: usize,
+    // The mask bit of the disparity there.
+    pub(crate) mask: u16,
+}
+
+// What the single pass finds.
+pub(crate) enum Outcome {
+    Whole(Valid),
+    Faulty(Reached),
     NotExamined,
 }
 
@@ -195,49 +218,38 @@ fn mask_by(flips: u32) -> u16
     (1536 - flips / 2048 % 4 * 512) as u16
 }
 
-// For a window with an invalid symbol: its place, searched for from the beginning.
-fn fault_somewhere(t: &[u16; 1024], p: Shape, symbols: &[u16], rows: &mut [u16]) -> Taken
-    requires { ⌜ now t ≡ decodingTable ⌝ }
-    requires { ⌜ p .«stream_pairs» ≤ 2 ⌝ }
-    ensures place { λ r. ⌜ r ≡ Invalid (place20 p (now (symbols .entry))) ⌝ }
-    ensures rows { λ _. ⌜ now (rows .exit) ≡ replicate (length (now (rows .entry))) 0 ⌝ }
+// A fault before which nothing is known.
+fn fault_from_start(symbols: &[u16]) -> Outcome
+    ensures { λ r. ⌜ r ≡ Faulty (record { place = 0; mask = maskOf (startOf (now (symbols .entry))) }) ⌝ }
 {
-    ground::fill::fill(rows, 0);
-    Taken::Invalid(crate::place::first_wrong_of_all(t, p, symbols))
+    Outcome::Faulty(Reached {
+        place: 0,
+        mask: decoder::mask::mask_of(crate::place::start_of(symbols)),
+    })
 }
 
-// The same, given that the first `words` picture words of each stream are valid and `flips` has been gathered after them.
-fn fault_after(
-    t: &[u16; 1024],
-    p: Shape,
-    symbols: &[u16],
-    words: usize,
-    flips: u32,
-    rows: &mut [u16],
-) -> Taken
-    requires { ⌜ now t ≡ decodingTable ⌝ }
+// A fault, given that the first `words` picture words of each stream are valid and `flips` has been gathered after them.
+fn fault_after(p: Shape, words: usize, flips: u32) -> Outcome
     requires { ⌜ p .«stream_pairs» ≤ 2 ⌝ }
     requires { ⌜ words ≤ 1920 ⌝ }
-    requires { ⌜ ScanInv p (now symbols) (12 * p .«stream_pairs» + 3 * p .«stream_pairs» * words) (maskBy flips) ⌝ }
-    ensures place { λ r. ⌜ r ≡ Invalid (place20 p (now (symbols .entry))) ⌝ }
-    ensures rows { λ _. ⌜ now (rows .exit) ≡ replicate (length (now (rows .entry))) 0 ⌝ }
+    ensures { λ r. ⌜ r ≡ Faulty (record { place = 12 * p .«stream_pairs» + 3 * p .«stream_pairs» * words; mask = maskBy flips }) ⌝ }
 {
-    ground::fill::fill(rows, 0);
-    let clean = span::layout::PICTURE_SYMBOL * p.stream_pairs + 3 * p.stream_pairs * words;
-    Taken::Invalid(crate::place::first_wrong(t, p, symbols, clean, mask_by(flips)))
+    Outcome::Faulty(Reached {
+        place: span::layout::PICTURE_SYMBOL * p.stream_pairs + 3 * p.stream_pairs * words,
+        mask: mask_by(flips),
+    })
 }
 
-// A window of a known format whose symbols have ten bits.
-fn take_window(t: &[u16; 1024], p: Shape, symbols: &[u16], rows: &mut [u16]) -> Taken
+// The pass over a window of a known format whose symbols have ten bits.
+fn pass_window(t: &[u16; 1024], p: Shape, symbols: &[u16], rows: &mut [u16]) -> Outcome
     requires { ⌜ Given p (now t) (now symbols) ⌝ }
     requires { ⌜ TenBits (now symbols) ⌝ }
     requires { ⌜ length (now rows) ≡ samplesIn p ⌝ }
-    ensures taken { λ r. ⌜ r ≡ takenOf p (now (symbols .entry)) ⌝ }
-    ensures rows { λ _. ⌜ now (rows .exit) ≡ rowsTaken p (now (symbols .entry)) (now (rows .entry)) ⌝ }
+    ensures { λ r. ⌜ PassedWindow p (now (symbols .entry)) (now (rows .exit)) r ⌝ }
 {
     let first = after_sav(symbols);
     if first == 0 {
-        return fault_somewhere(t, p, symbols, rows);
+        return fault_from_start(symbols);
     }
     let head = crate::see::see_run(
         t,
@@ -247,41 +259,75 @@ fn take_window(t: &[u16; 1024], p: Shape, symbols: &[u16], rows: &mut [u16]) -> 
         first,
     );
     if !crate::see::passes(head.good) {
-        return fault_somewhere(t, p, symbols, rows);
+        return fault_from_start(symbols);
     }
     let v = crate::picture::take_picture(t, p.stream_pairs, symbols, head.flips, rows);
     if !crate::see::passes(v.good) {
-        return fault_after(t, p, symbols, v.words, v.flips, rows);
+        return fault_after(p, v.words, v.flips);
     }
     let e = end_of(t, p, symbols, v.flips);
     if !e.whole {
-        return fault_after(t, p, symbols, v.words, v.flips, rows);
+        return fault_after(p, v.words, v.flips);
     }
     // Only for a valid window: nothing else pays for the CRCs.
     match row_crc::sums::sums_of_rows(rows) {
-        Summed::Rows(sums) => Taken::Whole(Valid {
+        Summed::Rows(sums) => Outcome::Whole(Valid {
             filled: e.filled,
             before: disparity_by(first),
             after: disparity_by(e.flips),
             sums,
         }),
         // Not met: the rows have their format's length.
-        Summed::OtherLength => Taken::NotExamined,
+        Summed::OtherLength => Outcome::NotExamined,
     }
 }
 
-// A window with rows of its format's length; anything else is not examined. The table is copied once, here.
+// The pass over a window with rows of its format's length; anything else is not examined. The table is copied here, once for each window.
+fn pass(f: Format, symbols: &[u16], rows: &mut [u16]) -> Outcome
+    ensures { λ r. ⌜ PassedIf f (now (symbols .entry)) (now (rows .entry)) (now (rows .exit)) r ⌝ }
+{
+    if !span::fit::is_ready(f, symbols.len(), rows.len()) {
+        return Outcome::NotExamined;
+    }
+    if !are_ten_bits(symbols) {
+        return fault_from_start(symbols);
+    }
+    let t = decoder::table::decoding_table();
+    pass_window(&t, span::format::shape_of(f), symbols, rows)
+}
+
+// The place of a fault, searched for from where test 20 is known to hold.
+fn fault_at(f: Format, symbols: &[u16], x: Reached) -> usize
+    requires { ⌜ ScanInv (shapeOf f) (now symbols) (x .place) (x .mask) ⌝ }
+    ensures { λ r. ⌜ r ≡ place20 (shapeOf f) (now (symbols .entry)) ⌝ }
+{
+    let t = decoder::table::decoding_table();
+    crate::place::first_wrong(&t, span::format::shape_of(f), symbols, x.place, x.mask)
+}
+
+// A window with rows of its format's length, and the place of its fault if it has one.
 pub fn take(f: Format, symbols: &[u16], rows: &mut [u16]) -> Taken
     ensures taken { λ r. ⌜ r ≡ takenIf f (now (symbols .entry)) (now (rows .entry)) ⌝ }
     ensures rows { λ _. ⌜ now (rows .exit) ≡ rowsIf f (now (symbols .entry)) (now (rows .entry)) ⌝ }
 {
-    if !span::fit::is_ready(f, symbols.len(), rows.len()) {
-        return Taken::NotExamined;
+    match pass(f, symbols, rows) {
+        Outcome::Whole(v) => Taken::Whole(v),
+        Outcome::Faulty(x) => {
+            ground::fill::fill(rows, 0);
+            Taken::Invalid(fault_at(f, symbols, x))
+        },
+        Outcome::NotExamined => Taken::NotExamined,
     }
-    let t = decoder::table::decoding_table();
-    let p = span::format::shape_of(f);
-    if !are_ten_bits(symbols) {
-        return fault_somewhere(&t, p, symbols, rows);
+}
+
+// The same without the place of the fault, and with the rows left as they then are.
+pub fn examine(f: Format, symbols: &[u16], rows: &mut [u16]) -> Examined
+    ensures answer { λ r. ⌜ wholeIn r ≡ wholeIf f (now (symbols .entry)) (length (now (rows .entry))) ⌝ }
+    ensures rows { λ r. ⌜ now (rows .exit) ≡ rowsWhole f (now (symbols .entry)) (length (now (rows .entry))) (now (rows .exit)) ⌝ }
+{
+    match pass(f, symbols, rows) {
+        Outcome::Whole(v) => Examined::Whole(v),
+        Outcome::Faulty(_) => Examined::Refused,
+        Outcome::NotExamined => Examined::Refused,
     }
-    take_window(&t, p, symbols, rows)
 }

@@ -1,18 +1,18 @@
--- The quick look: what it passes over is no place where a span may begin.
+-- The search for K28.5: what it passes over is no place where a span may begin.
 -- Assumes nothing.
 use mathlib.Core.Path.{_≡_, refl, sym, ap, _∙_}
-use mathlib.Core.Bool.{true, false}
+use mathlib.Core.Bool.{true, false, true≢false}
 use mathlib.Core.List.{List}
 use Prim.Native.Nat.{ℕ, zero, suc, _+_, _-_, _≤_, _<_}
 use native.Mathlib.Numerals.{add-one}
 use native.Mathlib.Omega.{arith}
-use lib.Bits.{bitAnd, bitOr, or-add-and, and-le-l, and-le-r}
+use lib.Bits.{bitOr, or-add-and, and-le-l, and-le-r}
 use lib.Dec.{eqb, ltb}
 use lib.ListN.{getD}
 use borrow.Author.Tests.{ne-eqb, ltb-true, ltb-false}
 use Rattle.ground.proofs.Cases.{on-test}
 use Rattle.symbol.specs.Code.{symbolOf}
-use Rattle.recording.specs.Inside.Look.{isComma, commaIn, gathered, commaAt, commaPair, lookAhead, mayBegin, LookInv}
+use Rattle.recording.specs.Inside.Look.{isComma, commaIn, gathered, commaAt, beginsAt, MayBegin, LookInv, LastInv}
 
 -- ---- one symbol
 
@@ -29,14 +29,14 @@ pub no-form : (s : ℕ) → (s ≡ 0x17C → ⊥) → (s ≡ 0x283 → ⊥) → 
 unfolding isComma symbolOf
 no-form s x y = simp (ne-eqb s 0x17C x, ne-eqb s 0x283 y)
 
+-- what the number says
 is-none : (s : ℕ) → commaIn s ≡ 0 → isComma s ≡ false
 is-none s e = on-test (isComma s) (λ t. let z : _≡_ {A = ℕ} 1 0 = rw t at e in absurd (omega arith)) (λ t. t)
 
--- what the number says
-is-comma : (s : ℕ) → commaIn s ≡ 1 → isComma s ≡ true
+pub is-comma : (s : ℕ) → commaIn s ≡ 1 → isComma s ≡ true
 is-comma s e = on-test (isComma s) (λ t. t) (λ t. let z : _≡_ {A = ℕ} 0 1 = rw t at e in absurd (omega arith))
 
-not-comma : (s : ℕ) → (commaIn s ≡ 1 → ⊥) → isComma s ≡ false
+pub not-comma : (s : ℕ) → (commaIn s ≡ 1 → ⊥) → isComma s ≡ false
 not-comma s n = on-test (isComma s) (λ t. absurd (n (rw t))) (λ t. t)
 
 -- ---- many symbols at once
@@ -47,7 +47,7 @@ module _ (mark : ℕ → ℕ) where
   one-more n e = rw e (sym (ap (λ (m : ℕ). gathered m mark) (add-one n)))
 
   -- together 0: each is
-  pub each-none : (n : ℕ) → gathered n mark ≡ 0 → (k : ℕ) → k < n → mark k ≡ 0
+  each-none : (n : ℕ) → gathered n mark ≡ 0 → (k : ℕ) → k < n → mark k ≡ 0
   unfolding gathered
   each-none zero z k h = absurd (omega arith)
   each-none (suc n) z k h =
@@ -56,84 +56,90 @@ module _ (mark : ℕ → ℕ) where
       on-test (ltb k n) (λ t. each-none n rest k (ltb-true k n t))
       (λ t. let here : k ≡ n = omega (arith, ltb-false k n t) in ap mark here ∙ last)
 
-  -- and the other way round
-  pub all-none : (n : ℕ) → ((k : ℕ) → k < n → mark k ≡ 0) → gathered n mark ≡ 0
-  unfolding gathered
-  all-none zero each = refl
-  all-none (suc n) each = rw (all-none n (λ k h. each k (omega arith)), each n (omega arith)) refl
-
--- ---- one place
+-- ---- two symbols
 
 module _ (r : List ℕ) (q : ℕ) where
-  pub first-fails : (commaIn (getD r q 0) ≡ 1 → ⊥) → mayBegin r q ≡ false
-  first-fails n = rw (not-comma (getD r q 0) n)
+  pub second-tells : {x : ℕ} → commaIn (getD r q 0) ≡ 1 → x ≡ commaIn (getD r (q + 1) 0) → eqb x 1 ≡ beginsAt r q
+  second-tells first e =
+      on-test (isComma (getD r (q + 1) 0)) (λ t. rw (e, is-comma (getD r q 0) first, t)) (λ t. rw (e, is-comma (getD r q 0) first, t))
 
-  pub no-comma : commaIn (getD r q 0) ≡ 0 → mayBegin r q ≡ false
-  no-comma z = rw (is-none (getD r q 0) z)
-
-  pub no-two : bitAnd (commaIn (getD r q 0)) (commaIn (getD r (q + 1) 0)) ≡ 0 → mayBegin r q ≡ false
-  no-two z =
-      on-test (isComma (getD r q 0))
-      (λ t.
-      on-test (isComma (getD r (q + 1) 0))
-      (λ u. let one : bitAnd 1 1 ≡ 0 = rw (t, u) at z in absurd (omega arith))
-      (λ u. rw (t, u)))
-      (λ t. rw t)
-
-  module _ (first : commaIn (getD r q 0) ≡ 1) where
-    pub second-fails : (commaIn (getD r (q + 1) 0) ≡ 1 → ⊥) → mayBegin r q ≡ false
-    second-fails n = rw (is-comma (getD r q 0) first, not-comma (getD r (q + 1) 0) n)
-
-    module _ (second : commaIn (getD r (q + 1) 0) ≡ 1) where
-      pub rest-tells : eqb (gathered lookAhead (commaAt r (q + 2))) 0 ≡ mayBegin r q
-      rest-tells = rw (is-comma (getD r q 0) first, is-comma (getD r (q + 1) 0) second) refl
-
-      pub third-fails : (commaIn (getD r (q + 2) 0) ≡ 0 → ⊥) → mayBegin r q ≡ false
-      third-fails n =
-          sym rest-tells
-          ∙ ne-eqb (gathered lookAhead (commaAt r (q + 2))) 0
-          (λ z.
-          let here : q + 2 + 0 ≡ q + 2 = omega arith in
-          n (rw here at (each-none (commaAt r (q + 2)) lookAhead z 0 (omega arith))))
+  pub first-tells : (commaIn (getD r q 0) ≡ 1 → ⊥) → false ≡ beginsAt r q
+  first-tells n = rw (not-comma (getD r q 0) n)
 
 module _ (r : List ℕ) where
+  -- ---- the last K28.5 of a range, from its end backward
+
+  -- none from a place on
+  abbrev pub None : ℕ → ℕ → Type 0
+  None from to = (j : ℕ) → from ≤ j → j < to → isComma (getD r j 0) ≡ false
+
+  pub none-yet : (to : ℕ) → None to to
+  none-yet to j p l = absurd (omega arith)
+
+  -- one symbol before
+  pub one-before : {k to : ℕ} → None k to → 1 ≤ k → isComma (getD r (k - 1) 0) ≡ false → None (k - 1) to
+  one-before {k} {to} n h e j p l =
+      on-test (ltb j k) (λ t. let here : j ≡ k - 1 = omega (arith, ltb-true j k t) in rw here e) (λ t. n j (ltb-false j k t) l)
+
+  -- many symbols before
+  pub many-before : {k to from x : ℕ} (m : ℕ) → None k to → from + m ≡ k → x ≡ gathered m (commaAt r from) → x ≡ 0 → None from to
+  many-before {k} {to} {from} m n h e z j p l =
+      on-test (ltb j k)
+      (λ t.
+      let below = ltb-true j k t in
+      let here : from + (j - from) ≡ j = omega arith in
+      is-none (getD r j 0) (rw here at (each-none (commaAt r from) m (sym e ∙ z) (j - from) (omega arith))))
+      (λ t. n j (ltb-false j k t) l)
+
+  -- the range is passed, or a K28.5 is met
+  pub met : {from k to : ℕ} → None k to → from < k → k ≤ to → isComma (getD r (k - 1) 0) ≡ true → LastInv r from to k
+  met n h l e = record { low = omega arith; high = l; none = n; last = λ _. e }
+
+  pub none-met : {from k to : ℕ} → None k to → from ≡ k → k ≤ to → LastInv r from to k
+  none-met n e l = record { low = omega arith; high = l; none = n; last = λ h. absurd (omega arith) }
+
+  -- what is met before a place from which on there is none
+  pub met-before : {from k to mid : ℕ} → LastInv r from mid k → None mid to → mid ≤ to → LastInv r from to k
+  met-before {from} {k} {to} {mid} m n l =
+      record {
+        low = m .low;
+        high = omega (arith, m .high);
+        none = λ j p q. on-test (ltb j mid) (λ t. m .none j p (ltb-true j mid t)) (λ t. n j (ltb-false j mid t) q);
+        last = m .last;
+      }
+
   -- ---- places passed over
 
-  pub nothing-yet : (from : ℕ) → LookInv r from from
-  nothing-yet from = record { at = omega arith; none = λ j p q. absurd (omega arith) }
+  module _ (n : ℕ) where
+    -- where window i has K28.5 at no symbol behind its first two: none of it but i, since each has no K28.5 at the next place, or at its own
+    pub all-passed : (i : ℕ) {k q : ℕ} → 3 ≤ n → LastInv r (i + 2) (i + n) k → k ≡ i + 2 → i + 1 ≤ q → q ≤ i + n → LookInv n r (i + 1) q
+    all-passed i {k} {q} h m e low high =
+        record {
+          at = low;
+          none = λ j p l b.
+              on-test (ltb (j + 1) (i + n))
+              (λ t. true≢false (sym (b .second) ∙ m .none (j + 1) (omega arith) (ltb-true (j + 1) (i + n) t)))
+              (λ t. true≢false (sym (b .first) ∙ m .none j (omega (arith, ltb-false (j + 1) (i + n) t)) (omega arith)));
+        }
 
-  -- those up to mid, and those from there on
-  pub further : {from mid q : ℕ} → LookInv r from mid → LookInv r mid q → LookInv r from q
-  further {from} {mid} {q} a b =
-      record {
-        at = omega (arith, a .at, b .at);
-        none = λ j p l. on-test (ltb j mid) (λ t. a .none j p (ltb-true j mid t)) (λ t. b .none j (ltb-false j mid t) l);
-      }
+    -- where it has: none that has the last of them behind its own first two
+    pub some-passed : (i : ℕ) {k q : ℕ} → LastInv r (i + 2) (i + n) k → (k ≡ i + 2 → ⊥) → i + 1 ≤ q → q + 2 ≤ k → LookInv n r (i + 1) q
+    some-passed i {k} {q} m e low high =
+        let late : i + 2 < k = omega (arith, m .low, e) in
+        record {
+          at = low;
+          none = λ j p l b. true≢false (sym (m .last late) ∙ b .only (k - 1) (omega arith) (omega (arith, m .high)));
+        }
 
-  -- no more of them than are asked for
-  pub up-to : {from mid q : ℕ} → LookInv r from q → from ≤ mid → mid ≤ q → LookInv r from mid
-  up-to p a b = record { at = a; none = λ j h l. p .none j h (omega arith) }
+    -- and not at i
+    pub other-passed : (i : ℕ) {k : ℕ} → LastInv r (i + 2) (i + n) k → (k ≡ i + 2 → ⊥) → MayBegin n r i → ⊥
+    other-passed i {k} m e b =
+        let late : i + 2 < k = omega (arith, m .low, e) in
+        true≢false (sym (m .last late) ∙ b .only (k - 1) (omega arith) (omega (arith, m .high)))
 
-  -- one place
-  one-passed : {q : ℕ} → mayBegin r q ≡ false → LookInv r q (q + 1)
-  one-passed {q} e = record { at = omega arith; none = λ j p l. let is : j ≡ q = omega arith in rw is e }
+    -- one place
+    begins : {q : ℕ} → MayBegin n r q → beginsAt r q ≡ true
+    begins b = rw (b .first, b .second)
 
-  pub without : {from q : ℕ} → LookInv r from q → mayBegin r q ≡ false → LookInv r from (q + 1)
-  without p e = further p (one-passed e)
-
-  -- n places by marks: where a mark is 0 no span begins
-  marked : (from n : ℕ) (mark : ℕ → ℕ) → ((k : ℕ) → mark k ≡ 0 → mayBegin r (from + k) ≡ false) → gathered n mark ≡ 0
-      → LookInv r from (from + n)
-  marked from n mark tells z =
-      record {
-        at = omega arith;
-        none = λ j p l.
-            let here : from + (j - from) ≡ j = omega arith in
-            rw here at (tells (j - from) (each-none mark n z (j - from) (omega arith)));
-      }
-
-  pub no-commas : (from n : ℕ) {x : ℕ} → x ≡ gathered n (commaAt r from) → x ≡ 0 → LookInv r from (from + n)
-  no-commas from n e z = marked from n (commaAt r from) (λ k. no-comma r (from + k)) (sym e ∙ z)
-
-  pub no-pairs : (from n : ℕ) {x : ℕ} → x ≡ gathered n (commaPair r from) → x ≡ 0 → LookInv r from (from + n)
-  no-pairs from n e z = marked from n (commaPair r from) (λ k. no-two r (from + k)) (sym e ∙ z)
+    pub no-begin : {q : ℕ} → beginsAt r q ≡ false → MayBegin n r q → ⊥
+    no-begin e b = true≢false (sym (begins b) ∙ e)

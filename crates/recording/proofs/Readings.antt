@@ -5,7 +5,7 @@ use mathlib.Core.Path.{_≡_, refl, sym, ap, _∙_}
 use mathlib.Core.Bool.{true, true≢false}
 use mathlib.Core.List.{List}
 use mathlib.Core.Option.{Option, none, some}
-use Prim.Native.Nat.{ℕ, _+_, _≤_, _<_}
+use Prim.Native.Nat.{ℕ, _+_, _-_, _≤_, _<_}
 use native.Mathlib.Omega.{arith}
 use lib.Dec.{eqb}
 use lib.ListN.{length, getD, take, drop}
@@ -28,9 +28,8 @@ use Rattle.window.specs.Read.{pictureOf, readSpan}
 use Rattle.window.specs.Scan.{startOf, runningAt}
 use Rattle.window.proofs.Accepting.{Accepted, accepted-told}
 use Rattle.window.proofs.Specials.{k28-5-at, only-k28-5}
-use Rattle.recording.proofs.Looking.{all-none}
 use Rattle.recording.specs.Recording.{Reading, withWords, reading, accepts}
-use Rattle.recording.specs.Inside.Look.{isComma, commaAt, gathered, lookAhead, mayBegin}
+use Rattle.recording.specs.Inside.Look.{isComma, MayBegin}
 
 module _ (f : Format) (w : List ℕ) where
   -- what is read has a span's length, and `readSpan` answers it
@@ -85,8 +84,8 @@ module _ (f : Format) (known : isKnown f ≡ true) where
   abbrev n : ℕ
   n = symbolsIn (shapeOf f)
 
-  -- longer than what the quick look needs after its last place
-  pub long : 66 + lookAhead + 3 ≤ n
+  -- longer than the two symbols at which it begins
+  pub long : 3 ≤ n
   long = omega (arith, known-has-streams f known)
 
   module _ (w : List ℕ) (x : Reading) (e : reading f w ≡ some x) where
@@ -124,20 +123,20 @@ module _ (f : Format) (known : isKnown f ≡ true) where
         go none e = absurd (true≢false (sym t ∙ ap isSome e))
         go (some x) e = (x, e)
 
-    -- so the quick look passes no place where a span is read
-    pub accepted-begins : accepts f window ≡ true → mayBegin r q ≡ true
+    -- so the search passes over no place where a span is read
+    pub accepted-begins : accepts f window ≡ true → MayBegin n r q
     accepted-begins t =
         let (x, e) = read-there t in
         let here : q + 0 ≡ q = omega arith in
         let one = sym (ap isComma (at 0 (omega (arith, long)))) ∙ first window x e in
-        let two = sym (ap isComma (at 1 (omega (arith, long)))) ∙ second window x e in
-        let rest : gathered lookAhead (commaAt r (q + 2)) ≡ 0 =
-        all-none (commaAt r (q + 2)) lookAhead
-        (λ k h.
-        on-test (isComma (getD r (q + 2 + k) 0))
-        (λ u.
-        let place : q + (2 + k) ≡ q + 2 + k = omega arith in
-        let early = only window x e (2 + k) (omega (arith, long)) (ap isComma (at (2 + k) (omega (arith, long))) ∙ rw place u) in
-        absurd (omega arith))
-        (λ u. rw u)) in
-        rw (rw here at one, two, rest)
+        record {
+          first = rw here at one;
+          second = sym (ap isComma (at 1 (omega (arith, long)))) ∙ second window x e;
+          only = λ j h l.
+              on-test (isComma (getD r j 0))
+              (λ u.
+              let place : q + (j - q) ≡ j = omega arith in
+              let early = only window x e (j - q) (omega arith) (ap isComma (at (j - q) (omega arith)) ∙ rw place u) in
+              absurd (omega arith))
+              (λ u. u);
+        }

@@ -12,16 +12,16 @@ use Rattle.span.specs.declared.format.Format.{Format}
 use Rattle.span.specs.Format.{isKnown, shapeOf, symbolsIn}
 use Rattle.recording.specs.Call.{paperFound, paperNext}
 use Rattle.recording.specs.Recording.{accepts}
-use Rattle.recording.specs.Inside.Look.{mayBegin}
+use Rattle.recording.specs.Inside.Look.{MayBegin}
 
 pub record RecordingLaws : Type 0 where
-  -- the quick look passes over no place where a span is read
+  -- a span that is read has K28.5 at its first two symbols and at no other, so the search passes over none
   pub acceptedBegins :
       (f : Format)
       → isKnown f ≡ true
       → (r : List ℕ) (q : ℕ)
       → accepts f (take (symbolsIn (shapeOf f)) (drop q r)) ≡ true
-      → mayBegin r q ≡ true
+      → MayBegin (symbolsIn (shapeOf f)) r q
   -- the paper's number and values tell any two answers of a call apart, so that a promise about them fixes the answer
   pub foundTold : Injective paperFound
   pub nextTold : Injective paperNext

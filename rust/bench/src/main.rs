@@ -12,7 +12,8 @@ fn main() -> ExitCode {
     let (speeds, growth) = (operations::measure(), growth::measure());
     println!("{}", tables::speeds(&speeds));
     println!("{}\n", memory::measure());
-    print!("{}", tables::growth(&growth));
+    println!("{}", tables::growth(&growth));
+    println!("{}", tables::worst(&growth));
     match std::fs::write(&file, plot::svg(&speeds, &growth)) {
         Ok(()) => ExitCode::SUCCESS,
         Err(error) => {

@@ -6,10 +6,13 @@ use crate::operations::Speeds;
 use crate::tables::grouped;
 
 const WIDTH: f64 = 960.0;
-const HEIGHT: f64 = 942.0;
+const HEIGHT: f64 = 1008.0;
 
 const VERSIONS: [(&str, &str); 3] = [("library", "#0b5fa5"), ("hand-optimised", "#e08214"), ("independent", "#8a8a8a")];
-const COLOURS: [&str; 9] = ["#1b9e77", "#66c2a5", "#7570b3", "#d95f02", "#e7298a", "#e6ab02", "#a6761d", "#666666", "#0b5fa5"];
+const COLOURS: [&str; 16] = [
+    "#1b9e77", "#66c2a5", "#7570b3", "#d95f02", "#e7298a", "#fee391", "#fec44f", "#fe9929", "#e6ab02", "#cc4c02", "#8c2d04",
+    "#0b5fa5", "#74a9cf", "#666666", "#969696", "#c00000",
+];
 
 fn rectangle(x: f64, y: f64, width: f64, height: f64, colour: &str) -> String {
     format!("<rect x=\"{x:.1}\" y=\"{y:.1}\" width=\"{width:.1}\" height=\"{height:.1}\" fill=\"{colour}\"/>\n")
@@ -98,26 +101,29 @@ fn curves(panel: &Panel, title: &str, decades: (i32, i32), times: &[[f64; LENGTH
     // From broad to narrow: where two coincide, both are seen.
     for (kind, (times, colour)) in times.iter().zip(COLOURS).enumerate() {
         let points: Vec<(f64, f64)> = times.iter().enumerate().map(|(k, &time)| (x(k), panel.y(part(time)))).collect();
-        svg += &line(&points, colour, 5.0 - 0.5 * kind as f64);
+        svg += &line(&points, colour, 5.0 - 0.3 * kind as f64);
     }
     svg
 }
 
+/// Those recordings that both versions have gone through.
 fn growths(all: &[Growth]) -> String {
-    let every = all.iter().flat_map(|growth| growth.library.into_iter().chain(growth.fast));
-    let (least, most) = every.fold((f64::MAX, 0.0), |(least, most): (f64, f64), time| (least.min(time), most.max(time)));
+    let drawn: Vec<(&str, [f64; LENGTHS], [f64; LENGTHS])> =
+        all.iter().filter_map(|growth| growth.fast.map(|fast| (growth.label.as_str(), growth.library, fast))).collect();
+    let every = drawn.iter().flat_map(|(_, library, fast)| library.iter().chain(fast));
+    let (least, most) = every.fold((f64::MAX, 0.0), |(least, most): (f64, f64), time| (least.min(*time), most.max(*time)));
     let decades = (least.log10().floor() as i32, most.log10().ceil() as i32);
     let mut svg =
         text(70.0, 450.0, "start", 15, "Finding all spans of a recording: ns per symbol, by its length; less is better, level is linear");
-    let [library, fast]: [Vec<[f64; LENGTHS]>; 2] =
-        [all.iter().map(|growth| growth.library).collect(), all.iter().map(|growth| growth.fast).collect()];
+    let library: Vec<[f64; LENGTHS]> = drawn.iter().map(|(_, library, _)| *library).collect();
+    let fast: Vec<[f64; LENGTHS]> = drawn.iter().map(|(_, _, fast)| *fast).collect();
     for (left, title, times) in [(70.0, "library", library), (530.0, "hand-optimised", fast)] {
         svg += &curves(&Panel { left, top: 490.0, width: 400.0, height: 270.0 }, title, decades, &times);
     }
-    for (k, (growth, colour)) in all.iter().zip(COLOURS).enumerate() {
+    for (k, ((label, _, _), colour)) in drawn.iter().zip(COLOURS).enumerate() {
         let (x, y) = (70.0 + 460.0 * (k % 2) as f64, 826.0 + 22.0 * (k / 2) as f64);
         svg += &rectangle(x, y - 6.0, 24.0, 4.0, colour);
-        svg += &text(x + 32.0, y, "start", 11, growth.label);
+        svg += &text(x + 32.0, y, "start", 11, label);
     }
     svg
 }

@@ -11,12 +11,14 @@ use plain::Refused;
 /// K28.5 at negative and at positive disparity.
 const COMMAS: [u16; 2] = [0x17C, 0x283];
 
-/// The format and the depth of all of them.
-pub const FORMAT: u32 = 1;
+/// Symbols of a span that are begun before another: more than its SAV has in any format.
+pub const BEGUN: usize = 30;
+
+/// The depth of all spans in them.
 pub const DEPTH: u32 = 12;
 
-fn span_shape() -> Shape {
-    shape(FORMAT, DEPTH).expect("a known format and depth")
+pub fn span_shape(format: u32) -> Shape {
+    shape(format, DEPTH).expect("a known format and depth")
 }
 
 pub fn noise(random: &mut Random) -> Vec<u16> {
@@ -39,44 +41,75 @@ pub fn false_starts() -> Vec<u16> {
     symbols(false, &characters).0
 }
 
+/// The characters of an active line's span.
+fn span_characters(random: &mut Random, format: u32) -> Vec<u16> {
+    let words = made_words(random, span_shape(format), DEPTH, 100);
+    made_characters(random, span_shape(format), &words)
+}
+
 /// The first `count` symbols of an active line's span, repeated: every `count` places there seems to be a span for that many symbols.
-pub fn beginnings(count: usize) -> Vec<u16> {
-    let (mut random, shape) = (Random(8), span_shape());
-    let words = made_words(&mut random, shape, DEPTH, 100);
-    let beginning = &made_characters(&mut random, shape, &words)[..count];
+pub fn beginnings(format: u32, count: usize) -> Vec<u16> {
+    let beginning = &span_characters(&mut Random(8), format)[..count];
     let characters: Vec<u16> = (0..LIMIT).map(|i| beginning[i % count]).collect();
     symbols(false, &characters).0
 }
 
 /// Spans one after another, all sent correctly.
-pub fn sent_spans() -> Vec<u16> {
-    let (mut random, shape) = (Random(9), span_shape());
-    repeated(|| sent_symbols(&mut random, shape, DEPTH, 100, false))
+pub fn sent_spans(format: u32) -> Vec<u16> {
+    let mut random = Random(9);
+    repeated(|| sent_symbols(&mut random, span_shape(format), DEPTH, 100, false))
 }
 
 /// The last byte of the last fill word is wrong: test 20 passes, and test 26 fails at the last place.
-pub fn wrong_last_fills() -> Vec<u16> {
-    let (last, last_word) = (span_shape().symbols() - 1, span_shape().words() - 1);
-    spoilt_spans(|characters| characters[last] ^= 1, (26, last_word as u64))
+pub fn wrong_last_fills(format: u32) -> Vec<u16> {
+    let (mut random, last) = (Random(5), span_shape(format).symbols() - 1);
+    repeated(|| spoilt_span(&mut random, format, |characters| characters[last] ^= 1, last_fill(format)))
+}
+
+/// The refusal of such a span.
+fn last_fill(format: u32) -> Refused {
+    (26, span_shape(format).words() as u64 - 1)
+}
+
+/// Such spans with bytes of any kind in the ancillary area, after three as they are sent, and each after the beginning of another span. All
+/// of it is examined, and what was begun is looked over for nothing.
+pub fn busiest(format: u32) -> Vec<u16> {
+    let (mut random, shape) = (Random(7), span_shape(format));
+    let beginning = begun(&mut random, format);
+    let (area, fill) = (shape.eav_symbol() + 12 * shape.streams + 3, shape.words_before_fill() / 2 * 3);
+    let change = |characters: &mut [u16]| {
+        let mut bytes = Random(3);
+        characters[area..fill].iter_mut().for_each(|character| *character = bytes.next() as u16 % 256);
+        characters[shape.symbols() - 1] ^= 1;
+    };
+    repeated(|| [beginning.clone(), spoilt_span(&mut random, format, change, last_fill(format))].concat())
+}
+
+/// The beginning of a span.
+fn begun(random: &mut Random, format: u32) -> Vec<u16> {
+    symbols(false, &span_characters(random, format)[..BEGUN]).0
+}
+
+/// Spans as they are sent, each after the beginning of another: the finder meets it first.
+pub fn begun_before_sent(format: u32) -> Vec<u16> {
+    let mut random = Random(7);
+    let beginning = begun(&mut random, format);
+    repeated(|| [beginning.clone(), sent_symbols(&mut random, span_shape(format), DEPTH, 100, false)].concat())
 }
 
 /// A special character where a byte should be, 30 before the end: test 20 fails there.
-pub fn late_special_characters() -> Vec<u16> {
-    let place = span_shape().symbols() - 30;
-    spoilt_spans(|characters| characters[place] = K29_7, (20, place as u64))
+pub fn late_special_characters(format: u32) -> Vec<u16> {
+    let (mut random, place) = (Random(5), span_shape(format).symbols() - 30);
+    repeated(|| spoilt_span(&mut random, format, |characters| characters[place] = K29_7, (20, place as u64)))
 }
 
-/// Spans one after another, each with a character changed. The refusal of each, with its place, is given.
-fn spoilt_spans(change: impl Fn(&mut [u16]), refused: Refused) -> Vec<u16> {
-    let (mut random, shape) = (Random(5), span_shape());
-    repeated(|| {
-        let words = made_words(&mut random, shape, DEPTH, 100);
-        let mut characters = made_characters(&mut random, shape, &words);
-        change(&mut characters);
-        let span = symbols(random.seldom(2), &characters).0;
-        assert_eq!(window(shape, DEPTH, &span).err(), Some(refused));
-        span
-    })
+/// A span with a character changed. Its refusal, with the place, is given.
+fn spoilt_span(random: &mut Random, format: u32, change: impl Fn(&mut [u16]), refused: Refused) -> Vec<u16> {
+    let mut characters = span_characters(random, format);
+    change(&mut characters);
+    let span = symbols(random.seldom(2), &characters).0;
+    assert_eq!(window(span_shape(format), DEPTH, &span).err(), Some(refused));
+    span
 }
 
 /// As many spans as there is room for, and the beginning of one more.

@@ -1,5 +1,6 @@
 //! What was measured, as the tables of docs/BENCHMARKS.md.
 
+use crate::cases::WIRE;
 use crate::growth::{Growth, LENGTHS, SHORTEST};
 use crate::operations::Speeds;
 
@@ -27,9 +28,19 @@ pub fn growth(all: &[Growth]) -> String {
     let lengths: Vec<String> = (SHORTEST..SHORTEST + LENGTHS).map(|k| format!("2^{k}")).collect();
     let mut table = format!("| recording | version | {} |\n|---|---|{}\n", lengths.join(" | "), "--:|".repeat(LENGTHS));
     for Growth { label, library, fast } in all {
-        for (version, times) in [("library", library), ("hand-optimised", fast)] {
-            table += &format!("| {label} | {version} | {} |\n", times.map(|time| format!("{time:.2}")).join(" | "));
+        for (version, times) in [("library", Some(library)), ("hand-optimised", fast.as_ref())] {
+            if let Some(times) = times {
+                table += &format!("| {label} | {version} | {} |\n", times.map(|time| format!("{time:.2}")).join(" | "));
+            }
         }
     }
     table
+}
+
+/// The longest time that the library takes for a symbol of any of these recordings, beside the wire's.
+pub fn worst(all: &[Growth]) -> String {
+    let every = all.iter().flat_map(|growth| growth.library.iter().enumerate().map(move |(k, time)| (time, k, &growth.label)));
+    let (time, k, label) = every.max_by(|a, b| a.0.total_cmp(b.0)).expect("recordings");
+    let wire = 1e3 / WIRE;
+    format!("The slowest of all for the library: {label}, 2^{}, {time:.2} ns a symbol; the wire takes {wire:.2}.", SHORTEST + k)
 }

@@ -2,8 +2,9 @@
 -- Assumes nothing.
 use mathlib.Core.Path.{_≡_}
 use Prim.Native.Nat.{ℕ, _+_, _*_, _<_}
-use mathlib.Core.Bool.{true, cond}
+use mathlib.Core.Bool.{Bool, true, false, cond, _&&_}
 use mathlib.Core.List.{List}
+use mathlib.Core.Option.{Option, none, some}
 use lib.Dec.{eqb}
 use lib.ListN.{length, replicate}
 use Rattle.decoder.specs.Inside.Mask.{maskOf, ofMask}
@@ -17,10 +18,14 @@ use Rattle.window.specs.Tests.{rows as rowsOf}
 use Rattle.window.specs.Words.{wordAt}
 use Rattle.window.specs.Inside.Columns.{sumsOf}
 use Rattle.window.specs.Inside.Fill.{fillRight}
+use Rattle.read_test20.specs.declared.whole.Examined.{Examined}
+use Rattle.read_test20.specs.declared.whole.Examined.the-variants.{Whole as AllRight, Refused}
+use Rattle.read_test20.specs.declared.whole.Outcome.{Outcome}
+use Rattle.read_test20.specs.declared.whole.Outcome.the-variants.{Whole as AllValid, Faulty, NotExamined as NoWindow}
 use Rattle.read_test20.specs.declared.whole.Taken.{Taken}
 use Rattle.read_test20.specs.declared.whole.Taken.the-variants.{Whole, Invalid, NotExamined}
 use Rattle.read_test20.specs.declared.whole.Valid.{Valid}
-use Rattle.read_test20.specs.Inside.Run.{suits, RunInv, place20}
+use Rattle.read_test20.specs.Inside.Run.{suits, RunInv, ScanInv, place20}
 use Rattle.read_test20.specs.Inside.See.{maskBy}
 
 -- a special character at a place and at the next, legal at both
@@ -36,6 +41,18 @@ pub record AllHold (p : Shape) (w : List ℕ) : Type 0 where
 abbrev pub validOf : Shape → List ℕ → Valid
 validOf p w = record { filled = fillRight p w; before = startOf w; after = runningAt w (length w); sums = sumsOf p w }
 
+-- what the pass over a window finds, and the rows after it
+abbrev pub PassedWindow : Shape → List ℕ → List ℕ → Outcome → Type 0
+PassedWindow p w rows (AllValid v) = (place20 p w ≡ length w) × (v ≡ validOf p w) × (rows ≡ rowsOf (streams p) (wordAt p w))
+PassedWindow p w rows (Faulty x) = (AllHold p w → ⊥) × ScanInv p w (x .place) (x .mask)
+PassedWindow p w rows NoWindow = ⊥
+
+-- the same for any symbols and rows
+abbrev pub PassedIf : Format → List ℕ → List ℕ → List ℕ → Outcome → Type 0
+PassedIf f w entry rows (AllValid v) = (ready f (length w) (length entry) ≡ true) × PassedWindow (shapeOf f) w rows (AllValid v)
+PassedIf f w entry rows (Faulty x) = (ready f (length w) (length entry) ≡ true) × PassedWindow (shapeOf f) w rows (Faulty x)
+PassedIf f w entry rows NoWindow = (ready f (length w) (length entry) ≡ false) × (rows ≡ entry)
+
 -- the answer for a window with rows of its length: this, or the lowest symbol at which test 20 does not hold
 abbrev pub takenOf : Shape → List ℕ → Taken
 takenOf p w = cond (eqb (place20 p w) (length w)) (Whole (validOf p w)) (Invalid (place20 p w))
@@ -50,6 +67,21 @@ takenIf f w rows = cond (ready f (length w) (length rows)) (takenOf (shapeOf f) 
 
 abbrev pub rowsIf : Format → List ℕ → List ℕ → List ℕ
 rowsIf f w rows = cond (ready f (length w) (length rows)) (rowsTaken (shapeOf f) w rows) rows
+
+-- only whether all symbols are valid, and what is then known
+abbrev pub wholeIn : Examined → Option Valid
+wholeIn (AllRight v) = some v
+wholeIn Refused = none
+
+abbrev pub isWhole : Format → List ℕ → ℕ → Bool
+isWhole f w room = ready f (length w) room && eqb (place20 (shapeOf f) w) (length w)
+
+abbrev pub wholeIf : Format → List ℕ → ℕ → Option Valid
+wholeIf f w room = cond (isWhole f w room) (some (validOf (shapeOf f) w)) none
+
+-- and the rows: the picture words of such a window, or anything
+abbrev pub rowsWhole : Format → List ℕ → ℕ → List ℕ → List ℕ
+rowsWhole f w room left = cond (isWhole f w room) (rowsOf (streams (shapeOf f)) (wordAt (shapeOf f) w)) left
 
 -- what is gathered before symbol i records the running disparity there
 pub record Tied (w : List ℕ) (i flips : ℕ) : Type 0 where

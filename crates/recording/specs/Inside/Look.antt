@@ -1,10 +1,10 @@
--- The quick look, which passes over places where no span can begin.
+-- Where a span may begin: a window that is accepted has K28.5 at its first two symbols and at no other.
 -- Assumes nothing.
-use Prim.Native.Nat.{ℕ, zero, suc, _+_, _≤_, _<_}
+use Prim.Native.Nat.{ℕ, zero, suc, _+_, _-_, _≤_, _<_}
 use mathlib.Core.Path.{_≡_}
-use mathlib.Core.Bool.{Bool, false, cond, _&&_, _||_}
+use mathlib.Core.Bool.{Bool, true, false, cond, _&&_, _||_}
 use mathlib.Core.List.{List}
-use lib.Bits.{bitAnd, bitOr}
+use lib.Bits.{bitOr}
 use lib.Dec.{eqb}
 use lib.ListN.{getD}
 use Rattle.symbol.specs.declared.disparity.Disparity.the-variants.{Negative, Positive}
@@ -31,21 +31,26 @@ gathered (suc n) mark = bitOr (gathered n mark) (mark n)
 abbrev pub commaAt : List ℕ → ℕ → ℕ → ℕ
 commaAt r from k = commaIn (getD r (from + k) 0)
 
--- 1 if both it and the next symbol are
-abbrev pub commaPair : List ℕ → ℕ → ℕ → ℕ
-commaPair r from k = bitAnd (commaAt r from k) (commaIn (getD r (from + k + 1) 0))
-
 -- ---- where a span may begin
 
--- how many symbols after its first two are examined
-abbrev pub lookAhead : ℕ
-lookAhead = 128
+-- K28.5 is at q and at the next place
+abbrev pub beginsAt : List ℕ → ℕ → Bool
+beginsAt r q = isComma (getD r q 0) && isComma (getD r (q + 1) 0)
 
--- it may begin at q: K28.5 is there twice, and not again in the `lookAhead` symbols after
-abbrev pub mayBegin : List ℕ → ℕ → Bool
-mayBegin r q = isComma (getD r q 0) && (isComma (getD r (q + 1) 0) && eqb (gathered lookAhead (commaAt r (q + 2))) 0)
+-- a span of n symbols may begin at q: K28.5 is there twice, and at no other of the n symbols from q on
+pub record MayBegin (n : ℕ) (r : List ℕ) (q : ℕ) : Type 0 where
+  pub first : isComma (getD r q 0) ≡ true
+  pub second : isComma (getD r (q + 1) 0) ≡ true
+  pub only : (j : ℕ) → q + 2 ≤ j → j < q + n → isComma (getD r j 0) ≡ false
 
 -- q is at or after a place, and no span may begin from that place up to q
-pub record LookInv (r : List ℕ) (from q : ℕ) : Type 0 where
+pub record LookInv (n : ℕ) (r : List ℕ) (from q : ℕ) : Type 0 where
   pub at : from ≤ q
-  pub none : (j : ℕ) → from ≤ j → j < q → mayBegin r j ≡ false
+  pub none : (j : ℕ) → from ≤ j → j < q → MayBegin n r j → ⊥
+
+-- the last K28.5 from one place up to another stands just before k; if there is none, k is the first place
+pub record LastInv (r : List ℕ) (from to k : ℕ) : Type 0 where
+  pub low : from ≤ k
+  pub high : k ≤ to
+  pub none : (j : ℕ) → k ≤ j → j < to → isComma (getD r j 0) ≡ false
+  pub last : from < k → isComma (getD r (k - 1) 0) ≡ true

@@ -1,50 +1,37 @@
--- `read_test20::whole::take_window` meets its contract.
+-- `read_test20::whole::pass_window` meets its contract.
 -- Assumes nothing.
 use mathlib.Core.Path.{_≡_, refl, sym, ap, _∙_}
 use mathlib.Core.Bool.{true≢false}
 use Prim.Native.Nat.{_*_}
 use native.Mathlib.Omega.{arith}
-use borrow.Author.Needs.{needs}
 use borrow.Author.Tests.{not-true, not-false}
 use Rattle.span.specs.Format.{samplesIn}
 use Rattle.read_test20.proofs.Getting.{picture-is, sums-are}
-use Rattle.read_test20.proofs.Kept.{sav-stands, bytes-stand, is-fault, are-zero, is-whole, are-picture, is-valid}
+use Rattle.read_test20.proofs.Kept.{sav-stands, bytes-stand, is-valid}
 use Rattle.read_test20.proofs.Wholes.{tied, goes-on, scanned-whole, reached-behind}
-use Rattle.read_test20.proofs.whole.take_window.Statement.{statement}
-use Rattle.read_test20.proofs.whole.take_window.Tie as tie
-use Rattle.read_test20.proofs.whole.take_window.Reads as reads
-use Rattle.read_test20.proofs.whole.take_window.Lts as lts
-use Rattle.read_test20.proofs.picture.take_picture.Reads as take-picture-reads
-use Rattle.read_test20.proofs.see.passes.Reads as passes-reads
-use Rattle.read_test20.proofs.see.see_run.Reads as see-run-reads
-use Rattle.read_test20.proofs.whole.after_sav.Reads as after-sav-reads
-use Rattle.read_test20.proofs.whole.disparity_by.Reads as disparity-by-reads
-use Rattle.read_test20.proofs.whole.end_of.Reads as end-of-reads
-use Rattle.read_test20.proofs.whole.fault_after.Reads as fault-after-reads
-use Rattle.read_test20.proofs.whole.fault_somewhere.Reads as fault-somewhere-reads
 use Rattle.row_crc.proofs.Rows.{are-sums, no-other}
-use Rattle.row_crc.proofs.sums.sums_of_rows.Reads as sums-of-rows-reads
 use Rattle.read_test20.specs.Inside.Run.{Walked}
 use Rattle.read_test20.specs.Inside.Whole.{AllHold, Tied}
+use Rattle.read_test20.proofs.Passing.{is-faulty}
+use Rattle.read_test20.proofs.Window.{not-yet}
+use borrow.Author.Needs.{needs}
+use Rattle.read_test20.proofs.whole.pass_window.Statement.{statement}
+use Rattle.read_test20.proofs.whole.pass_window.Tie as tie
 
 after-sav-requires : tie.Need-after-sav-requires
 after-sav-requires c κs = search needs
 
-fault-somewhere-requires : tie.Need-fault-somewhere-requires
-fault-somewhere-requires c κs = let s = c .before .before .before .before .before in (s .pre .0 .table, s .pre .0 .small .half)
-
-same-length : tie.Need-same-length
-same-length c = search needs
+fault-from-start-requires : tie.Need-fault-from-start-requires
+fault-from-start-requires c κs = search needs
 
 returns : tie.Need-returns
 returns c =
-    let s = c .before .before .before .before .before .before .before .before in
+    let s = c .before .before .before .before .before in
     let a = s .args in
     let w = a .symbols .now in
-    let e = c .before .before .fault-somewhere .ensures in
     let not-all : AllHold (a .p) w → ⊥ =
-    λ all. c .before .before .before .before .before .after-sav .ensures .1 (sav-stands (a .p) w all (omega (arith, s .pre .0 .half, s .pre .0 .long))) (c .before .before .before .before .if1 .taken) in
-    (is-fault (a .p) w not-all (e .0), are-zero (a .p) w not-all (a .rows .now) _ (e .1) refl)
+    λ all. c .before .before .after-sav .ensures .1 (sav-stands (a .p) w all (omega (arith, s .pre .0 .half, s .pre .0 .long))) (c .before .if1 .taken) in
+    is-faulty (a .p) w _ _ (c .fault-from-start .ensures) not-all (not-yet (a .p) w refl)
 
 mul-see-run : tie.Need-mul-see-run
 mul-see-run c = search needs
@@ -60,22 +47,18 @@ see-run-requires c κs =
 passes-requires : tie.Need-passes-requires
 passes-requires c κs = search needs
 
-fault-somewhere-requires-2 : tie.Need-fault-somewhere-requires-2
-fault-somewhere-requires-2 c κs = let s = c .before .before .before .before .before .before .before .before .before in (s .pre .0 .table, s .pre .0 .small .half)
-
-same-length-2 : tie.Need-same-length-2
-same-length-2 c = search needs
+fault-from-start-requires-2 : tie.Need-fault-from-start-requires-2
+fault-from-start-requires-2 c κs = search needs
 
 returns-2 : tie.Need-returns-2
 returns-2 c =
-    let s = c .before .before .before .before .before .before .before .before .before .before .before .before in
+    let s = c .before .before .before .before .before .before .before .before .before in
     let a = s .args in
     let w = a .symbols .now in
     let h = s .pre .0 .half in
-    let e = c .before .before .fault-somewhere2 .ensures in
     let not-all : AllHold (a .p) w → ⊥ =
-    λ all. true≢false (sym (c .before .before .before .before .before .passes .ensures ∙ c .before .before .before .before .before .before .see-run .ensures .kept (bytes-stand (a .p) w all _ _ (omega arith) (omega (arith, h, s .pre .0 .long)) (λ i a b e. absurd (omega (arith, h))))) ∙ not-true _ (c .before .before .before .before .if2 .taken)) in
-    (is-fault (a .p) w not-all (e .0), are-zero (a .p) w not-all (a .rows .now) _ (e .1) refl)
+    λ all. true≢false (sym (c .before .before .passes .ensures ∙ c .before .before .before .see-run .ensures .kept (bytes-stand (a .p) w all _ _ (omega arith) (omega (arith, h, s .pre .0 .long)) (λ i a b e. absurd (omega (arith, h))))) ∙ not-true _ (c .before .if2 .taken)) in
+    is-faulty (a .p) w _ _ (c .fault-from-start2 .ensures) not-all (not-yet (a .p) w refl)
 
 take-picture-requires : tie.Need-take-picture-requires
 take-picture-requires c κs =
@@ -89,26 +72,23 @@ passes-requires-2 : tie.Need-passes-requires-2
 passes-requires-2 c κs = search needs
 
 fault-after-requires : tie.Need-fault-after-requires
-fault-after-requires c κs =
-    let s = c .before .before .before .before .before .before .before .before .before .before .before .before .before .before .before in
-    let right = sym (c .before .before .before .before .before .before .before .before .passes .ensures) ∙ not-false _ (c .before .before .before .before .before .before .before .if2 .left) in
-    let come = c .before .before .before .before .before .take-picture .ensures .1 .1 .0 in
-    (s .pre .0 .table, (s .pre .0 .small .half, (come .some, reached-behind (s .args .p) (s .args .symbols .now) (c .before .before .before .before .before .before .before .before .before .before .before .before .after-sav .ensures .0 (c .before .before .before .before .before .before .before .before .before .before .before .if1 .left)) (c .before .before .before .before .before .before .before .before .before .see-run .ensures) right come (s .pre .0 .long))))
+fault-after-requires c κs = search needs
 
-same-length-3 : tie.Need-same-length-3
-same-length-3 c = search needs
+same-length : tie.Need-same-length
+same-length c = search needs
 
 returns-3 : tie.Need-returns-3
 returns-3 c =
-    let s = c .before .before .before .before .before .before .before .before .before .before .before .before .before .before .before .before .before .before in
+    let s = c .before .before .before .before .before .before .before .before .before .before .before .before .before .before .before in
     let a = s .args in
     let w = a .symbols .now in
-    let e = c .before .before .before .before .before .before .before .before .take-picture .ensures in
-    let r = c .before .before .fault-after .ensures in
-    let size : 3840 * a .p .«stream_pairs» ≡ samplesIn (a .p) = omega arith in
+    let e = c .before .before .before .before .before .take-picture .ensures in
     let not-all : AllHold (a .p) w → ⊥ =
-    λ all. true≢false (sym (c .before .before .before .before .before .passes2 .ensures ∙ e .1 .1 .1 (bytes-stand (a .p) w all _ _ (omega (arith, s .pre .0 .half)) (omega (arith, s .pre .0 .half, s .pre .0 .long)) (λ i a b q. absurd (omega arith)))) ∙ not-true _ (c .before .before .before .before .if3 .taken)) in
-    (is-fault (a .p) w not-all (r .0), are-zero (a .p) w not-all (a .rows .now) _ (r .1) (e .0 ∙ size ∙ sym (s .pre .1 .1)))
+    λ all. true≢false (sym (c .before .before .passes2 .ensures ∙ e .1 .1 .1 (bytes-stand (a .p) w all _ _ (omega (arith, s .pre .0 .half)) (omega (arith, s .pre .0 .half, s .pre .0 .long)) (λ i a b q. absurd (omega arith)))) ∙ not-true _ (c .before .if3 .taken)) in
+    let right = sym (c .before .before .before .before .before .before .before .before .passes .ensures) ∙ not-false _ (c .before .before .before .before .before .before .before .if2 .left) in
+    let come = c .before .before .before .before .before .take-picture .ensures .1 .1 .0 in
+    let scan = reached-behind (a .p) w (c .before .before .before .before .before .before .before .before .before .before .before .before .after-sav .ensures .0 (c .before .before .before .before .before .before .before .before .before .before .before .if1 .left)) (c .before .before .before .before .before .before .before .before .before .see-run .ensures) right come (s .pre .0 .long) in
+    is-faulty (a .p) w _ _ (c .fault-after .ensures) not-all scan
 
 end-of-requires : tie.Need-end-of-requires
 end-of-requires c κs =
@@ -118,24 +98,21 @@ end-of-requires c κs =
     (s .pre .0, (s .pre .1 .0, tied (s .args .p) (s .args .symbols .now) (got .clean) rights (omega arith)))
 
 fault-after-requires-2 : tie.Need-fault-after-requires-2
-fault-after-requires-2 c κs =
-    let s = c .before .before .before .before .before .before .before .before .before .before .before .before .before .before .before .before .before .before in
-    let right = sym (c .before .before .before .before .before .before .before .before .before .before .before .passes .ensures) ∙ not-false _ (c .before .before .before .before .before .before .before .before .before .before .if2 .left) in
-    let come = c .before .before .before .before .before .before .before .before .take-picture .ensures .1 .1 .0 in
-    (s .pre .0 .table, (s .pre .0 .small .half, (come .some, reached-behind (s .args .p) (s .args .symbols .now) (c .before .before .before .before .before .before .before .before .before .before .before .before .before .before .before .after-sav .ensures .0 (c .before .before .before .before .before .before .before .before .before .before .before .before .before .before .if1 .left)) (c .before .before .before .before .before .before .before .before .before .before .before .before .see-run .ensures) right come (s .pre .0 .long))))
+fault-after-requires-2 c κs = (c .before .before .before .before .before .before .before .before .before .before .before .before .before .before .before .before .before .pre .0 .small .half, c .before .before .before .before .before .before .before .take-picture .ensures .1 .1 .0 .some)
 
-same-length-4 : tie.Need-same-length-4
-same-length-4 c = search needs
+same-length-2 : tie.Need-same-length-2
+same-length-2 c = search needs
 
 returns-4 : tie.Need-returns-4
 returns-4 c =
-    let s = c .before .before .before .before .before .before .before .before .before .before .before .before .before .before .before .before .before .before .before .before .before in
+    let s = c .before .before .before .before .before .before .before .before .before .before .before .before .before .before .before .before .before .before in
     let a = s .args in
     let w = a .symbols .now in
-    let r = c .before .before .fault-after2 .ensures in
-    let size : 3840 * a .p .«stream_pairs» ≡ samplesIn (a .p) = omega arith in
-    let not-all : AllHold (a .p) w → ⊥ = λ all. true≢false (sym (c .before .before .before .before .before .before .end-of .ensures .1 .1 all) ∙ not-true _ (c .before .before .before .before .if4 .taken)) in
-    (is-fault (a .p) w not-all (r .0), are-zero (a .p) w not-all (a .rows .now) _ (r .1) (c .before .before .before .before .before .before .before .before .before .before .before .take-picture .ensures .0 ∙ size ∙ sym (s .pre .1 .1)))
+    let not-all : AllHold (a .p) w → ⊥ = λ all. true≢false (sym (c .before .before .before .end-of .ensures .1 .1 all) ∙ not-true _ (c .before .if4 .taken)) in
+    let right = sym (c .before .before .before .before .before .before .before .before .before .before .before .passes .ensures) ∙ not-false _ (c .before .before .before .before .before .before .before .before .before .before .if2 .left) in
+    let come = c .before .before .before .before .before .before .before .before .take-picture .ensures .1 .1 .0 in
+    let scan = reached-behind (a .p) w (c .before .before .before .before .before .before .before .before .before .before .before .before .before .before .before .after-sav .ensures .0 (c .before .before .before .before .before .before .before .before .before .before .before .before .before .before .if1 .left)) (c .before .before .before .before .before .before .before .before .before .before .before .before .see-run .ensures) right come (s .pre .0 .long) in
+    is-faulty (a .p) w _ _ (c .fault-after2 .ensures) not-all scan
 
 sums-of-rows-requires : tie.Need-sums-of-rows-requires
 sums-of-rows-requires c κs = search needs
@@ -152,8 +129,8 @@ disparity-by-requires-2 c κs = search needs
 enum-told : tie.Need-enum-told
 enum-told c = search needs
 
-same-length-5 : tie.Need-same-length-5
-same-length-5 c = search needs
+same-length-3 : tie.Need-same-length-3
+same-length-3 c = search needs
 
 returns-5 : tie.Need-returns-5
 returns-5 c =
@@ -172,45 +149,43 @@ returns-5 c =
     let sums =
     are-sums _ (s .args .p .«stream_pairs») (s .pre .0 .half) (s .pre .0 .small .half) (sym (c .before .before .before .before .before .sums-of-rows .ensures) ∙ c .before .before .before .sums .given .1) (omega (arith, s .pre .1 .1, c .before .before .before .before .before .before .before .before .before .before .before .before .before .before .take-picture .ensures .0))
     ∙ sums-are (s .args .p) w picture (s .pre .0 .small .half) (s .pre .0 .half) in
-    (is-whole (s .args .p) w all refl (is-valid (s .args .p) w all filled before after sums), are-picture (s .args .p) w all (s .args .rows .now) picture)
+    (all, is-valid (s .args .p) w all filled before after sums, picture)
 
-same-length-6 : tie.Need-same-length-6
-same-length-6 c = search needs
+same-length-4 : tie.Need-same-length-4
+same-length-4 c = search needs
 
 returns-6 : tie.Need-returns-6
 returns-6 c =
     let s = c .before .before .before .before .before .before .before .before .before .before .before .before .before .before .before .before .before .before .before .before .before in
     no-other _ (s .args .p .«stream_pairs») (s .pre .0 .half) (s .pre .0 .small .half) (sym (c .before .before .sums-of-rows .ensures) ∙ c .enum-told .given .1) (omega (arith, s .pre .1 .1, c .before .before .before .before .before .before .before .before .before .before .before .take-picture .ensures .0))
 
-pub take-window-spec : {M : Type 1} → statement M
-take-window-spec =
+pub pass-window-spec : {M : Type 1} → statement M
+pass-window-spec =
     tie.close
     (tie.spec
     after-sav-requires
-    fault-somewhere-requires
-    same-length
+    fault-from-start-requires
     returns
     mul-see-run
     see-run-requires
     passes-requires
-    fault-somewhere-requires-2
-    same-length-2
+    fault-from-start-requires-2
     returns-2
     take-picture-requires
     passes-requires-2
     fault-after-requires
-    same-length-3
+    same-length
     returns-3
     end-of-requires
     fault-after-requires-2
-    same-length-4
+    same-length-2
     returns-4
     sums-of-rows-requires
     enum-known-sums
     disparity-by-requires
     disparity-by-requires-2
     enum-told
-    same-length-5
+    same-length-3
     returns-5
-    same-length-6
+    same-length-4
     returns-6)
