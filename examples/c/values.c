@@ -4,6 +4,7 @@
  */
 #include "brazulint.h"
 
+#include <pthread.h>
 #include <stdio.h>
 #include <string.h>
 
@@ -22,6 +23,7 @@ LAID_OUT(sizeof(brazulint_read_answer) == 32 && offsetof(brazulint_read_answer, 
 LAID_OUT(sizeof(brazulint_find_answer) == 16 && offsetof(brazulint_find_answer, place) == 8);
 LAID_OUT(sizeof(brazulint_next_answer) == 40 && offsetof(brazulint_next_answer, delivery) == 24);
 LAID_OUT(sizeof(brazulint_place_answer) == 20 && offsetof(brazulint_place_answer, stream_line) == 12);
+LAID_OUT(sizeof(brazulint_way_back_answer) == 12 && offsetof(brazulint_way_back_answer, line) == 8);
 LAID_OUT(sizeof(brazulint_line_words_answer) == 12 && sizeof(brazulint_read_line_words_answer) == 8);
 LAID_OUT(sizeof(brazulint_repair_answer) == 12 && sizeof(brazulint_crcc_answer) == 16);
 LAID_OUT(sizeof(brazulint_decode_answer) == 12 && sizeof(brazulint_encode_answer) == 12);
@@ -244,6 +246,8 @@ static void recordings(void) {
     lend(rows, SAMPLES);
     n = brazulint_next(HZ_120, recording, SYMBOLS + 5, 6, rows, SAMPLES);
     IS(n.number == 0 && !n.found && n.place == 0 && n.resume == 6 && n.delivery.line.number == 0 && untouched(rows, SAMPLES));
+    n = brazulint_next(HZ_120, recording, SYMBOLS + 4, 1, rows, SAMPLES); /* without its last symbol: 7,919 are kept */
+    IS(n.number == 0 && !n.found && n.resume == 5 && untouched(rows, SAMPLES));
     n = brazulint_next(HZ_120, NULL, 0, 0, NULL, 0);
     IS(n.number == 4 && !n.found && n.place == 0 && n.resume == 0);
     IS(brazulint_next(HZ_120, NULL, 0, 1, rows, SAMPLES).number == 5 && untouched(rows, SAMPLES));
@@ -256,7 +260,9 @@ static void limit(void) {
     IS(brazulint_find(HZ_120, recording, BRAZULINT_LIMIT + 1, BRAZULINT_LIMIT).number == 3);
 }
 
-int main(void) {
+/* Everything is tried in a thread with as much stack as the header says that is enough. */
+static void *all(void *unused) {
+    (void)unused;
     formats();
     refusals();
     words();
@@ -267,6 +273,14 @@ int main(void) {
     ten_bits();
     recordings();
     limit();
+    return NULL;
+}
+
+int main(void) {
+    pthread_t thread;
+    pthread_attr_t attributes;
+    if (pthread_attr_init(&attributes) != 0 || pthread_attr_setstacksize(&attributes, BRAZULINT_STACK) != 0) return 1;
+    if (pthread_create(&thread, &attributes, all, NULL) != 0 || pthread_join(thread, NULL) != 0) return 1;
     printf("%u tried, %u not as they should be\n", tried, wrong);
     return wrong != 0;
 }
