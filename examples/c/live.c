@@ -72,26 +72,32 @@ static void come(live_link *link, brazulint_next_answer next) {
 }
 
 /* begin */
-/* Takes every span out of what has arrived, then gives up what no later one can begin in. */
+// Takes every span out of what has arrived. Afterwards no span begins before `start`, whatever arrives later.
 static uint32_t take_spans(live_link *link) {
-    brazulint_next_answer next;
-    do {
-        next = brazulint_next(link->format, link->symbols, link->count, link->start, link->rows, link->samples);
-        if (next.number != 0) return next.number;
-        if (next.found) come(link, next);
+    for (;;) {
+        brazulint_next_answer next =
+            brazulint_next(link->format, link->symbols, link->count, link->start, link->rows, link->samples);
         link->start = next.resume;
-    } while (next.found);
+        if (next.number != 0 || !next.found) return next.number;
+        come(link, next);
+    }
+}
 
-    size_t gone = link->start; /* no span begins before it, whatever arrives later */
-    tell_lost(link, link->given_up + gone);
-    if (link->told < link->given_up + gone) gone = link->told - link->given_up; /* the rest is still to be judged */
+// So what stands before it can go: fewer symbols are kept than a span has.
+static void give_up(live_link *link, size_t gone) {
     link->count -= gone;
     memmove(link->symbols, link->symbols + gone, link->count * sizeof *link->symbols);
     link->start -= gone;
     link->given_up += gone;
-    return 0;
 }
 /* end */
+
+/* What may go, once it is told: all that stands before `start`, but for what is still to be judged. */
+static size_t to_give_up(live_link *link) {
+    uint64_t start = link->given_up + link->start;
+    tell_lost(link, start);
+    return (size_t)((link->told < start ? link->told : start) - link->given_up);
+}
 
 /* Reads for as long as there is something, at most so many bytes at a time; a symbol may arrive in two halves. */
 static uint32_t receive(live_link *link, size_t most) {
@@ -107,6 +113,7 @@ static uint32_t receive(live_link *link, size_t most) {
         }
         uint32_t number = take_spans(link);
         if (number != 0) return number;
+        give_up(link, to_give_up(link));
         fflush(stdout);
     }
     return 0;

@@ -91,7 +91,7 @@ impl Refusal {
     fn row(self) -> (u32, &'static str, &'static str) {
         match self {
             UnknownFormat => (1, "unknown format or depth", ""),
-            NoLine => (2, "no such line or sample", ""),
+            NoLine => (2, "no such line, sample, link or stream", ""),
             WrongInput => (3, "an input of the wrong length, or a recording that is too long", ""),
             WrongOutput => (4, "an output of the wrong length", ""),
             WrongStart => (5, "a start beyond the recording", ""),
