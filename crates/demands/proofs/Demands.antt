@@ -18,8 +18,8 @@ use Rattle.decoder.proofs.Paper.{decoder-paper}
 use Rattle.line.proofs.Paper.{line-paper}
 use Rattle.picture.proofs.Paper.{picture-paper}
 use Rattle.dividing.proofs.Paper.{dividing-paper}
-use Rattle.way_back.proofs.Laws.{way-back-laws}
 use Rattle.way_back.proofs.Paper.{way-back-paper}
+use Rattle.way_back.proofs.Undone.{undone}
 use Rattle.word.proofs.Paper.{word-paper}
 use Rattle.crcc.proofs.Paper.{crcc-paper}
 use Rattle.packing.proofs.Paper.{packing-paper}
@@ -190,7 +190,7 @@ demand-2 = record {
       repaired-delivered f (x .asked) (sendable f x sent) words disturbed w d c e near;
   joinSplit = λ whole e. join-split 1920 whole e;
   splitJoin = λ first second p q. (split-join 1920 first second 0 (omega arith) p, split-join 1920 first second 1 (omega arith) q);
-  undone = way-back-laws;
+  undone = undone;
   places = λ whole u l j p q r s t.
       let same : w u ≡ (u + 1) % 2 = which u p q in
       let agree = place-agrees whole u l j p q r s t in

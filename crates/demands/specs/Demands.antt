@@ -44,8 +44,8 @@ use Rattle.span.specs.Span.{spanWords, spanSymbols, spanAfter}
 use Rattle.span.specs.Stream.{Request}
 use Rattle.span.specs.Numbers.{IsFormat, Symbols, Samples}
 use Rattle.way_back.specs.Back.{backOf}
-use Rattle.way_back.specs.Laws.{WayBackLaws}
 use Rattle.way_back.specs.Paper.{WayBackPaper}
+use Rattle.way_back.specs.Undone.{Undone}
 use Rattle.window.specs.declared.delivery.Delivery.{Delivery}
 use Rattle.window.specs.Paper.{wordOfWindow, WindowPaper}
 use Rattle.window.specs.Encoded.{requestOf, charsOf, AreContent, Encodes, IsXyz, Disturbed, wrongAt}
@@ -264,7 +264,7 @@ pub record Demand2 : Type 1 where
       → length second ≡ 1920
       → (divided 0 1920 (joined 1920 first second) ≡ first) × (divided 1 1920 (joined 1920 first second) ≡ second)
   -- place and way back undo each other, on whichever link and stream a sample travels
-  pub undone : WayBackLaws
+  pub undone : Undone
   -- each sample goes where the place call says
   pub places :
       (whole : List ℕ) (u l j : ℕ)

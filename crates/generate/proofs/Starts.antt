@@ -98,7 +98,8 @@ module _ (input before : List ℕ) where
       let put : Put before after 0 end text = put-told text (omega arith) ends written in
       let same : length after ≡ length before = put-length put in
       let most : end ≤ length after = omega (arith, put .ends) in
-      ((most, sym (length-take-le end after most)), (put .ends ∙ zero-add (length text) ∙ ap length told, put .written ∙ ap (sets before 0) told))
+      let long = put .ends ∙ zero-add (length text) ∙ ap length told in
+      ((most, sym (length-take-le end after most)), (long, put .written ∙ ap (sets before 0) told))
 
 -- the texts, as they are written in the code
 pub text-1 : 114 ∷ 101 ∷ 102 ∷ 117 ∷ 115 ∷ 101 ∷ 100 ∷ 32 ∷ 49 ∷ 10 ∷ [] ≡ refusedWith 1

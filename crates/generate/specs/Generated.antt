@@ -1,5 +1,5 @@
--- What the test generator writes: a recording as the program that lists spans reads it (document 01, "Values to hold against it"), to standard
--- output; or a refusal, to standard error.
+-- What the test generator writes: to standard output a recording as the program that lists spans reads it (document 01, "Values to hold
+-- against it"), or to standard error a refusal.
 -- Assumes nothing.
 use Prim.Native.Nat.{ℕ, zero, suc, _/_, _%_}
 use mathlib.Core.List.{List, [], _∷_, _++_}
@@ -35,8 +35,8 @@ lowFirst (symbol ∷ more) = symbol % 256 ∷ symbol / 256 ∷ lowFirst more
 abbrev pub refusedWith : ℕ → List ℕ
 refusedWith number = 114 ∷ 101 ∷ 102 ∷ 117 ∷ 115 ∷ 101 ∷ 100 ∷ space ∷ (decimal number ++ (newline ∷ []))
 
--- the format and depth bytes as given, and the signal of the spans: the first from the fresh disparity, which is handed on; nothing where they
--- are refused
+-- the format and depth bytes as given, and the signal of the spans: the first from the fresh disparity, which is handed on; nothing where
+-- it is refused
 abbrev pub written : List ℕ → Answer Parameters → List ℕ
 written input (refused number place) = []
 written input (given p) = take 2 input ++ lowFirst (signal (p .format) (spansFrom (p .format) (p .first .0) (p .count)))

@@ -26,8 +26,8 @@ module _ (input : List ℕ) where
       → _≡_ {A = Knock} (record { place = place; long = long }) (knockIn input)
   asked-for h p q = simp (le-ltb (length input) 8 h) (ap₂ (λ (a b : ℕ). record { place = a; long = b }) p q)
 
--- where too few are given: the middle of the knock is that of the span of stream line 401, which carries the middle of the rings, and it takes
--- one of the thousand milliseconds in which 50 frames go over the link
+-- where too few are given: the middle of the knock is that of the span of stream line 401, which carries the middle of the rings, and it
+-- takes one of the thousand milliseconds in which 50 frames go over the link
 pub brightest : (testSample 720 1280 ≡ 4079) × (pictureLineOn 401 3 ≡ some 720)
 brightest = (values .0, sym (line-on 401 3 360 (carries 360 (omega arith) (omega arith)) (omega arith) (omega arith) (omega arith)))
 

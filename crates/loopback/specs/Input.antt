@@ -12,8 +12,8 @@ abbrev pub numberAt : List ℕ → ℕ → ℕ
 numberAt bytes i =
     getD bytes i 0 + getD bytes (i + 1) 0 * 256 + getD bytes (i + 2) 0 * 65536 + getD bytes (i + 3) 0 * 16777216
 
--- if fewer than eight bytes are given: one millisecond of the link, as long before as after the middle of the span that carries the middle of
--- the test picture's rings, where the picture is brightest and lost lines are seen
+-- if fewer than eight bytes are given: one millisecond of the link, as long before as after the middle of the span that carries the middle
+-- of the test picture's rings, where the picture is brightest and lost lines are seen
 abbrev pub millisecond : Knock
 millisecond = record { place = 7078104; long = 1069200 }
 

@@ -15,8 +15,9 @@ use Rattle.loopback.specs.Frame.{heardOf}
 use Rattle.loopback.specs.Input.{millisecond}
 
 pub record LoopbackLaws : Type 0 where
-  -- if too few bytes are given: line 720 of the picture, with the middle of the rings, is on stream line 401; the middle of the knock is that of
-  -- its span, 400 spans of 19,008 symbols come before it, and the knock takes one of the thousand milliseconds in which 50 frames go over the link
+  -- if too few bytes are given: line 720 of the picture, with the middle of the rings, is on stream line 401; the middle of the knock is
+  -- that of its span, before which 400 spans of 19,008 symbols come; and the knock takes one of the thousand milliseconds in which 50
+  -- frames go over the link
   pub brightest : (testSample 720 1280 ≡ 4079) × (pictureLineOn 401 3 ≡ some 720)
   pub aroundTheRings : 2 * millisecond .place + millisecond .long ≡ (400 + 401) * 19008
   pub oneOfAThousand : 1000 * millisecond .long ≡ 50 * (1125 * 19008)

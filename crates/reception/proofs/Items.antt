@@ -17,7 +17,7 @@ use Rattle.line.specs.declared.picture.Carries.{Carries}
 use Rattle.line.specs.declared.picture.Carries.the-variants.{Line, Nothing}
 use Rattle.line.specs.declared.picture.PictureLine.{PictureLine}
 use Rattle.line.specs.Picture.{numberCarried}
-use Rattle.picture.specs.Division.{h}
+use Rattle.picture.specs.Division.{h as below}
 use Rattle.picture.specs.Place.{pictureLineOn}
 use Rattle.picture.proofs.Places.{no-line-on, line-on-active}
 use Rattle.text.specs.Number.{decimal}
@@ -28,7 +28,7 @@ use Rattle.reception.specs.Summary.{delivered, firstLost, lastLost, item
 
 -- what a stream line carries, in numerals
 pub says-lines : (l : ℕ) → 1 ≤ l → l ≤ 1080 → carriedText (l + 41) ≡ linesText (2 * l - 1) (2 * l)
-unfolding h
+unfolding below
 says-lines l p q =
     ap₂ carriedBy (line-on-active l _ p q (omega arith) (omega arith)) (line-on-active l _ p q (omega arith) (omega arith))
     ∙ ap₂ linesText (omega arith) (omega arith)
@@ -87,8 +87,9 @@ lines-put a b few few′ o at room p q r s {u} i j k l {end} a′ b′ first sec
     let three : Put q r j k andLabel = put-told andLabel (omega (arith, one .ends, two .ends, long)) (h .0) (h .1) in
     let four : Put r s k l (decimal b) =
     put-told (decimal b) (omega (arith, one .ends, two .ends, three .ends, long, put-length three)) (m′ .0) (m′ .1) in
-    let five : Put s u l end linesEnd =
-    put-told linesEnd (omega (arith, one .ends, two .ends, three .ends, four .ends, long, put-length three, put-length four)) (n .0) (n .1) in
+    let room′ : l + length linesEnd ≤ length s =
+    omega (arith, one .ends, two .ends, three .ends, four .ends, long, put-length three, put-length four) in
+    let five : Put s u l end linesEnd = put-told linesEnd room′ (n .0) (n .1) in
     let whole = then one (then two (then three (then four five))) in
     (whole .ends, (omega (arith, one .ends, two .ends, three .ends, four .ends, five .ends), whole .written))
 
@@ -115,7 +116,8 @@ module _ (n : ℕ) (o u : List ℕ) (at end : ℕ) where
   blank-room : Blank → Within 33 o u at end blankingText
   blank-room w = (w .0, (omega (arith, w .0), w .1))
 
-  pub carries-no-first : (first : Carries) → numberCarried first ≡ pictureLineOn n 1 → first ≡ Nothing → Blank → Within 33 o u at end (carriedText n)
+  pub carries-no-first : (first : Carries) → numberCarried first ≡ pictureLineOn n 1 → first ≡ Nothing → Blank
+      → Within 33 o u at end (carriedText n)
   carries-no-first first e p w =
       let one : none ≡ pictureLineOn n 1 = sym (ap numberCarried p) ∙ e in
       subst (λ (t : List ℕ). Within 33 o u at end t) (ap (λ (x : Option ℕ). carriedBy x (pictureLineOn n 3)) one) (blank-room w)

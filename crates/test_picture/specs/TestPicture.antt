@@ -1,5 +1,6 @@
--- A test picture: rings around a place left of and above the middle of a 4K picture, and the samples of it that a link carries. No paper asks
--- for this picture; that lines count from 1 and samples from 0, and which image a stream carries, are document 01's ("Dividing a picture").
+-- A test picture: rings around a place left of and above the middle of a 4K picture, and the samples of it that a link carries. No paper
+-- asks for this picture; that lines count from 1 and samples from 0, and which image a stream carries, are document 01's ("Dividing a
+-- picture").
 -- Assumes nothing.
 use Prim.Native.Nat.{ℕ, _+_, _-_, _*_, _/_, _%_}
 use mathlib.Core.Bool.{cond}
@@ -20,8 +21,8 @@ use Rattle.span.specs.Blanking.{blankRow}
 abbrev pub apart : ℕ → ℕ → ℕ
 apart a b = (a - b) + (b - a)
 
--- the twelve-bit code of a sample of a picture line: the brightest at sample 1280 of line 720, it falls with the square of the distance from
--- there, and wraps from 16 to 4079
+-- the twelve-bit code of a sample of a picture line: the brightest at sample 1280 of line 720, it falls with the square of the distance
+-- from there, and wraps from 16 to 4079
 unfoldable pub testSample : ℕ → ℕ → ℕ
 testSample line sample =
     let dx = apart sample 1280 in

@@ -1,3 +1,4 @@
 pub mod Backs
 pub mod Laws
 pub mod Paper
+pub mod Undone

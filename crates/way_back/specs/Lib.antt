@@ -2,3 +2,4 @@ pub mod Back
 pub mod Inside
 pub mod Laws
 pub mod Paper
+pub mod Undone

@@ -27,7 +27,7 @@ const PARTS: [(Part, &str); 2] =
     [(Part::Calls, "what the calls, the demands and the values reach"), (Part::Programs, "what only the programs' contracts reach")];
 
 /// The files of specs/ that state what is proved: they say what the other definitions are, and nothing is made of them.
-const STATEMENTS: &[&str] = &["Demands", "Examples", "Face", "Paper", "Refusals", "Values"];
+const STATEMENTS: &[&str] = &["Demands", "Examples", "Face", "Live", "Paper", "Refusals", "Values"];
 
 /// Definitions or types: how many, and their lines.
 #[derive(Default, Clone, Copy)]

@@ -41,6 +41,7 @@ const fn root(krate: &'static str, start: Start, part: Part, reason: &'static st
 pub const ROOTS: &[Root] = &[
     root("brazulint", Start::Exported, Part::Calls, "the calls of the static library"),
     root("demands", Start::Definitions("Demands"), Part::Calls, "document 01's demands, and what is held beyond them"),
+    root("demands", Start::Definitions("Live"), Part::Calls, "a link that never ends, piece by piece"),
     root("demands", Start::Definitions("Examples"), Part::Calls, "examples that meet each demand, with their numbers"),
     root("face", Start::Definitions("Face"), Part::Calls, "what a caller from C has, number by number"),
     root("word", Start::Definitions("Values"), Part::Calls, "document 01's values, beside what the definitions give"),
@@ -65,6 +66,7 @@ pub const ROOTS: &[Root] = &[
         Part::Calls,
         "the place of a sample, the way back to its line, and the choice of row",
     ),
+    root("way_back", Start::Functions(&["picture_line_of"]), Part::Calls, "from a link, a stream and a stream line to the picture"),
     root("dividing", Start::Functions(&["split", "join"]), Part::Calls, "rows divided and joined"),
     root("span", Start::Functions(&["lengths_of", "fill_blanking"]), Part::Calls, "the lengths of a format, and a row of blanking"),
     root("send", Start::Functions(&["send"]), Part::Calls, "a span sent"),

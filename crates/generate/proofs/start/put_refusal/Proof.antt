@@ -39,7 +39,8 @@ returns-2 c =
     let w = e .before .before in
     let start = w .before .before .before in
     let bad = sym (w .wanted-in .ensures) ∙ ap paperWanted (e .enum-told2 .given .1) in
-    refuses (start .args .input .now) (start .args .out .now) _ bad text-1 (start .pre) (t .put-text .ensures .0) (t .put-text .ensures .1)
+    refuses (start .args .input .now) (start .args .out .now) _ bad text-1 (start .pre) (t .put-text .ensures .0)
+    (t .put-text .ensures .1)
 
 enum-told-3 : tie.Need-enum-told-3
 enum-told-3 c = search needs
@@ -60,7 +61,8 @@ returns-3 c =
     let w = e .before .before in
     let start = w .before .before .before in
     let bad = sym (w .wanted-in .ensures) ∙ ap paperWanted (e .enum-told3 .given .1) in
-    refuses (start .args .input .now) (start .args .out .now) _ bad text-2 (start .pre) (t .put-text2 .ensures .0) (t .put-text2 .ensures .1)
+    refuses (start .args .input .now) (start .args .out .now) _ bad text-2 (start .pre) (t .put-text2 .ensures .0)
+    (t .put-text2 .ensures .1)
 
 enum-told-4 : tie.Need-enum-told-4
 enum-told-4 c = search needs
@@ -81,7 +83,8 @@ returns-4 c =
     let w = e .before .before in
     let start = w .before .before .before in
     let bad = sym (w .wanted-in .ensures) ∙ ap paperWanted (e .enum-told4 .given .1) in
-    refuses (start .args .input .now) (start .args .out .now) _ bad text-3 (start .pre) (t .put-text3 .ensures .0) (t .put-text3 .ensures .1)
+    refuses (start .args .input .now) (start .args .out .now) _ bad text-3 (start .pre) (t .put-text3 .ensures .0)
+    (t .put-text3 .ensures .1)
 
 pub put-refusal-spec : {M : Type 1} → statement M
 put-refusal-spec =

@@ -26,7 +26,8 @@ returns c =
     let told = put .before .before in
     let first = told .before .before in
     let a = first .before .before .args in
-    carries-no-first (a .l .0) (a .out .now) _ (a .at) _ _ (first .picture-line-on .ensures) (told .enum-told .given .1) (put .put-blanking .ensures)
+    carries-no-first (a .l .0) (a .out .now) _ (a .at) _ _ (first .picture-line-on .ensures) (told .enum-told .given .1)
+    (put .put-blanking .ensures)
 
 picture-line-on-requires-2 : tie.Need-picture-line-on-requires-2
 picture-line-on-requires-2 c κs = search needs
@@ -51,8 +52,8 @@ returns-2 c =
     let line = second .before .before in
     let first = line .before .before in
     let a = first .before .before .args in
-    carries-no-second (a .l .0) (a .out .now) _ (a .at) _ _ _ (first .picture-line-on .ensures) (second .picture-line-on2 .ensures) (line .odd .given .1)
-    (told .enum-told2 .given .1) (put .put-blanking2 .ensures)
+    carries-no-second (a .l .0) (a .out .now) _ (a .at) _ _ _ (first .picture-line-on .ensures) (second .picture-line-on2 .ensures)
+    (line .odd .given .1) (told .enum-told2 .given .1) (put .put-blanking2 .ensures)
 
 put-lines-requires : tie.Need-put-lines-requires
 put-lines-requires c κs = search needs
@@ -68,8 +69,8 @@ returns-3 c =
     let line = second .before .before in
     let first = line .before .before in
     let a = first .before .before .args in
-    carries-lines (a .l .0) (a .out .now) _ (a .at) _ _ _ (first .picture-line-on .ensures) (second .picture-line-on2 .ensures) (line .odd .given .1)
-    (other .even .given .1) (put .put-lines .ensures)
+    carries-lines (a .l .0) (a .out .now) _ (a .at) _ _ _ (first .picture-line-on .ensures) (second .picture-line-on2 .ensures)
+    (line .odd .given .1) (other .even .given .1) (put .put-lines .ensures)
 
 pub put-carried-spec : {M : Type 1} → statement M
 put-carried-spec =

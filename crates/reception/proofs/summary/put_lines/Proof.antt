@@ -56,9 +56,9 @@ returns c =
     let one = odd .before .before .before in
     let start = one .before .before .before .before in
     let a = start .args in
-    lines-put (a .odd .0) (a .even .0) (omega arith) (omega arith) (a .out .now) (a .at) (start .pre) _ _ _ _ _ _ _ _ _ _ (odd .number-of .ensures)
-    (even .number-of2 .ensures) (one .put-text .ensures) (two .put-decimal .ensures) (three .put-text2 .ensures) (four .put-decimal2 .ensures)
-    (five .put-text3 .ensures)
+    lines-put (a .odd .0) (a .even .0) (omega arith) (omega arith) (a .out .now) (a .at) (start .pre) _ _ _ _ _ _ _ _ _ _
+    (odd .number-of .ensures) (even .number-of2 .ensures) (one .put-text .ensures) (two .put-decimal .ensures) (three .put-text2 .ensures)
+    (four .put-decimal2 .ensures) (five .put-text3 .ensures)
 
 pub put-lines-spec : {M : Type 1} → statement M
 put-lines-spec =

@@ -23,8 +23,8 @@ put-carried-requires c κs =
     let first = second .before .before .before .before in
     let start = first .before .before .before .before in
     let a = start .args in
-    lost-room (a .label .now) (a .n) (a .out .now) (a .at) (start .pre .0) (start .pre .1 .0) (start .pre .1 .1) _ _ _ _ (first .put-text .ensures)
-    (second .put-decimal .ensures)
+    lost-room (a .label .now) (a .n) (a .out .now) (a .at) (start .pre .0) (start .pre .1 .0) (start .pre .1 .1) _ _ _ _
+    (first .put-text .ensures) (second .put-decimal .ensures)
 
 same-length : tie.Need-same-length
 same-length c = search needs
@@ -37,8 +37,8 @@ returns c =
     let first = second .before .before .before .before in
     let start = first .before .before .before .before in
     let a = start .args in
-    lost-put (a .label .now) (a .n) (a .out .now) (a .at) (start .pre .0) (start .pre .1 .0) (start .pre .1 .1) _ _ _ _ (line .stream-line .ensures)
-    (first .put-text .ensures) (second .put-decimal .ensures) (third .put-carried .ensures)
+    lost-put (a .label .now) (a .n) (a .out .now) (a .at) (start .pre .0) (start .pre .1 .0) (start .pre .1 .1) _ _ _ _
+    (line .stream-line .ensures) (first .put-text .ensures) (second .put-decimal .ensures) (third .put-carried .ensures)
 
 pub put-lost-spec : {M : Type 1} → statement M
 put-lost-spec =
