@@ -46,11 +46,6 @@ module _ (f : Format) (r : List ℕ) where
         passed : (j : ℕ) → (MayBegin n r j → ⊥) → accepts f (take n (drop j r)) ≡ false
         passed j x = on-test (accepts f (take n (drop j r))) (λ t. absurd (x (accepted-begins f known r j t))) (λ t. t)
 
-    -- where none can begin
-    pub other : {start i : ℕ} → Sofar start i → (MayBegin n r i → ⊥) → Sofar start (i + 1)
-    other {start} {i} s x =
-        pass s (record { at = omega arith; none = λ j h l b. let here : j ≡ i = omega arith in x (rw here at b) })
-
     -- where none is read, the search goes on
     pub none-here : {start q : ℕ} → Sofar start q → none ≡ spanned (readAt f r q) → Sofar start (q + 1)
     none-here {start} {q} s e =

@@ -3,7 +3,7 @@
 ghost use mathlib.Core.Path.{_≡_};
 ghost use Prim.Native.Nat.{_+_, _≤_};
 ghost use lib.ListN.{length};
-ghost use Rattle.recording.specs.Inside.Look.{commaIn, gathered, commaAt, beginsAt, MayBegin, LookInv, LastInv};
+ghost use Rattle.recording.specs.Inside.Look.{commaIn, gathered, commaAt, beginsAt, LastInv};
 
 // Symbols that are examined together. The number is a constant, so that the compiler unrolls the loop over them.
 const PIECE: usize = 64;
@@ -63,7 +63,7 @@ fn after_last_in(symbols: &[u16], from: usize, to: usize) -> usize
 }
 
 // The same, piece by piece as long as there is none.
-fn after_last(symbols: &[u16], from: usize, to: usize) -> usize
+pub(crate) fn after_last(symbols: &[u16], from: usize, to: usize) -> usize
     requires { ⌜ from ≤ to ⌝ }
     requires { ⌜ to ≤ length (now symbols) ⌝ }
     ensures { λ k. ⌜ LastInv (now (symbols .entry)) from to k ⌝ }
@@ -76,21 +76,4 @@ fn after_last(symbols: &[u16], from: usize, to: usize) -> usize
         k -= PIECE;
     }
     after_last_in(symbols, from, k)
-}
-
-// The next place after i at which a span may begin, as far as window i tells. Where K28.5 stands behind its first two symbols, nothing begins
-// at i, nor before the place before the last of them; where none does, nothing else begins in the window, and its end is answered.
-pub(crate) fn pass(symbols: &[u16], i: usize, n: usize) -> usize
-    requires { ⌜ 3 ≤ n ⌝ }
-    requires { ⌜ i + n ≤ length (now symbols) ⌝ }
-    ensures passed { λ q. ⌜ LookInv n (now (symbols .entry)) (i + 1) q ⌝ }
-    ensures inside { λ q. ⌜ q ≤ i + n ⌝ }
-    ensures other { λ q. ⌜ ((q ≡ i + n → ⊥) → MayBegin n (now (symbols .entry)) i → ⊥) ⌝ }
-{
-    let end = i + n;
-    let k = after_last(symbols, i + 2, end);
-    if k == i + 2 {
-        return end;
-    }
-    k - 2
 }

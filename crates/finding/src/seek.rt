@@ -9,6 +9,7 @@ ghost use lib.ListN.{length};
 ghost use Rattle.span.specs.Format.{isKnown, shapeOf, samplesIn, symbolsIn};
 ghost use Rattle.recording.specs.Call.{spanned, wordsOr};
 ghost use Rattle.recording.specs.Recording.{nextFrom};
+ghost use Rattle.recording.specs.Inside.Look.{Clear};
 ghost use Rattle.finding.specs.Inside.Seek.{soughtOf, readAt};
 
 pub(crate) enum Sought {
@@ -39,31 +40,39 @@ fn span_at(f: Format, symbols: &[u16], i: usize, n: usize, rows: &mut [u16]) -> 
     Sought::None
 }
 
-// The first span from a place on, with its picture in the search's own rows. Each window is looked over before it is read, and read only if
-// K28.5 stands in it nowhere but at its first two symbols. Then no span begins before its end, so a symbol is read at most once. Two steps go
-// forward by n - 1 symbols at least, since behind the last K28.5 of a window there is none up to its end: so it is looked at three times at most.
-fn seek_on(f: Format, symbols: &[u16], from: usize, rows: &mut [u16]) -> Sought
+// The first span from a place on, with its picture in the search's own rows; up to place `seen` no K28.5 stands behind the first two symbols
+// there. The rest of the window is looked over from its end. Where K28.5 stands in it, no span begins before the place before the last, and
+// what follows is seen; where none does, the window is read if it begins with two, and no other begins in it. So each symbol is looked at
+// once, and read at most once.
+fn seek_on(f: Format, symbols: &[u16], from: usize, seen: usize, rows: &mut [u16]) -> Sought
     requires { ⌜ isKnown f ≡ true ⌝ }
     requires { ⌜ from ≤ length (now symbols) ⌝ }
+    requires { ⌜ from + 2 ≤ seen ⌝ }
+    requires { ⌜ seen ≤ from + symbolsIn (shapeOf f) ⌝ }
+    requires { ⌜ Clear (now symbols) (from + 2) seen ⌝ }
     requires { ⌜ length (now rows) ≡ samplesIn (shapeOf f) ⌝ }
     ensures answer { λ r. ⌜ soughtOf r ≡ spanned (nextFrom f (now (symbols .entry)) from) ⌝ }
     ensures rows { λ _. ⌜ now (rows .exit) ≡ wordsOr (now (rows .exit)) (nextFrom f (now (symbols .entry)) from) ⌝ }
 {
     let n = span::length::span_lengths(f).symbols;
     let mut i = from;
+    let mut clear = seen;
     while n <= symbols.len() - i {
-        let next = crate::look::pass(symbols, i, n);
-        if next == i + n {
+        let end = i + n;
+        let k = crate::look::after_last(symbols, clear, end);
+        if k == clear {
             match span_at(f, symbols, i, n, rows) {
                 Sought::Span(s) => {
                     return Sought::Span(s);
                 },
                 Sought::None => {
-                    i = next;
+                    i = end;
+                    clear = end + 2;
                 },
             }
         } else {
-            i = next;
+            i = k - 2;
+            clear = end;
         }
     }
     Sought::None
@@ -87,7 +96,12 @@ pub(crate) fn seek(f: Format, symbols: &[u16], start: usize, rows: &mut [u16]) -
             return Sought::Span(s);
         },
         Sought::None => {
-            return seek_on(f, symbols, crate::look::pass(symbols, start, n), rows);
+            let end = start + n;
+            let k = crate::look::after_last(symbols, start + 2, end);
+            if k == start + 2 {
+                return seek_on(f, symbols, end, end + 2, rows);
+            }
+            return seek_on(f, symbols, k - 2, end, rows);
         },
     }
 }

@@ -12,7 +12,7 @@ use lib.ListN.{getD}
 use borrow.Author.Tests.{ne-eqb, ltb-true, ltb-false}
 use Rattle.ground.proofs.Cases.{on-test}
 use Rattle.symbol.specs.Code.{symbolOf}
-use Rattle.recording.specs.Inside.Look.{isComma, commaIn, gathered, commaAt, beginsAt, MayBegin, LookInv, LastInv}
+use Rattle.recording.specs.Inside.Look.{isComma, commaIn, gathered, commaAt, beginsAt, MayBegin, LookInv, Clear, LastInv}
 
 -- ---- one symbol
 
@@ -69,73 +69,71 @@ module _ (r : List ℕ) (q : ℕ) where
 module _ (r : List ℕ) where
   -- ---- the last K28.5 of a range, from its end backward
 
-  -- none from a place on
-  abbrev pub None : ℕ → ℕ → Type 0
-  None from to = (j : ℕ) → from ≤ j → j < to → isComma (getD r j 0) ≡ false
-
-  pub none-yet : (to : ℕ) → None to to
-  none-yet to j p l = absurd (omega arith)
+  pub none-yet : (to : ℕ) → Clear r to to
+  none-yet to = record { none = λ j p l. absurd (omega arith) }
 
   -- one symbol before
-  pub one-before : {k to : ℕ} → None k to → 1 ≤ k → isComma (getD r (k - 1) 0) ≡ false → None (k - 1) to
-  one-before {k} {to} n h e j p l =
-      on-test (ltb j k) (λ t. let here : j ≡ k - 1 = omega (arith, ltb-true j k t) in rw here e) (λ t. n j (ltb-false j k t) l)
+  pub one-before : {k to : ℕ} → Clear r k to → 1 ≤ k → isComma (getD r (k - 1) 0) ≡ false → Clear r (k - 1) to
+  one-before {k} {to} n h e =
+      record {
+        none = λ j p l.
+            on-test (ltb j k) (λ t. let here : j ≡ k - 1 = omega (arith, ltb-true j k t) in rw here e) (λ t. n .none j (ltb-false j k t) l);
+      }
 
   -- many symbols before
-  pub many-before : {k to from x : ℕ} (m : ℕ) → None k to → from + m ≡ k → x ≡ gathered m (commaAt r from) → x ≡ 0 → None from to
-  many-before {k} {to} {from} m n h e z j p l =
-      on-test (ltb j k)
-      (λ t.
-      let below = ltb-true j k t in
-      let here : from + (j - from) ≡ j = omega arith in
-      is-none (getD r j 0) (rw here at (each-none (commaAt r from) m (sym e ∙ z) (j - from) (omega arith))))
-      (λ t. n j (ltb-false j k t) l)
+  pub many-before : {k to from x : ℕ} (m : ℕ) → Clear r k to → from + m ≡ k → x ≡ gathered m (commaAt r from) → x ≡ 0 → Clear r from to
+  many-before {k} {to} {from} m n h e z =
+      record {
+        none = λ j p l.
+            on-test (ltb j k)
+            (λ t.
+            let below = ltb-true j k t in
+            let here : from + (j - from) ≡ j = omega arith in
+            is-none (getD r j 0) (rw here at (each-none (commaAt r from) m (sym e ∙ z) (j - from) (omega arith))))
+            (λ t. n .none j (ltb-false j k t) l);
+      }
 
-  -- the range is passed, or a K28.5 is met
-  pub met : {from k to : ℕ} → None k to → from < k → k ≤ to → isComma (getD r (k - 1) 0) ≡ true → LastInv r from to k
-  met n h l e = record { low = omega arith; high = l; none = n; last = λ _. e }
+  -- a run and what follows it
+  pub joined : {from mid to : ℕ} → Clear r from mid → Clear r mid to → Clear r from to
+  joined {from} {mid} a b =
+      record { none = λ j p l. on-test (ltb j mid) (λ t. a .none j p (ltb-true j mid t)) (λ t. b .none j (ltb-false j mid t) l) }
 
-  pub none-met : {from k to : ℕ} → None k to → from ≡ k → k ≤ to → LastInv r from to k
-  none-met n e l = record { low = omega arith; high = l; none = n; last = λ h. absurd (omega arith) }
+  -- a K28.5 is met, or the range is passed
+  pub met : {from k to : ℕ} → Clear r k to → from < k → k ≤ to → isComma (getD r (k - 1) 0) ≡ true → LastInv r from to k
+  met n h l e = record { low = omega arith; high = l; clear = n; last = λ _. e }
+
+  pub none-met : {from k to : ℕ} → Clear r k to → from ≡ k → k ≤ to → LastInv r from to k
+  none-met n e l = record { low = omega arith; high = l; clear = n; last = λ h. absurd (omega arith) }
 
   -- what is met before a place from which on there is none
-  pub met-before : {from k to mid : ℕ} → LastInv r from mid k → None mid to → mid ≤ to → LastInv r from to k
-  met-before {from} {k} {to} {mid} m n l =
-      record {
-        low = m .low;
-        high = omega (arith, m .high);
-        none = λ j p q. on-test (ltb j mid) (λ t. m .none j p (ltb-true j mid t)) (λ t. n j (ltb-false j mid t) q);
-        last = m .last;
-      }
+  pub met-before : {from k to mid : ℕ} → LastInv r from mid k → Clear r mid to → mid ≤ to → LastInv r from to k
+  met-before m n l = record { low = m .low; high = omega (arith, m .high); clear = joined (m .clear) n; last = m .last }
 
   -- ---- places passed over
 
   module _ (n : ℕ) where
-    -- where window i has K28.5 at no symbol behind its first two: none of it but i, since each has no K28.5 at the next place, or at its own
-    pub all-passed : (i : ℕ) {k q : ℕ} → 3 ≤ n → LastInv r (i + 2) (i + n) k → k ≡ i + 2 → i + 1 ≤ q → q ≤ i + n → LookInv n r (i + 1) q
-    all-passed i {k} {q} h m e low high =
-        record {
-          at = low;
-          none = λ j p l b.
-              on-test (ltb (j + 1) (i + n))
-              (λ t. true≢false (sym (b .second) ∙ m .none (j + 1) (omega arith) (ltb-true (j + 1) (i + n) t)))
-              (λ t. true≢false (sym (b .first) ∙ m .none j (omega (arith, ltb-false (j + 1) (i + n) t)) (omega arith)));
-        }
+    -- window i, of which the symbols behind the first two are clear up to place `seen`
+    module _ (i : ℕ) {seen k : ℕ} (three : 3 ≤ n) (low : i + 2 ≤ seen) (m : LastInv r seen (i + n) k) where
+      -- they all are: no span begins in it but at i, since each place has no K28.5 at the next, or at its own
+      pub all-passed : {q : ℕ} → Clear r (i + 2) seen → k ≡ seen → i + 1 ≤ q → q ≤ i + n → LookInv n r (i + 1) q
+      all-passed {q} before e from to =
+          let rest : Clear r (i + 2) (i + n) = joined before (rw e at (m .clear)) in
+          record {
+            at = from;
+            none = λ j p l b.
+                on-test (ltb (j + 1) (i + n))
+                (λ t. true≢false (sym (b .second) ∙ rest .none (j + 1) (omega arith) (ltb-true (j + 1) (i + n) t)))
+                (λ t. true≢false (sym (b .first) ∙ rest .none j (omega (arith, m .low, m .high, ltb-false (j + 1) (i + n) t)) (omega arith)));
+          }
 
-    -- where it has: none that has the last of them behind its own first two
-    pub some-passed : (i : ℕ) {k q : ℕ} → LastInv r (i + 2) (i + n) k → (k ≡ i + 2 → ⊥) → i + 1 ≤ q → q + 2 ≤ k → LookInv n r (i + 1) q
-    some-passed i {k} {q} m e low high =
-        let late : i + 2 < k = omega (arith, m .low, e) in
-        record {
-          at = low;
-          none = λ j p l b. true≢false (sym (m .last late) ∙ b .only (k - 1) (omega arith) (omega (arith, m .high)));
-        }
-
-    -- and not at i
-    pub other-passed : (i : ℕ) {k : ℕ} → LastInv r (i + 2) (i + n) k → (k ≡ i + 2 → ⊥) → MayBegin n r i → ⊥
-    other-passed i {k} m e b =
-        let late : i + 2 < k = omega (arith, m .low, e) in
-        true≢false (sym (m .last late) ∙ b .only (k - 1) (omega arith) (omega (arith, m .high)))
+      -- they are not: no span begins that has the last K28.5 behind its own first two symbols
+      pub some-passed : {q : ℕ} → (k ≡ seen → ⊥) → i ≤ q → q + 2 ≤ k → LookInv n r i q
+      some-passed {q} e from to =
+          let late : seen < k = omega (arith, m .low, e) in
+          record {
+            at = from;
+            none = λ j p l b. true≢false (sym (m .last late) ∙ b .only (k - 1) (omega arith) (omega (arith, m .high)));
+          }
 
     -- one place
     begins : {q : ℕ} → MayBegin n r q → beginsAt r q ≡ true

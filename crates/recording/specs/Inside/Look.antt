@@ -48,9 +48,13 @@ pub record LookInv (n : ℕ) (r : List ℕ) (from q : ℕ) : Type 0 where
   pub at : from ≤ q
   pub none : (j : ℕ) → from ≤ j → j < q → MayBegin n r j → ⊥
 
+-- no K28.5 stands from one place up to another
+pub record Clear (r : List ℕ) (from to : ℕ) : Type 0 where
+  pub none : (j : ℕ) → from ≤ j → j < to → isComma (getD r j 0) ≡ false
+
 -- the last K28.5 from one place up to another stands just before k; if there is none, k is the first place
 pub record LastInv (r : List ℕ) (from to k : ℕ) : Type 0 where
   pub low : from ≤ k
   pub high : k ≤ to
-  pub none : (j : ℕ) → k ≤ j → j < to → isComma (getD r j 0) ≡ false
+  pub clear : Clear r k to
   pub last : from < k → isComma (getD r (k - 1) 0) ≡ true

@@ -3,12 +3,13 @@
 use Prim.Native.Nat.{_-_, _≤_}
 use native.Mathlib.Omega.{arith}
 use borrow.Author.Needs.{needs}
-use Rattle.recording.proofs.Looking.{None, none-yet, many-before, met-before}
+use Rattle.recording.specs.Inside.Look.{Clear}
+use Rattle.recording.proofs.Looking.{none-yet, many-before, met-before}
 use Rattle.finding.proofs.look.after_last.Statement.{statement}
 use Rattle.finding.proofs.look.after_last.Tie as tie
 
 abbrev Inv-loop : tie.InvT-loop
-Inv-loop symbols from to k₀ k = (from ≤ k) × (k ≤ to) × None symbols k to
+Inv-loop symbols from to k₀ k = (from ≤ k) × (k ≤ to) × Clear symbols k to
 
 abbrev μ-loop : tie.MeasureT-loop
 μ-loop symbols from to k₀ k = k

@@ -5,12 +5,13 @@ use Prim.Native.Nat.{_-_, _≤_}
 use native.Mathlib.Omega.{arith}
 use lib.ListN.{getD}
 use borrow.Author.Needs.{needs}
-use Rattle.recording.proofs.Looking.{is-comma, not-comma, None, none-yet, one-before, met, none-met}
+use Rattle.recording.specs.Inside.Look.{Clear}
+use Rattle.recording.proofs.Looking.{is-comma, not-comma, none-yet, one-before, met, none-met}
 use Rattle.finding.proofs.look.after_last_in.Statement.{statement}
 use Rattle.finding.proofs.look.after_last_in.Tie as tie
 
 abbrev Inv-loop : tie.InvT-loop
-Inv-loop symbols from to k₀ k = (from ≤ k) × (k ≤ to) × None symbols k to
+Inv-loop symbols from to k₀ k = (from ≤ k) × (k ≤ to) × Clear symbols k to
 
 abbrev μ-loop : tie.MeasureT-loop
 μ-loop symbols from to k₀ k = k
