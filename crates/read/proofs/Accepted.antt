@@ -28,7 +28,7 @@ use Rattle.read_test20.specs.Inside.Whole.{validOf, isWhole, wholeIf, rowsWhole
 use Rattle.read_test21_26.specs.declared.service.Verdict.{Verdict}
 use Rattle.read_test21_26.specs.declared.service.Verdict.the-variants.{AllHold, Fails}
 use Rattle.read_test21_26.specs.Inside.Verdict.{isFailed, firstRow}
-use Rattle.read.specs.Call.{deliveredIn, rowsAccepted}
+use Rattle.read.specs.Inside.Accept.{deliveredIn, rowsAccepted}
 use Rattle.read.specs.Inside.Picture.{lineTests, pictureTests}
 use Rattle.read.proofs.Verdicts.{answerBy}
 use Rattle.read.proofs.Windows.{place-most, read-20, read-by, first-hold}

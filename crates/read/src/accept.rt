@@ -12,7 +12,7 @@ ghost use Rattle.window.specs.Read.{pictureOf, readSpan, readOf};
 ghost use Rattle.window.specs.Inside.Window.{IsWindow};
 ghost use Rattle.read_test20.specs.Inside.Run.{place20};
 ghost use Rattle.read_test20.specs.Inside.Whole.{validOf};
-ghost use Rattle.read.specs.Call.{acceptedIn, deliveredIn, rowsAccepted};
+ghost use Rattle.read.specs.Inside.Accept.{acceptedIn, deliveredIn, rowsAccepted};
 
 pub enum Accepted {
     Delivered(Delivery),
