@@ -16,6 +16,7 @@
 #include <stdio.h>
 #include <stdlib.h>
 #include <string.h>
+#include <unistd.h>
 
 enum { MOST_BYTES = 1 << 20, LINES = 1125, PRINTING = 24 * 1024 };
 
@@ -99,14 +100,14 @@ static size_t to_give_up(live_link *link) {
     return (size_t)((link->told < start ? link->told : start) - link->given_up);
 }
 
-/* Reads for as long as there is something, at most so many bytes at a time; a symbol may arrive in two halves. */
+/* Takes what is there, at most so many bytes at a time, until the end; a symbol may arrive in two halves. */
 static uint32_t receive(live_link *link, size_t most) {
     static unsigned char bytes[MOST_BYTES];
-    size_t count;
+    ssize_t count;
     unsigned low = 0;
     bool half = false;
-    while ((count = fread(bytes, 1, most, stdin)) != 0) {
-        for (size_t i = 0; i < count; i++) {
+    while ((count = read(STDIN_FILENO, bytes, most)) > 0) {
+        for (ssize_t i = 0; i < count; i++) {
             if (half) link->symbols[link->count++] = (uint16_t)(low + 256u * bytes[i]);
             low = bytes[i];
             half = !half;
@@ -128,7 +129,9 @@ static void *run(void *argument) {
     task *t = argument;
     unsigned char head[2] = {0, 0};
     live_link link = {0};
-    if (fread(head, 1, 2, stdin) == 2) link.format = (brazulint_format){.number = head[0], .depth = head[1]};
+    for (size_t i = 0; i < 2; i++)
+        if (read(STDIN_FILENO, head + i, 1) != 1) break;
+    link.format = (brazulint_format){.number = head[0], .depth = head[1]};
     brazulint_lengths_answer lengths = brazulint_lengths(link.format);
     t->number = lengths.number;
     if (lengths.number != 0) return NULL;
