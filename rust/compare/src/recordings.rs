@@ -15,6 +15,7 @@ pub fn run() -> Report {
     r.add(in_two(one_bit));
     r.add(in_two(one_symbol));
     r.add(in_two(live));
+    r.add(in_two(pairs));
     r
 }
 
@@ -82,6 +83,33 @@ fn at_every_place(part: usize, r: &mut Report) {
         }
         let found = brazulint::find(Format::new(format, depth), &recording, 0);
         r.holds(|| format!("the span at {place} is not found"), found.result() == Ok(Some(place as u64)));
+    }
+}
+
+/// Distances of pairs of K28.5: next to each other, about as far apart as a finder may look ahead, and far.
+const DISTANCES: [usize; 12] = [1, 2, 3, 4, 63, 64, 65, 128, 129, 130, 200, 1000];
+
+/// The beginning of a span again and again, so that a pair of K28.5 stands at every distance; before a sent span and behind it, and with a
+/// pair in a span before a whole one.
+fn pairs(part: usize, r: &mut Report) {
+    let mut random = Random(0x505 + part as u64);
+    for (round, distance) in DISTANCES.into_iter().enumerate() {
+        let (format, depth) = KINDS[(2 * round + part) % 6];
+        let (span, other) = (any_sent(&mut random, format, depth), any_sent(&mut random, format, depth));
+        let length = span.len();
+        let count = random.pick(&[distance, 700, length - 1, length + 1, 2 * length]);
+        let starts: Vec<u16> = (0..count).map(|i| other[i % distance]).collect();
+        let mut hurt = other.clone();
+        let at = random.pick(&[2, 3, distance, length / 2, length - 3, length - 2]);
+        hurt[at..at + 2].copy_from_slice(&other[..2]);
+        for (k, recording) in [[&starts, &span, &starts], [&hurt, &span, &starts], [&starts, &hurt, &span]].into_iter().enumerate() {
+            let recording = recording.map(Vec::as_slice).concat();
+            r.context = format!("pairs of K28.5 at a distance of {distance}, recording {k} of half {part}");
+            calls::deliver(r, format, depth, &recording);
+            for start in [0, 1, 2, count, count + 1, at] {
+                calls::find(r, format, depth, &recording, start as u64);
+            }
+        }
     }
 }
 
