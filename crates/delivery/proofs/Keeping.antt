@@ -2,23 +2,23 @@
 -- that is kept.
 -- Assumes nothing.
 use mathlib.Core.Path.{_≡_, refl, sym, ap, _∙_}
-use mathlib.Core.Bool.{true, false}
+use mathlib.Core.Bool.{false}
 use mathlib.Core.List.{List, [], _∷_, _++_}
 use mathlib.Core.Option.{Option, none, some}
 use Prim.Native.Nat.{ℕ, zero, suc, _+_, _-_, _≤_, _<_}
-use native.Mathlib.Nat.{add-zero, add-suc}
+use native.Mathlib.Nat.{add-zero}
 use native.Mathlib.Omega.{arith}
 use lib.Dec.{leb, ltb}
-use lib.ListN.{length, getD, take, drop, length-drop, length-append}
+use lib.ListN.{length, getD, take, drop, length-drop}
 use lib.Seq.{drop-cons, drop-append-le, take-append-le}
-use borrow.Author.Tests.{le-leb, lt-leb, leb-true, leb-false, ltb-true, ltb-false}
+use borrow.Author.Tests.{le-leb, leb-true, leb-false, ltb-true, ltb-false}
 use Rattle.ground.specs.Search.{isSome}
 use Rattle.ground.proofs.Cases.{on-test}
-use Rattle.delivery.specs.Delivery.{Found, followed, windowAt, acceptsAt, findBy, readFrom, nextBy, deliver, deliverBy, movedBy}
+use Rattle.delivery.specs.Delivery.{Found, windowAt, acceptsAt, findBy, nextBy, deliver, deliverBy, movedBy}
 use Rattle.delivery.specs.Kept.{untried, keptFrom}
 use Rattle.delivery.specs.Inside.Ending.{endAfter}
 use Rattle.delivery.specs.Inside.Marked.{Whole}
-use Rattle.delivery.proofs.Finding.{told, untold, not-at-the-end, stands-whole, found-at, found-told, nowhere-told, at-the-end, next-then}
+use Rattle.delivery.proofs.Finding.{told, untold, stands-whole, found-at, found-told, nowhere-told, at-the-end, next-then}
 use Rattle.delivery.proofs.Steps.{passed-over, moved}
 
 -- ---- the place that is kept

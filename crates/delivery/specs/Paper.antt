@@ -3,7 +3,7 @@
 use Prim.Native.Nat.{ℕ, _+_, _≤_}
 use mathlib.Core.Path.{_≡_}
 use mathlib.Core.List.{List, [], _∷_, _++_}
-use Rattle.delivery.specs.Delivery.{Found, movedBy, concatenated, placedFrom, Each}
+use Rattle.delivery.specs.Delivery.{movedBy, concatenated, placedFrom, Each}
 use Rattle.delivery.specs.Kept.{keptFrom}
 
 pub record DeliveryPaper (S A : Type 0) : Type 1 where

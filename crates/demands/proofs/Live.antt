@@ -1,17 +1,16 @@
 -- A link taken in pieces gives what everything that arrived would give at once.
 -- Assumes nothing.
 use mathlib.Core.Path.{_≡_, refl, sym, ap, _∙_}
-use mathlib.Core.Bool.{true, false}
+use mathlib.Core.Bool.{true}
 use mathlib.Core.List.{List, [], _∷_, _++_, append-assoc}
 use mathlib.Core.Option.{none}
 use Prim.Native.Nat.{ℕ, suc, _+_, _-_, _≤_, _<_}
 use native.Mathlib.Omega.{arith}
-use lib.ListN.{length, take, drop, length-drop, length-append}
+use lib.ListN.{length, drop, length-drop, length-append}
 use borrow.Author.Tests.{eqb-true}
 use Rattle.ground.specs.Answer.{given}
 use Rattle.span.specs.declared.format.Format.{Format}
 use Rattle.span.specs.Format.{isKnown, shapeOf, samplesIn, symbolsIn}
-use Rattle.span.specs.Numbers.{IsFormat, Samples}
 use Rattle.delivery.specs.Delivery.{Found, findBy as findBy, deliverBy as deliverBy, movedBy, concatenated, Each}
 use Rattle.delivery.specs.Kept.{keptFrom}
 use Rattle.delivery.specs.Inside.Ending.{endAfter}
@@ -21,7 +20,7 @@ use Rattle.delivery.proofs.Keeping.{kept-bounds, none-before, goes, piece}
 use Rattle.delivery.proofs.Steps.{moved-both, moved-twice, unmoved, few}
 use Rattle.recording.specs.Call.{nextOf, afterNext}
 use Rattle.recording.specs.Recording.{limit, Reading, reading, deliveryFrom}
-use Rattle.recording.specs.Steps.{Left, leftBy, lastRows}
+use Rattle.recording.specs.Steps.{leftBy, lastRows}
 use Rattle.recording.proofs.Calling.{none-found}
 use Rattle.recording.proofs.Readings.{span-whole}
 use Rattle.recording.proofs.Steps.{end-stays, steps-leave, last-long}

@@ -26,7 +26,7 @@ use Rattle.dividing.proofs.Rows.{length-divided, sample-divided, length-joined,
 use Rattle.span.specs.declared.content.Content.{Content}
 use Rattle.span.specs.declared.format.Format.{Format}
 use Rattle.span.proofs.Formats.{two-streams, four-streams}
-use Rattle.span.specs.Format.{numbered, shapeOf, streams, samplesIn}
+use Rattle.span.specs.Format.{shapeOf, streams, samplesIn}
 use Rattle.span.specs.Image.{imageOf}
 use Rattle.span.specs.Sample.{sampleWord}
 use Rattle.span.specs.Stream.{Request, picture}

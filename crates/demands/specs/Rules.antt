@@ -10,13 +10,11 @@ use Rattle.symbol.specs.declared.disparity.Disparity.{Disparity}
 use Rattle.symbol.specs.Code.{symbolOf}
 use Rattle.word.specs.LineNumber.{ln0, ln1}
 use Rattle.word.specs.Repair.{distance}
-use Rattle.word.specs.Timing.{timing}
 use Rattle.span.specs.declared.format.Format.{Format}
 use Rattle.span.specs.Format.{shapeOf, streams, pairsIn, symbolsIn}
 use Rattle.span.specs.Stream.{Request}
 use Rattle.span.specs.Numbers.{IsFormat, Symbols, Samples}
 use Rattle.way_back.specs.Paper.{Carried}
-use Rattle.recording.specs.Recording.{reading}
 use Rattle.window.specs.Paper.{wordOfWindow}
 use Rattle.window.specs.Rules.{Rule20, Rule21, Rule22, Rule23, Rule24, Rule25, Rule26}
 use Rattle.demands.specs.Form.{MaySend, Refusal, rule, ruleAt}

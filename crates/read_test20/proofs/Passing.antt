@@ -1,7 +1,7 @@
 -- What the single pass finds, and what is answered from it.
 -- Assumes nothing.
-use mathlib.Core.Path.{_≡_, refl, sym, ap, subst, _∙_}
-use mathlib.Core.Bool.{true, false, cond}
+use mathlib.Core.Path.{_≡_, sym, ap, subst, _∙_}
+use mathlib.Core.Bool.{true, false}
 use mathlib.Core.List.{List}
 use mathlib.Core.Option.{none, some}
 use Prim.Native.Nat.{ℕ}
@@ -10,18 +10,15 @@ use lib.ListN.{length, replicate}
 use borrow.Author.Tests.{eq-eqb, ne-eqb}
 use Rattle.span.specs.declared.format.Format.{Format}
 use Rattle.span.specs.declared.format.Shape.{Shape}
-use Rattle.span.specs.Format.{shapeOf, streams}
+use Rattle.span.specs.Format.{shapeOf}
 use Rattle.span.specs.Inside.Fit.{ready}
-use Rattle.window.specs.Tests.{rows as rowsOf}
-use Rattle.window.specs.Words.{wordAt}
 use Rattle.read_test20.specs.declared.whole.Outcome.{Outcome}
 use Rattle.read_test20.specs.declared.whole.Outcome.the-variants.{Whole as AllValid, Faulty, NotExamined as NoWindow}
 use Rattle.read_test20.specs.declared.whole.Reached.{Reached}
-use Rattle.read_test20.specs.declared.whole.Taken.{Taken}
 use Rattle.read_test20.specs.declared.whole.Taken.the-variants.{Whole, Invalid, NotExamined}
 use Rattle.read_test20.specs.declared.whole.Valid.{Valid}
 use Rattle.read_test20.specs.Inside.Run.{ScanInv, place20}
-use Rattle.read_test20.specs.Inside.Whole.{AllHold, validOf, PassedWindow, PassedIf, takenIf, rowsIf, wholeIf, rowsWhole}
+use Rattle.read_test20.specs.Inside.Whole.{AllHold, PassedWindow, PassedIf, takenIf, rowsIf, wholeIf, rowsWhole}
 use Rattle.read_test20.proofs.Kept.{all-right}
 
 -- ---- a fault

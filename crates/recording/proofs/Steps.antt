@@ -19,7 +19,7 @@ use Rattle.delivery.proofs.Finding.{found-nowhere, nowhere-told, next-then}
 use Rattle.delivery.proofs.Keeping.{kept-bounds, kept-stays}
 use Rattle.recording.specs.Call.{spanned, nextRows, nextOf, endOr, afterNext, wordsOr, rowsNext}
 use Rattle.recording.specs.Recording.{limit, Reading, reading, nextFrom, deliveryFrom}
-use Rattle.recording.specs.Steps.{Step, runFrom, Left, leftBy, spanStep, endStep, lastRows}
+use Rattle.recording.specs.Steps.{Step, runFrom, leftBy, spanStep, endStep, lastRows}
 use Rattle.recording.proofs.Calling.{none-found, next-given}
 use Rattle.recording.proofs.Readings.{span-whole}
 use Rattle.recording.proofs.Nexts.{IsNext, next-is}

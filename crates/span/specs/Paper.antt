@@ -27,7 +27,7 @@ use Rattle.span.specs.Image.{imageOf}
 use Rattle.span.specs.Length.{lengthsOf}
 use Rattle.span.specs.Numbers.{IsFormat}
 use Rattle.span.specs.Span.{bytesListed, spanWords, spanChars, spanSymbols, signal}
-use Rattle.span.specs.Stream.{Request, picture}
+use Rattle.span.specs.Stream.{Request}
 
 -- a format by its number and depth
 abbrev format : ℕ → ℕ → Format

@@ -1,27 +1,26 @@
 -- The way back, case by case.
 -- Assumes nothing.
 use mathlib.Core.Path.{_≡_, refl, sym, ap, _∙_}
-use mathlib.Core.Bool.{Bool, true, false, cond, _&&_, and-false}
-use mathlib.Core.Option.{Option, none, some}
-use Prim.Native.Nat.{ℕ, _+_, _-_, _*_, _≤_}
+use mathlib.Core.Bool.{true, false, and-false}
+use mathlib.Core.Option.{none, some}
+use Prim.Native.Nat.{ℕ, _-_, _*_, _≤_}
 use native.Mathlib.Omega.{arith}
 use lib.Dec.{eqb}
-use borrow.Author.Tests.{eq-eqb, ne-eqb, eqb-true, eqb-false}
+use borrow.Author.Tests.{ne-eqb, eqb-true, eqb-false}
 use Rattle.ground.specs.Answer.{refused, given}
 use Rattle.ground.specs.Range.{within}
 use Rattle.ground.proofs.Cases.{on-test}
-use Rattle.ground.proofs.Ranges.{is-within, not-within, from-low, to-high}
+use Rattle.ground.proofs.Ranges.{is-within, from-low, to-high}
 use Rattle.ground.proofs.Tests.{both-left, both-right}
 use Rattle.line.specs.declared.picture.PictureLine.{PictureLine}
-use Rattle.line.specs.Picture.{basicLineOf}
 use Rattle.line.specs.Stream.{isActive}
 use Rattle.picture.specs.Division.{lineFrom}
-use Rattle.picture.specs.Place.{isImage, pictureLineOn}
+use Rattle.picture.specs.Place.{pictureLineOn}
 use Rattle.span.specs.declared.format.Format.{Format}
 use Rattle.span.specs.declared.format.Shape.{Shape}
 use Rattle.span.specs.Format.{isKnown, shapeOf, streams}
 use Rattle.span.specs.Image.{imageOf}
-use Rattle.span.proofs.Formats.{Known, known-told, small}
+use Rattle.span.proofs.Formats.{small}
 use Rattle.way_back.specs.declared.back.ImageLine.{ImageLine}
 use Rattle.way_back.specs.Back.{linksBy, hasStream, imageLineOn, backOf}
 use Rattle.way_back.specs.Inside.Image.{imageOn}

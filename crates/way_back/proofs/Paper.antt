@@ -1,14 +1,12 @@
 -- The way back in document 01's own numerals.
 -- Assumes nothing.
-use mathlib.Core.Path.{_≡_, refl, sym, ap, _∙_}
-use mathlib.Core.Bool.{Bool, true, false, _&&_}
+use mathlib.Core.Path.{_≡_, refl, sym, _∙_}
+use mathlib.Core.Bool.{true, false, _&&_}
 use mathlib.Core.Logic.{_⊎_, inl, inr, ⊎-elim}
 use Prim.Native.Nat.{ℕ, _+_, _-_, _*_, _≤_}
 use native.Mathlib.Omega.{arith}
-use lib.Dec.{leb, eqb}
+use lib.Dec.{leb}
 use borrow.Author.Tests.{leb-true, leb-false}
-use Rattle.ground.specs.Answer.{refused, given}
-use Rattle.ground.specs.Range.{within}
 use Rattle.ground.specs.Inside.Test.{Reflects}
 use Rattle.ground.proofs.Cases.{on-test}
 use Rattle.ground.proofs.Ranges.{is-within, from-low, to-high}
@@ -16,14 +14,13 @@ use Rattle.ground.proofs.Tests.{both-left, both-right}
 use Rattle.line.specs.Stream.{isActive}
 use Rattle.picture.specs.Division.{lineFrom, h}
 use Rattle.span.specs.declared.format.Format.{Format}
-use Rattle.span.specs.Format.{isKnown, shapeOf, streams}
+use Rattle.span.specs.Format.{shapeOf}
 use Rattle.span.specs.Image.{imageOf}
 use Rattle.span.specs.Numbers.{IsFormat}
 use Rattle.span.proofs.Formats.{is-format, no-format, two-streams, four-streams}
-use Rattle.way_back.specs.declared.back.ImageLine.{ImageLine}
-use Rattle.way_back.specs.Back.{linksBy, hasStream, imageLineOn, backOf}
+use Rattle.way_back.specs.Back.{hasStream, imageLineOn, backOf}
 use Rattle.way_back.specs.Paper.{IsStream, Carried, line, WayBackPaper}
-use Rattle.way_back.proofs.Backs.{Has, has-told, unknown-back, no-stream, no-picture, is-back}
+use Rattle.way_back.proofs.Backs.{has-told, unknown-back, is-back}
 
 module _ (f : Format) (known : IsFormat f) where
   abbrev p : ℕ

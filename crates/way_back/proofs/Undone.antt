@@ -1,10 +1,9 @@
 -- Place and way back undo each other.
 -- Assumes nothing.
 use mathlib.Core.Path.{_≡_, refl, sym, ap, _∙_}
-use mathlib.Core.Bool.{true, false, _&&_}
+use mathlib.Core.Bool.{true}
 use mathlib.Core.Logic.{inl, inr}
-use mathlib.Core.Option.{some}
-use Prim.Native.Nat.{ℕ, _+_, _-_, _*_, _/_, _%_, _≤_}
+use Prim.Native.Nat.{ℕ, _+_, _-_, _/_, _%_, _≤_}
 use native.Mathlib.Omega.{arith}
 use lib.Dec.{eqb, leb}
 use borrow.Author.Tests.{eqb-true, eqb-false, leb-true, leb-false}
@@ -13,8 +12,8 @@ use Rattle.ground.proofs.Cases.{on-test}
 use Rattle.ground.proofs.Ranges.{from-low, to-high}
 use Rattle.line.specs.Stream.{isActive}
 use Rattle.picture.specs.declared.place.Place.{Place}
-use Rattle.picture.specs.Division.{imageAt, lineFrom, sampleFrom, h}
-use Rattle.picture.specs.Place.{placeOf, placedOf}
+use Rattle.picture.specs.Division.{imageAt, lineFrom, sampleFrom}
+use Rattle.picture.specs.Place.{placedOf}
 use Rattle.picture.proofs.Places.{found, placed-told, line-of-place}
 use Rattle.picture.proofs.Steps.{one-of-four}
 use Rattle.span.specs.declared.format.Format.{Format}

@@ -1,7 +1,6 @@
 -- `generate::start::put_refusal` meets its contract: the answer says which text it is.
 -- Assumes nothing.
 use mathlib.Core.Path.{sym, ap, _∙_}
-use native.Mathlib.Omega.{arith}
 use Rattle.generate.specs.Inside.Parameters.{paperWanted}
 use Rattle.generate.proofs.Starts.{no-refusal, refuses, text-1, text-2, text-3}
 use borrow.Author.Needs.{needs}

@@ -1,11 +1,9 @@
 -- `read_test20::whole::pass_window` meets its contract.
 -- Assumes nothing.
-use mathlib.Core.Path.{_≡_, refl, sym, ap, _∙_}
+use mathlib.Core.Path.{refl, sym, ap, _∙_}
 use mathlib.Core.Bool.{true≢false}
-use Prim.Native.Nat.{_*_}
 use native.Mathlib.Omega.{arith}
 use borrow.Author.Tests.{not-true, not-false}
-use Rattle.span.specs.Format.{samplesIn}
 use Rattle.read_test20.proofs.Getting.{picture-is, sums-are}
 use Rattle.read_test20.proofs.Kept.{sav-stands, bytes-stand, is-valid}
 use Rattle.read_test20.proofs.Wholes.{tied, goes-on, scanned-whole, reached-behind}
