@@ -37,7 +37,7 @@ use Rattle.request.specs.Send.{request, sendOf, sentBuffer}
 use Rattle.demands.specs.Demands.{IsRow}
 use Rattle.demands.specs.Examples.{lowestSample, onLine42, blankLine, threeLines, IsNext, At, Examples}
 use Rattle.demands.specs.Form.{MaySend, Sending, WasSent, sentSymbols, readingOf, spanFound, onward, stepsFrom, DeliveredFrom}
-use Rattle.demands.specs.Live.{arrived, liveFrom, Fits}
+use Rattle.demands.specs.Live.{arrived, liveFrom, PieceFits}
 use Rattle.demands.proofs.Demands.{demand-1, demand-3}
 use Rattle.demands.proofs.Refusing.{known-says, symbols-say, samples-say}
 use Rattle.demands.proofs.Delivering.{nothing}
@@ -267,7 +267,7 @@ module _ (f : Format) (n m : ℕ) (known : IsFormat f) (symbols : Symbols f n) (
       abbrev pieces : List (List ℕ)
       pieces = take c r ∷ drop c r ∷ []
 
-      fits : (piece : List ℕ) → length piece ≤ length r → Fits f piece
+      fits : (piece : List ℕ) → length piece ≤ length r → PieceFits f piece
       fits piece h = omega (arith, short, h, n-is, demand-3 .recordings .theLimit, of-a-span .1)
 
       joined : arrived pieces ≡ r
@@ -280,7 +280,7 @@ module _ (f : Format) (n m : ℕ) (known : IsFormat f) (symbols : Symbols f n) (
           × (liveFrom f rows 0 [] pieces ≡ record { place = length before; reading = record { values = v; words = replicate m 16 } } ∷ [])
       unfolding movedBy
       cut-in-two =
-          let each : Each (Fits f) pieces = (fits (take c r) (omega (arith, length-take c r)), (fits (drop c r) (omega (arith, length-drop c r)), tt)) in
+          let each : Each (PieceFits f) pieces = (fits (take c r) (omega (arith, length-take c r)), (fits (drop c r) (omega (arith, length-drop c r)), tt)) in
           let found = live .anywhere f x before behind (sent-42 d) rows (rw size samples) pieces each joined in
           let one : liveFrom f rows 0 [] pieces ≡ here ∷ [] = rw (quiet before p, quiet behind q) at found in
           (readingOf f x .values, refl, one ∙ ap (λ (words : List ℕ). record { place = length before; reading = record { values = readingOf f x .values; words = words } } ∷ []) (dark d))

@@ -20,12 +20,12 @@ use Rattle.delivery.proofs.Keeping.{kept-bounds, none-before, goes, piece}
 use Rattle.delivery.proofs.Steps.{moved-both, moved-twice, unmoved, few}
 use Rattle.recording.specs.Call.{nextOf, afterNext}
 use Rattle.recording.specs.Recording.{limit, Reading, reading, deliveryFrom}
-use Rattle.recording.specs.Steps.{leftBy, lastRows}
+use Rattle.recording.specs.Steps.{restBy, lastRows}
 use Rattle.recording.proofs.Calling.{none-found}
 use Rattle.recording.proofs.Readings.{span-whole}
 use Rattle.recording.proofs.Steps.{end-stays, steps-leave, last-long}
 use Rattle.demands.specs.Form.{sentSymbols, stepsFrom}
-use Rattle.demands.specs.Live.{arrived, leftOf, liveFrom, Fits, LiveGives, Live}
+use Rattle.demands.specs.Live.{arrived, afterPiece, liveFrom, PieceFits, LiveGives, Live}
 use Rattle.demands.proofs.Delivering.{steps-are, anywhere, one-inverted, known-asked, start-asked, next-asked}
 use Rattle.demands.proofs.Refusing.{known-says, samples-say}
 use Rattle.demands.proofs.Sendings.{sendable}
@@ -52,14 +52,14 @@ module _ (f : Format) (known : isKnown f ≡ true) where
       given-all : stepsFrom (suc (length r)) f r 0 rows ≡ deliveryFrom f r 0
       given-all = steps-are f known r short (suc (length r)) 0 rows room (omega arith) (omega arith)
 
-      left-all : leftOf f r rows ≡ record { place = keptOf r; rows = lastRows rows (deliveryFrom f r 0) }
+      left-all : afterPiece f r rows ≡ record { place = keptOf r; rows = lastRows rows (deliveryFrom f r 0) }
       left-all =
           let ds = deliveryFrom f r 0 in
           let k = length r - length ds in
           let count : suc (length r) ≡ length ds + suc k = omega (arith, few n (reading f) r 0) in
-          ap (λ (m : ℕ). leftBy m f r 0 rows) count ∙ steps-leave f known r short 0 rows room (omega arith) k
+          ap (λ (m : ℕ). restBy m f r 0 rows) count ∙ steps-leave f known r short 0 rows room (omega arith) k
 
-  live-is : (pieces : List (List ℕ)) (at : ℕ) (kept rows : List ℕ) → length rows ≡ samplesIn (shapeOf f) → length kept < n → Each (Fits f) pieces
+  live-is : (pieces : List (List ℕ)) (at : ℕ) (kept rows : List ℕ) → length rows ≡ samplesIn (shapeOf f) → length kept < n → Each (PieceFits f) pieces
       → liveFrom f rows at kept pieces ≡ movedBy at (deliveryFrom f (kept ++ arrived pieces) 0)
   unfolding liveFrom concatenated movedBy deliverBy
   live-is [] at kept rows room small each =

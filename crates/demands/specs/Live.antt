@@ -16,7 +16,7 @@ use Rattle.span.specs.Numbers.{IsFormat, Samples}
 use Rattle.delivery.specs.Delivery.{Found, movedBy, concatenated, placedFrom, Each}
 use Rattle.recording.specs.Call.{nextOf, afterNext}
 use Rattle.recording.specs.Recording.{limit, Reading, accepts, deliveryFrom}
-use Rattle.recording.specs.Steps.{Left, leftBy}
+use Rattle.recording.specs.Steps.{Rest, restBy}
 use Rattle.demands.specs.Form.{Sending, WasSent, sentSymbols, readingOf, stepsFrom, Delivered}
 
 -- all that arrived
@@ -24,25 +24,25 @@ abbrev pub arrived : List (List ℕ) → List ℕ
 arrived pieces = concatenated (λ (piece : List ℕ). piece) pieces
 
 -- what the steps through some symbols leave; one step more than there are symbols, so that the last answers none
-abbrev pub leftOf : Format → List ℕ → List ℕ → Left
-leftOf f r rows = leftBy (suc (length r)) f r 0 rows
+abbrev pub afterPiece : Format → List ℕ → List ℕ → Rest
+afterPiece f r rows = restBy (suc (length r)) f r 0 rows
 
 -- piece by piece: `kept` is what was kept so far, and `at` the place of its first symbol among all that arrived
 unfoldable pub liveFrom : Format → List ℕ → ℕ → List ℕ → List (List ℕ) → List (Found Reading)
 liveFrom f rows at kept [] = []
 liveFrom f rows at kept (piece ∷ more) =
     movedBy at (stepsFrom (suc (length (kept ++ piece))) f (kept ++ piece) 0 rows)
-    ++ liveFrom f (leftOf f (kept ++ piece) rows .rows) (at + leftOf f (kept ++ piece) rows .place)
-    (drop (leftOf f (kept ++ piece) rows .place) (kept ++ piece)) more
+    ++ liveFrom f (afterPiece f (kept ++ piece) rows .rows) (at + afterPiece f (kept ++ piece) rows .place)
+    (drop (afterPiece f (kept ++ piece) rows .place) (kept ++ piece)) more
 
 -- a piece that is within the finder's limit with what may be kept before it, which is less than a span
-abbrev pub Fits : Format → List ℕ → Type 0
-Fits f piece = length piece + symbolsIn (shapeOf f) ≤ limit + 1
+abbrev pub PieceFits : Format → List ℕ → Type 0
+PieceFits f piece = length piece + symbolsIn (shapeOf f) ≤ limit + 1
 
 -- a list is what a live link gives, with rows of the right length, however what arrived is cut into pieces that fit
 abbrev pub LiveGives : Format → List ℕ → List (Found Reading) → Type 0
 LiveGives f r list =
-    (rows : List ℕ) → Samples f (length rows) → (pieces : List (List ℕ)) → Each (Fits f) pieces → arrived pieces ≡ r
+    (rows : List ℕ) → Samples f (length rows) → (pieces : List (List ℕ)) → Each (PieceFits f) pieces → arrived pieces ≡ r
     → liveFrom f rows 0 [] pieces ≡ list
 
 pub record Live : Type 0 where
@@ -64,7 +64,7 @@ pub record Live : Type 0 where
       (f : Format) (rows : List ℕ) (pieces : List (List ℕ))
       → IsFormat f
       → Samples f (length rows)
-      → Each (Fits f) pieces
+      → Each (PieceFits f) pieces
       → length (arrived pieces) ≤ limit
       → Delivered f (arrived pieces) (liveFrom f rows 0 [] pieces)
   -- so a sent span is delivered however long the link has run and whatever arrives around it,

@@ -19,7 +19,7 @@ use Rattle.delivery.proofs.Finding.{found-nowhere, nowhere-told, next-then}
 use Rattle.delivery.proofs.Keeping.{kept-bounds, kept-stays}
 use Rattle.recording.specs.Call.{spanned, nextRows, nextOf, endOr, afterNext, wordsOr, rowsNext}
 use Rattle.recording.specs.Recording.{limit, Reading, reading, nextFrom, deliveryFrom}
-use Rattle.recording.specs.Steps.{Step, runFrom, leftBy, spanStep, endStep, lastRows}
+use Rattle.recording.specs.Steps.{Step, runFrom, restBy, spanStep, endStep, lastRows}
 use Rattle.recording.proofs.Calling.{none-found, next-given}
 use Rattle.recording.proofs.Readings.{span-whole}
 use Rattle.recording.proofs.Nexts.{IsNext, next-is}
@@ -70,8 +70,8 @@ module _ (f : Format) where
           (for-ever k (keptFrom n (length r) p) (kept .1) (none-later p (keptFrom n (length r) p) (kept .0) end)))
 
       kept-left : (k p : ℕ) → p ≤ length r → nextFrom f r p ≡ none
-          → leftBy (suc k) f r p rows ≡ record { place = keptFrom n (length r) p; rows = rows }
-      unfolding leftBy
+          → restBy (suc k) f r p rows ≡ record { place = keptFrom n (length r) p; rows = rows }
+      unfolding restBy
       kept-left zero p inside end = rw (next-given f r p rows known short room inside, end)
       kept-left (suc k) p inside end =
           let kept = kept-bounds n (length r) p least inside in
@@ -120,13 +120,13 @@ module _ (f : Format) where
     steps-deliver p rows room inside k = steps (deliveryFrom f r p) p rows room inside refl k
 
     on-from : (p : ℕ) (rows : List ℕ) → length rows ≡ samplesIn (shapeOf f) → p ≤ length r → (d : Found Reading) → nextFrom f r p ≡ some d
-        → (k : ℕ) → leftBy (suc k) f r p rows ≡ leftBy k f r (d .place + n) (d .reading .words)
-    unfolding leftBy
+        → (k : ℕ) → restBy (suc k) f r p rows ≡ restBy k f r (d .place + n) (d .reading .words)
+    unfolding restBy
     on-from p rows room inside d found k = rw (next-given f r p rows known short room inside, found)
 
     -- what all of them and one more leave: the place that is kept, and the rows of the last span
     left : (ds : List (Found Reading)) (p : ℕ) (rows : List ℕ) → length rows ≡ samplesIn (shapeOf f) → p ≤ length r → deliveryFrom f r p ≡ ds
-        → (k : ℕ) → leftBy (length ds + suc k) f r p rows ≡ record { place = keptFrom n (length r) (endAfter n p ds); rows = lastRows rows ds }
+        → (k : ℕ) → restBy (length ds + suc k) f r p rows ≡ record { place = keptFrom n (length r) (endAfter n p ds); rows = lastRows rows ds }
     left [] p rows room inside is k = rw (zero-add (suc k)) (kept-left rows room k p inside (end-is p is))
     left (d ∷ ds) p rows room inside is k =
         let x = first-is p d ds is in
@@ -135,7 +135,7 @@ module _ (f : Format) where
         ∙ left ds (d .place + n) (d .reading .words) (x .next .room) (x .next .inside) (x .rest) k)
 
     pub steps-leave : (p : ℕ) (rows : List ℕ) → length rows ≡ samplesIn (shapeOf f) → p ≤ length r → (k : ℕ)
-        → leftBy (length (deliveryFrom f r p) + suc k) f r p rows
+        → restBy (length (deliveryFrom f r p) + suc k) f r p rows
         ≡ record { place = keptFrom n (length r) (endAfter n p (deliveryFrom f r p)); rows = lastRows rows (deliveryFrom f r p) }
     steps-leave p rows room inside k = left (deliveryFrom f r p) p rows room inside refl k
 

@@ -23,13 +23,13 @@ runFrom (suc k) f r p rows =
     record { answer = nextOf f r p (length rows); rows = rowsNext f r p rows } ∷ runFrom k f r (afterNext f r p (length rows)) (rowsNext f r p rows)
 
 -- what k steps leave: the place from which the next one searches, and the rows
-pub record Left : Type 0 where
+pub record Rest : Type 0 where
   pub place : ℕ
   pub rows : List ℕ
 
-unfoldable pub leftBy : ℕ → Format → List ℕ → ℕ → List ℕ → Left
-leftBy zero f r p rows = record { place = p; rows = rows }
-leftBy (suc k) f r p rows = leftBy k f r (afterNext f r p (length rows)) (rowsNext f r p rows)
+unfoldable pub restBy : ℕ → Format → List ℕ → ℕ → List ℕ → Rest
+restBy zero f r p rows = record { place = p; rows = rows }
+restBy (suc k) f r p rows = restBy k f r (afterNext f r p (length rows)) (rowsNext f r p rows)
 
 -- the step that gives a span
 abbrev pub spanStep : Found Reading → Step
