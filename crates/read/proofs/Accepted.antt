@@ -20,6 +20,7 @@ use Rattle.span.specs.Inside.Fit.{ready}
 use Rattle.span.proofs.Readiness.{known-then, symbols-then, rows-then}
 use Rattle.window.specs.declared.delivery.Delivery.{Delivery}
 use Rattle.window.specs.Read.{deliveryOf, pictureOf, readSpan, readOf}
+use Rattle.window.specs.Inside.Fill.{fillRight}
 use Rattle.window.specs.Inside.Window.{IsWindow}
 use Rattle.window.proofs.Windows.{unknown, no-window, no-room, read-is}
 use Rattle.read_test20.specs.declared.whole.Valid.{Valid}
@@ -30,7 +31,8 @@ use Rattle.read_test21_26.specs.declared.service.Verdict.the-variants.{AllHold,
 use Rattle.read_test21_26.specs.Inside.Verdict.{isFailed, firstRow}
 use Rattle.read.specs.Inside.Accept.{deliveredIn, rowsAccepted}
 use Rattle.read.specs.Inside.Picture.{lineTests, pictureTests}
-use Rattle.read.proofs.Verdicts.{answerBy}
+use Rattle.read.proofs.Picturing.{fill-refused}
+use Rattle.read.proofs.Verdicts.{answerBy, thenBy, then-by}
 use Rattle.read.proofs.Windows.{place-most, read-20, read-by, first-hold}
 
 -- ---- a test that does not hold
@@ -38,11 +40,23 @@ failed-none : (d : Delivery) (v : Verdict) → isFailed v ≡ true → none ≡ 
 failed-none d AllHold t = absurd (true≢false (sym t))
 failed-none d (Fails x) t = refl
 
+then-failed : (v more : Verdict) → isFailed more ≡ true → isFailed (thenBy v more) ≡ true
+then-failed AllHold more t = t
+then-failed (Fails x) more t = refl
+
 -- tests 25 and 26 after those that hold
 module _ (f : Format) (w : List ℕ) (is : IsWindow f w) (all : place20 (shapeOf f) w ≡ length w) (hold : firstRow (lineTests f w) ≡ AllHold) where
   pub not-accepted : isFailed (firstRow (pictureTests f w)) ≡ true → none ≡ deliveredIn (readSpan f w)
   not-accepted t =
       failed-none (deliveryOf f w) (firstRow (pictureTests f w)) t ∙ sym (ap deliveredIn (read-by f w is all (first-hold f w is hold)))
+
+-- and whatever the others say, where the fill is wrong
+unfilled : (f : Format) (w : List ℕ) → IsWindow f w → place20 (shapeOf f) w ≡ length w → fillRight (shapeOf f) w ≡ false
+    → none ≡ deliveredIn (readSpan f w)
+unfilled f w is all t =
+    failed-none (deliveryOf f w) (thenBy (firstRow (lineTests f w)) (firstRow (pictureTests f w)))
+    (then-failed (firstRow (lineTests f w)) (firstRow (pictureTests f w)) (fill-refused f w is t))
+    ∙ sym (ap deliveredIn (read-by f w is all (then-by (lineTests f w) (pictureTests f w))))
 
 -- ---- what the pass says
 module _ (f : Format) (w : List ℕ) (room : ℕ) where
@@ -55,19 +69,22 @@ module _ (f : Format) (w : List ℕ) (room : ℕ) where
     pub enough : room ≡ samplesIn (shapeOf f)
     pub all : place ≡ length w
     pub valid : v ≡ validOf (shapeOf f) w
+    pub filled : fillRight (shapeOf f) w ≡ true
     pub whole : isWhole f w room ≡ true
 
   pub right : {v : Valid} → some v ≡ wholeIf f w room → Right v
   right {v} e =
       on-test (isWhole f w room)
       (λ t.
-      let fit : ready f (length w) room ≡ true = both-left (ready f (length w) room) (eqb place (length w)) t in
+      let fit : ready f (length w) room ≡ true = both-left (ready f (length w) room) (eqb place (length w) && fillRight (shapeOf f) w) t in
+      let both = both-right (ready f (length w) room) (eqb place (length w) && fillRight (shapeOf f) w) t in
       let same : some v ≡ some (validOf (shapeOf f) w) = rw t at e in
       record {
         is = record { known = known-then f (length w) room fit; long = symbols-then f (length w) room fit };
         enough = rows-then f (length w) room fit;
-        all = eqb-true place (length w) (both-right (ready f (length w) room) (eqb place (length w)) t);
+        all = eqb-true place (length w) (both-left (eqb place (length w)) (fillRight (shapeOf f) w) both);
         valid = cc same;
+        filled = both-right (eqb place (length w)) (fillRight (shapeOf f) w) both;
         whole = t;
       })
       (λ t. let z : _≡_ {A = ℕ} 0 1 = cc (rw t at e) in absurd (omega arith))
@@ -81,9 +98,12 @@ module _ (f : Format) (w : List ℕ) (room : ℕ) where
 
       with-all : (is : IsWindow f w) → room ≡ samplesIn (shapeOf f) → place ≡ length w → none ≡ deliveredIn (readOf f w room)
       with-all is enough all =
+          on-test (fillRight (shapeOf f) w)
+          (λ t.
           absurd
           (whole-not
-          (rw (is .known, eq-eqb (length w) (symbolsIn (shapeOf f)) (is .long), eq-eqb room (samplesIn (shapeOf f)) enough, eq-eqb place (length w) all)))
+          (rw (is .known, eq-eqb (length w) (symbolsIn (shapeOf f)) (is .long), eq-eqb room (samplesIn (shapeOf f)) enough, eq-eqb place (length w) all, t))))
+          (λ t. unfilled f w is all t ∙ sym (ap deliveredIn (read-is f w is room enough)))
 
       with-room : (is : IsWindow f w) → room ≡ samplesIn (shapeOf f) → none ≡ deliveredIn (readOf f w room)
       with-room is enough =

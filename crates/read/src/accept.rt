@@ -6,9 +6,11 @@ use read_test21_26::call::Judged;
 use span::format::Format;
 use window::delivery::Delivery;
 ghost use mathlib.Core.Path.{_≡_};
+ghost use mathlib.Core.Bool.{true};
 ghost use lib.ListN.{length};
 ghost use Rattle.span.specs.Format.{shapeOf};
 ghost use Rattle.window.specs.Read.{pictureOf, readSpan, readOf};
+ghost use Rattle.window.specs.Inside.Fill.{fillRight};
 ghost use Rattle.window.specs.Inside.Window.{IsWindow};
 ghost use Rattle.read_test20.specs.Inside.Run.{place20};
 ghost use Rattle.read_test20.specs.Inside.Whole.{validOf};
@@ -19,23 +21,20 @@ pub enum Accepted {
     Refused,
 }
 
-// A window for which test 20 holds, with its picture in rows.
+// A window for which tests 20 and 26 hold, with its picture in rows.
 fn accept_words(f: Format, symbols: &[u16], v: Valid, rows: &[u16]) -> Accepted
     requires { ⌜ IsWindow f (now symbols) ⌝ }
     requires { ⌜ place20 (shapeOf f) (now symbols) ≡ length (now symbols) ⌝ }
     requires { ⌜ v ≡ validOf (shapeOf f) (now symbols) ⌝ }
+    requires { ⌜ fillRight (shapeOf f) (now symbols) ≡ true ⌝ }
     requires { ⌜ now rows ≡ pictureOf f (now symbols) ⌝ }
     ensures { λ r. ⌜ acceptedIn r ≡ deliveredIn (readSpan f (now (symbols .entry))) ⌝ }
 {
     let c = v.sums;
-    let filled = v.filled;
     match read_test21_26::call::service_of(f, symbols, c) {
         Judged::Serves(service) => {
             if crate::picture::picture_is_right(f, service.line, rows) {
-                if filled {
-                    return Accepted::Delivered(crate::delivery::delivery(v, service));
-                }
-                return Accepted::Refused;
+                return Accepted::Delivered(crate::delivery::delivery(v, service));
             }
             return Accepted::Refused;
         },

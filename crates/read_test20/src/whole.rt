@@ -42,11 +42,11 @@ pub enum Taken {
     NotExamined,
 }
 
-// The same for who asks only whether all symbols are valid.
+// The same for who asks only whether all symbols are valid and the fill is right.
 pub enum Examined {
-    // They are, and the rows have the picture.
+    // So it is, and the rows have the picture.
     Whole(Valid),
-    // They are not, or nothing was examined; the rows may hold anything.
+    // It is not so, or nothing was examined; the rows may hold anything.
     Refused,
 }
 
@@ -134,8 +134,15 @@ struct Ended {
     flips: u32,
 }
 
-// A run of words: usually blanking words, otherwise any bytes.
-fn run_of(t: &[u16; 1024], symbols: &[u16], from: usize, to: usize, flips: u32) -> Ended
+// A run of words: usually blanking words, otherwise any bytes. In haste nothing but blanking words is examined.
+fn run_of(
+    t: &[u16; 1024],
+    symbols: &[u16],
+    from: usize,
+    to: usize,
+    flips: u32,
+    haste: bool,
+) -> Ended
     requires { ⌜ now t ≡ decodingTable ⌝ }
     requires { ⌜ TenBits (now symbols) ⌝ }
     requires { ⌜ from ≤ to ⌝ }
@@ -145,12 +152,19 @@ fn run_of(t: &[u16; 1024], symbols: &[u16], from: usize, to: usize, flips: u32) 
     ensures whole { λ r. ⌜ (r .whole ≡ true → RunTo (now (symbols .entry)) from to (r .flips)) ⌝ }
     ensures blank { λ r. ⌜ (r .filled ≡ true → AreBlank (now (symbols .entry)) from to flips) ⌝ }
     ensures filled { λ r. ⌜ (AreBlank (now (symbols .entry)) from to flips → r .filled ≡ true) ⌝ }
-    ensures kept { λ r. ⌜ (AreBytes (now (symbols .entry)) from to → r .whole ≡ true) ⌝ }
+    ensures kept { λ r. ⌜ (AreBytes (now (symbols .entry)) from to → (haste ≡ true → AreBlank (now (symbols .entry)) from to flips) → r .whole ≡ true) ⌝ }
 {
     if crate::blank::are_blank(symbols, from, to, flips) {
         return Ended {
             whole: true,
             filled: true,
+            flips,
+        };
+    }
+    if haste {
+        return Ended {
+            whole: false,
+            filled: false,
             flips,
         };
     }
@@ -172,32 +186,32 @@ fn unended() -> Ended
     }
 }
 
-// The ancillary area, and then the fill.
-fn tail_of(t: &[u16; 1024], p: Shape, symbols: &[u16], flips: u32) -> Ended
+// The ancillary area, and then the fill. In haste a wrong fill counts as invalid, and is not examined.
+fn tail_of(t: &[u16; 1024], p: Shape, symbols: &[u16], flips: u32, haste: bool) -> Ended
     requires { ⌜ Given p (now t) (now symbols) ⌝ }
     requires { ⌜ TenBits (now symbols) ⌝ }
     requires { ⌜ Tied (now symbols) (ancillarySymbol * p .«stream_pairs») flips ⌝ }
     ensures whole { λ r. ⌜ (r .whole ≡ true → RunInv (now (symbols .entry)) 0 255 (ancillarySymbol * p .«stream_pairs») (length (now (symbols .entry))) (maskBy (r .flips))) ⌝ }
     ensures filled { λ r. ⌜ (r .whole ≡ true → r .filled ≡ fillRight p (now (symbols .entry))) ⌝ }
-    ensures kept { λ r. ⌜ (AreBytes (now (symbols .entry)) (ancillarySymbol * p .«stream_pairs») (length (now (symbols .entry))) → r .whole ≡ true) ⌝ }
+    ensures kept { λ r. ⌜ (AreBytes (now (symbols .entry)) (ancillarySymbol * p .«stream_pairs») (length (now (symbols .entry))) → (haste ≡ true → fillRight p (now (symbols .entry)) ≡ true) → r .whole ≡ true) ⌝ }
 {
     let from = span::layout::ANCILLARY_SYMBOL * p.stream_pairs;
     let fill = symbols.len() - 3 * p.fill_pairs;
-    let area = run_of(t, symbols, from, fill, flips);
+    let area = run_of(t, symbols, from, fill, flips, false);
     if !area.whole {
         return unended();
     }
-    run_of(t, symbols, fill, symbols.len(), area.flips)
+    run_of(t, symbols, fill, symbols.len(), area.flips, haste)
 }
 
 // The EAV, the line number and the CRCC, and what follows them.
-fn end_of(t: &[u16; 1024], p: Shape, symbols: &[u16], flips: u32) -> Ended
+fn end_of(t: &[u16; 1024], p: Shape, symbols: &[u16], flips: u32, haste: bool) -> Ended
     requires { ⌜ Given p (now t) (now symbols) ⌝ }
     requires { ⌜ TenBits (now symbols) ⌝ }
     requires { ⌜ Tied (now symbols) (eavSymbol * p .«stream_pairs») flips ⌝ }
     ensures whole { λ r. ⌜ (r .whole ≡ true → Ending p (now (symbols .entry)) flips (r .flips)) ⌝ }
     ensures filled { λ r. ⌜ (r .whole ≡ true → r .filled ≡ fillRight p (now (symbols .entry))) ⌝ }
-    ensures kept { λ r. ⌜ (AllHold p (now (symbols .entry)) → r .whole ≡ true) ⌝ }
+    ensures kept { λ r. ⌜ (AllHold p (now (symbols .entry)) → (haste ≡ true → fillRight p (now (symbols .entry)) ≡ true) → r .whole ≡ true) ⌝ }
 {
     let eav = span::layout::EAV_SYMBOL * p.stream_pairs;
     let after = eav + 24 * p.stream_pairs;
@@ -208,7 +222,7 @@ fn end_of(t: &[u16; 1024], p: Shape, symbols: &[u16], flips: u32) -> Ended
     if !crate::see::passes(k.good) {
         return unended();
     }
-    tail_of(t, p, symbols, k.flips)
+    tail_of(t, p, symbols, k.flips, haste)
 }
 
 // The mask bit of the running disparity that `flips` records.
@@ -240,12 +254,12 @@ fn fault_after(p: Shape, words: usize, flips: u32) -> Outcome
     })
 }
 
-// The pass over a window of a known format whose symbols have ten bits.
-fn pass_window(t: &[u16; 1024], p: Shape, symbols: &[u16], rows: &mut [u16]) -> Outcome
+// The pass over a window of a known format whose symbols have ten bits; in haste a wrong fill is a fault.
+fn pass_window(t: &[u16; 1024], p: Shape, symbols: &[u16], haste: bool, rows: &mut [u16]) -> Outcome
     requires { ⌜ Given p (now t) (now symbols) ⌝ }
     requires { ⌜ TenBits (now symbols) ⌝ }
     requires { ⌜ length (now rows) ≡ samplesIn p ⌝ }
-    ensures { λ r. ⌜ PassedWindow p (now (symbols .entry)) (now (rows .exit)) r ⌝ }
+    ensures { λ r. ⌜ PassedWindow p (now (symbols .entry)) haste (now (rows .exit)) r ⌝ }
 {
     let first = after_sav(symbols);
     if first == 0 {
@@ -265,7 +279,7 @@ fn pass_window(t: &[u16; 1024], p: Shape, symbols: &[u16], rows: &mut [u16]) -> 
     if !crate::see::passes(v.good) {
         return fault_after(p, v.words, v.flips);
     }
-    let e = end_of(t, p, symbols, v.flips);
+    let e = end_of(t, p, symbols, v.flips, haste);
     if !e.whole {
         return fault_after(p, v.words, v.flips);
     }
@@ -283,8 +297,8 @@ fn pass_window(t: &[u16; 1024], p: Shape, symbols: &[u16], rows: &mut [u16]) -> 
 }
 
 // The pass over a window with rows of its format's length; anything else is not examined. The table is copied here, once for each window.
-fn pass(f: Format, symbols: &[u16], rows: &mut [u16]) -> Outcome
-    ensures { λ r. ⌜ PassedIf f (now (symbols .entry)) (now (rows .entry)) (now (rows .exit)) r ⌝ }
+fn pass(f: Format, symbols: &[u16], haste: bool, rows: &mut [u16]) -> Outcome
+    ensures { λ r. ⌜ PassedIf f (now (symbols .entry)) haste (now (rows .entry)) (now (rows .exit)) r ⌝ }
 {
     if !span::fit::is_ready(f, symbols.len(), rows.len()) {
         return Outcome::NotExamined;
@@ -293,7 +307,7 @@ fn pass(f: Format, symbols: &[u16], rows: &mut [u16]) -> Outcome
         return fault_from_start(symbols);
     }
     let t = decoder::table::decoding_table();
-    pass_window(&t, span::format::shape_of(f), symbols, rows)
+    pass_window(&t, span::format::shape_of(f), symbols, haste, rows)
 }
 
 // The place of a fault, searched for from where test 20 is known to hold.
@@ -310,7 +324,7 @@ pub fn take(f: Format, symbols: &[u16], rows: &mut [u16]) -> Taken
     ensures taken { λ r. ⌜ r ≡ takenIf f (now (symbols .entry)) (now (rows .entry)) ⌝ }
     ensures rows { λ _. ⌜ now (rows .exit) ≡ rowsIf f (now (symbols .entry)) (now (rows .entry)) ⌝ }
 {
-    match pass(f, symbols, rows) {
+    match pass(f, symbols, false, rows) {
         Outcome::Whole(v) => Taken::Whole(v),
         Outcome::Faulty(x) => {
             ground::fill::fill(rows, 0);
@@ -320,14 +334,24 @@ pub fn take(f: Format, symbols: &[u16], rows: &mut [u16]) -> Taken
     }
 }
 
-// The same without the place of the fault, and with the rows left as they then are.
+// Whether all symbols are valid and the fill is right, without the place of a fault, and with the rows left as they then are.
 pub fn examine(f: Format, symbols: &[u16], rows: &mut [u16]) -> Examined
     ensures answer { λ r. ⌜ wholeIn r ≡ wholeIf f (now (symbols .entry)) (length (now (rows .entry))) ⌝ }
     ensures rows { λ r. ⌜ now (rows .exit) ≡ rowsWhole f (now (symbols .entry)) (length (now (rows .entry))) (now (rows .exit)) ⌝ }
 {
-    match pass(f, symbols, rows) {
-        Outcome::Whole(v) => Examined::Whole(v),
-        Outcome::Faulty(_) => Examined::Refused,
-        Outcome::NotExamined => Examined::Refused,
+    match pass(f, symbols, true, rows) {
+        Outcome::Whole(v) => {
+            let filled = v.filled;
+            if filled {
+                return Examined::Whole(v);
+            }
+            return Examined::Refused;
+        },
+        Outcome::Faulty(_) => {
+            return Examined::Refused;
+        },
+        Outcome::NotExamined => {
+            return Examined::Refused;
+        },
     }
 }

@@ -41,17 +41,17 @@ pub record AllHold (p : Shape) (w : List ℕ) : Type 0 where
 abbrev pub validOf : Shape → List ℕ → Valid
 validOf p w = record { filled = fillRight p w; before = startOf w; after = runningAt w (length w); sums = sumsOf p w }
 
--- what the pass over a window finds, and the rows after it
-abbrev pub PassedWindow : Shape → List ℕ → List ℕ → Outcome → Type 0
-PassedWindow p w rows (AllValid v) = (place20 p w ≡ length w) × (v ≡ validOf p w) × (rows ≡ rowsOf (streams p) (wordAt p w))
-PassedWindow p w rows (Faulty x) = (AllHold p w → ⊥) × ScanInv p w (x .place) (x .mask)
-PassedWindow p w rows NoWindow = ⊥
+-- what the pass over a window finds, and the rows after it; in haste a wrong fill is a fault
+abbrev pub PassedWindow : Shape → List ℕ → Bool → List ℕ → Outcome → Type 0
+PassedWindow p w haste rows (AllValid v) = (place20 p w ≡ length w) × (v ≡ validOf p w) × (rows ≡ rowsOf (streams p) (wordAt p w))
+PassedWindow p w haste rows (Faulty x) = (AllHold p w → (haste ≡ true → fillRight p w ≡ true) → ⊥) × ScanInv p w (x .place) (x .mask)
+PassedWindow p w haste rows NoWindow = ⊥
 
 -- the same for any symbols and rows
-abbrev pub PassedIf : Format → List ℕ → List ℕ → List ℕ → Outcome → Type 0
-PassedIf f w entry rows (AllValid v) = (ready f (length w) (length entry) ≡ true) × PassedWindow (shapeOf f) w rows (AllValid v)
-PassedIf f w entry rows (Faulty x) = (ready f (length w) (length entry) ≡ true) × PassedWindow (shapeOf f) w rows (Faulty x)
-PassedIf f w entry rows NoWindow = (ready f (length w) (length entry) ≡ false) × (rows ≡ entry)
+abbrev pub PassedIf : Format → List ℕ → Bool → List ℕ → List ℕ → Outcome → Type 0
+PassedIf f w haste entry rows (AllValid v) = (ready f (length w) (length entry) ≡ true) × PassedWindow (shapeOf f) w haste rows (AllValid v)
+PassedIf f w haste entry rows (Faulty x) = (ready f (length w) (length entry) ≡ true) × PassedWindow (shapeOf f) w haste rows (Faulty x)
+PassedIf f w haste entry rows NoWindow = (ready f (length w) (length entry) ≡ false) × (rows ≡ entry)
 
 -- the answer for a window with rows of its length: this, or the lowest symbol at which test 20 does not hold
 abbrev pub takenOf : Shape → List ℕ → Taken
@@ -68,13 +68,13 @@ takenIf f w rows = cond (ready f (length w) (length rows)) (takenOf (shapeOf f) 
 abbrev pub rowsIf : Format → List ℕ → List ℕ → List ℕ
 rowsIf f w rows = cond (ready f (length w) (length rows)) (rowsTaken (shapeOf f) w rows) rows
 
--- only whether all symbols are valid, and what is then known
+-- only whether all symbols are valid and the fill is right, and what is then known
 abbrev pub wholeIn : Examined → Option Valid
 wholeIn (AllRight v) = some v
 wholeIn Refused = none
 
 abbrev pub isWhole : Format → List ℕ → ℕ → Bool
-isWhole f w room = ready f (length w) room && eqb (place20 (shapeOf f) w) (length w)
+isWhole f w room = ready f (length w) room && (eqb (place20 (shapeOf f) w) (length w) && fillRight (shapeOf f) w)
 
 abbrev pub wholeIf : Format → List ℕ → ℕ → Option Valid
 wholeIf f w room = cond (isWhole f w room) (some (validOf (shapeOf f) w)) none

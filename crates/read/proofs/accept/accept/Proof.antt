@@ -24,7 +24,7 @@ accept-words-requires c κs =
     let room = length (a .rows .now) in
     let examined = c .before .before .before .before .before .before .examine .ensures in
     let told = right (a .f) w room (sym (ap wholeIn (c .before .before .v .given .1)) ∙ examined .0) in
-    (told .is, (told .all, (told .valid, rows-right (a .f) w room (told .whole) (examined .1))))
+    (told .is, (told .all, (told .valid, (told .filled, rows-right (a .f) w room (told .whole) (examined .1)))))
 
 enum-told : tie.Need-enum-told
 enum-told c = search needs

@@ -12,7 +12,7 @@ use Rattle.span.specs.Format.{shapeOf}
 use Rattle.read.specs.Inside.Accept.{deliveredIn}
 use Rattle.read.specs.Inside.Picture.{lineTests, rightPicture}
 use Rattle.read.proofs.Accepted.{not-accepted}
-use Rattle.read.proofs.Picturing.{both-hold, picture-refused, fill-refused}
+use Rattle.read.proofs.Picturing.{both-hold, picture-refused}
 use Rattle.read.proofs.Verdicts.{serves-told, refused-told, never-none}
 use Rattle.read.proofs.Windows.{judged-is, first-hold, first-fails, read-by, delivery-is}
 use borrow.Author.Needs.{needs}
@@ -33,32 +33,20 @@ delivery-requires c κs = search needs
 
 returns : tie.Need-returns
 returns c =
-    let s = c .before .before .before .before .before .before .before .before .before .before .before in
-    let a = s .args in
-    let w = a .symbols .now in
-    let is = s .pre .0 in
-    let judged = judged-is (a .f) w is (ap (λ (x : Valid). x .sums) (s .pre .1 .1 .0)) (c .before .before .before .before .before .before .before .service-of .ensures) in
-    let told = serves-told (serviceOf (shapeOf (a .f)) w) (firstRow (lineTests (a .f) w)) (sym (c .before .before .before .before .before .service .given .1) ∙ judged) in
-    let right =
-    sym (ap₂ (λ (n : ℕ) (l : List ℕ). rightPicture (a .f) n l) (ap (λ (x : Service). x .line .0) (told .1)) (s .pre .1 .1 .1))
-    ∙ sym (c .before .before .before .picture-is-right .ensures) ∙ c .before .before .if1 .taken in
-    let filled = sym (ap (λ (x : Valid). x .filled) (s .pre .1 .1 .0)) ∙ c .before .if2 .taken in
-    let read = read-by (a .f) w is (s .pre .1 .0) (first-hold (a .f) w is (told .0) ∙ sym (both-hold (a .f) w is right filled)) in
-    ap some (c .delivery .ensures ∙ delivery-is (a .f) w is (s .pre .1 .1 .0) (told .1)) ∙ sym (ap deliveredIn read)
-
-returns-2 : tie.Need-returns-2
-returns-2 c =
     let s = c .before .before .before .before .before .before .before .before .before .before in
     let a = s .args in
     let w = a .symbols .now in
     let is = s .pre .0 in
     let judged = judged-is (a .f) w is (ap (λ (x : Valid). x .sums) (s .pre .1 .1 .0)) (c .before .before .before .before .before .before .service-of .ensures) in
     let told = serves-told (serviceOf (shapeOf (a .f)) w) (firstRow (lineTests (a .f) w)) (sym (c .before .before .before .before .service .given .1) ∙ judged) in
-    let unfilled = sym (ap (λ (x : Valid). x .filled) (s .pre .1 .1 .0)) ∙ c .if2 .left in
-    not-accepted (a .f) w is (s .pre .1 .0) (told .0) (fill-refused (a .f) w is unfilled)
+    let right =
+    sym (ap₂ (λ (n : ℕ) (l : List ℕ). rightPicture (a .f) n l) (ap (λ (x : Service). x .line .0) (told .1)) (s .pre .1 .1 .1 .1))
+    ∙ sym (c .before .before .picture-is-right .ensures) ∙ c .before .if1 .taken in
+    let read = read-by (a .f) w is (s .pre .1 .0) (first-hold (a .f) w is (told .0) ∙ sym (both-hold (a .f) w is right (s .pre .1 .1 .1 .0))) in
+    ap some (c .delivery .ensures ∙ delivery-is (a .f) w is (s .pre .1 .1 .0) (told .1)) ∙ sym (ap deliveredIn read)
 
-returns-3 : tie.Need-returns-3
-returns-3 c =
+returns-2 : tie.Need-returns-2
+returns-2 c =
     let s = c .before .before .before .before .before .before .before .before .before in
     let a = s .args in
     let w = a .symbols .now in
@@ -66,15 +54,15 @@ returns-3 c =
     let judged = judged-is (a .f) w is (ap (λ (x : Valid). x .sums) (s .pre .1 .1 .0)) (c .before .before .before .before .before .service-of .ensures) in
     let told = serves-told (serviceOf (shapeOf (a .f)) w) (firstRow (lineTests (a .f) w)) (sym (c .before .before .before .service .given .1) ∙ judged) in
     let right =
-    sym (ap₂ (λ (n : ℕ) (l : List ℕ). rightPicture (a .f) n l) (ap (λ (x : Service). x .line .0) (told .1)) (s .pre .1 .1 .1))
+    sym (ap₂ (λ (n : ℕ) (l : List ℕ). rightPicture (a .f) n l) (ap (λ (x : Service). x .line .0) (told .1)) (s .pre .1 .1 .1 .1))
     ∙ sym (c .before .picture-is-right .ensures) ∙ c .if1 .left in
     not-accepted (a .f) w is (s .pre .1 .0) (told .0) (picture-refused (a .f) w is right)
 
 enum-told : tie.Need-enum-told
 enum-told c = search needs
 
-returns-4 : tie.Need-returns-4
-returns-4 c =
+returns-3 : tie.Need-returns-3
+returns-3 c =
     let s = c .before .before .before .before .before .before in
     let a = s .args in
     let w = a .symbols .now in
@@ -86,8 +74,8 @@ returns-4 c =
 enum-told-2 : tie.Need-enum-told-2
 enum-told-2 c = search needs
 
-returns-5 : tie.Need-returns-5
-returns-5 c =
+returns-4 : tie.Need-returns-4
+returns-4 c =
     let s = c .before .before .before .before .before .before in
     let a = s .args in
     let w = a .symbols .now in
@@ -105,8 +93,7 @@ accept-words-spec =
     delivery-requires
     returns
     returns-2
-    returns-3
     enum-told
-    returns-4
+    returns-3
     enum-told-2
-    returns-5)
+    returns-4)

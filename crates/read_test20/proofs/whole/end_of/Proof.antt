@@ -43,7 +43,7 @@ returns c =
       λ t. absurd (true≢false (sym t ∙ c .unended .ensures)),
       (
         λ t. absurd (true≢false (sym t ∙ c .unended .ensures)),
-        λ all. absurd (true≢false (sym (c .before .before .is-eav .ensures .1 (s .pre .1 .1 .bit) (eav-stands (s .args .p) (s .args .symbols .now) all _ (omega (arith, h)) (omega arith) (omega (arith, h, s .pre .0 .long)))) ∙ not-true _ (c .before .if1 .taken))),
+        λ all _. absurd (true≢false (sym (c .before .before .is-eav .ensures .1 (s .pre .1 .1 .bit) (eav-stands (s .args .p) (s .args .symbols .now) all _ (omega (arith, h)) (omega arith) (omega (arith, h, s .pre .0 .long)))) ∙ not-true _ (c .before .if1 .taken))),
       ),
     )
 
@@ -71,7 +71,7 @@ returns-2 c =
       λ t. absurd (true≢false (sym t ∙ c .unended2 .ensures)),
       (
         λ t. absurd (true≢false (sym t ∙ c .unended2 .ensures)),
-        λ all. absurd (true≢false (sym (c .before .before .passes .ensures ∙ c .before .before .before .see-run .ensures .kept (bytes-stand (s .args .p) (s .args .symbols .now) all _ _ (omega (arith, h)) (omega (arith, h, s .pre .0 .long)) (λ i a b e. omega arith))) ∙ not-true _ (c .before .if2 .taken))),
+        λ all _. absurd (true≢false (sym (c .before .before .passes .ensures ∙ c .before .before .before .see-run .ensures .kept (bytes-stand (s .args .p) (s .args .symbols .now) all _ _ (omega (arith, h)) (omega (arith, h, s .pre .0 .long)) (λ i a b e. omega arith))) ∙ not-true _ (c .before .if2 .taken))),
       ),
     )
 
@@ -93,7 +93,7 @@ returns-3 c =
             eav = c .before .before .before .before .before .is-eav .ensures .0 (not-false _ (c .before .before .before .before .if1 .left)) .going (s .pre .1 .1 .bit);
             bytes = join w (rw at at (c .before .before .before .see-run .ensures .clean right)) (e .0 t);
           },
-      (e .1 .0, λ all. e .1 .1 (bytes-stand (s .args .p) w all _ _ (omega (arith, s .pre .0 .half)) (omega arith) (λ i a b q. omega arith))),
+      (e .1 .0, λ all right. e .1 .1 (bytes-stand (s .args .p) w all _ _ (omega (arith, s .pre .0 .half)) (omega arith) (λ i a b q. omega arith)) right),
     )
 
 pub end-of-spec : {M : Type 1} → statement M

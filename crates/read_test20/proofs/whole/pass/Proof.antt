@@ -1,12 +1,13 @@
 -- `read_test20::whole::pass` meets its contract.
 -- Assumes nothing.
 use mathlib.Core.Path.{_≡_, refl, sym, _∙_}
-use mathlib.Core.Bool.{true≢false}
+use mathlib.Core.Bool.{true, true≢false}
 use native.Mathlib.Omega.{arith}
 use lib.ListN.{length}
 use borrow.Author.Tests.{not-true, not-false}
 use Rattle.span.specs.Format.{shapeOf, samplesIn}
 use Rattle.span.proofs.Readiness.{rows-then}
+use Rattle.window.specs.Inside.Fill.{fillRight}
 use Rattle.window.proofs.Givens.{given-then}
 use Rattle.read_test20.specs.Inside.Whole.{AllHold}
 use Rattle.read_test20.proofs.Kept.{ten-bits}
@@ -34,9 +35,9 @@ returns-2 c =
     let w = a .symbols .now in
     let p = shapeOf (a .f) in
     let fit = sym (c .before .before .before .before .is-ready .ensures) ∙ not-false _ (c .before .before .before .if1 .left) in
-    let not-all : AllHold p w → ⊥ =
-    λ all. true≢false (sym (c .before .before .are-ten-bits .ensures .1 (ten-bits p w all)) ∙ not-true _ (c .before .if2 .taken)) in
-    window-passed (a .f) w (a .rows .now) (a .rows .now) (c .fault-from-start .result) fit (is-faulty p w (a .rows .now) (c .fault-from-start .result) (c .fault-from-start .ensures) not-all (not-yet p w refl))
+    let not-all : AllHold p w → (a .haste ≡ true → fillRight p w ≡ true) → ⊥ =
+    λ all _. true≢false (sym (c .before .before .are-ten-bits .ensures .1 (ten-bits p w all)) ∙ not-true _ (c .before .if2 .taken)) in
+    window-passed (a .f) w (a .haste) (a .rows .now) (a .rows .now) (c .fault-from-start .result) fit (is-faulty p w (a .haste) (a .rows .now) (c .fault-from-start .result) (c .fault-from-start .ensures) not-all (not-yet p w refl))
 
 decoding-table-requires : tie.Need-decoding-table-requires
 decoding-table-requires c κs = search needs
@@ -60,7 +61,7 @@ returns-3 c =
     let a = c .before .before .before .before .before .before .before .before .before .before .before .before .before .args in
     let w = a .symbols .now in
     let fit = sym (c .before .before .before .before .before .before .before .before .before .before .is-ready .ensures) ∙ not-false _ (c .before .before .before .before .before .before .before .before .before .if1 .left) in
-    window-passed (a .f) w (a .rows .now) (c .before .before .pass-window .last .1 .1 .1 .0) (c .before .before .pass-window .result) fit (rw (← (c .before .before .before .before .shape-of .ensures)) (c .before .before .pass-window .ensures))
+    window-passed (a .f) w (a .haste) (a .rows .now) (c .before .before .pass-window .last .1 .1 .1 .1 .0) (c .before .before .pass-window .result) fit (rw (← (c .before .before .before .before .shape-of .ensures)) (c .before .before .pass-window .ensures))
 
 pub pass-spec : {M : Type 1} → statement M
 pass-spec =

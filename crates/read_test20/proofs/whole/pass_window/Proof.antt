@@ -1,9 +1,10 @@
 -- `read_test20::whole::pass_window` meets its contract.
 -- Assumes nothing.
-use mathlib.Core.Path.{refl, sym, ap, _∙_}
-use mathlib.Core.Bool.{true≢false}
+use mathlib.Core.Path.{_≡_, refl, sym, ap, _∙_}
+use mathlib.Core.Bool.{true, true≢false}
 use native.Mathlib.Omega.{arith}
 use borrow.Author.Tests.{not-true, not-false}
+use Rattle.window.specs.Inside.Fill.{fillRight}
 use Rattle.read_test20.proofs.Getting.{picture-is, sums-are}
 use Rattle.read_test20.proofs.Kept.{sav-stands, bytes-stand, is-valid}
 use Rattle.read_test20.proofs.Wholes.{tied, goes-on, scanned-whole, reached-behind}
@@ -27,9 +28,9 @@ returns c =
     let s = c .before .before .before .before .before in
     let a = s .args in
     let w = a .symbols .now in
-    let not-all : AllHold (a .p) w → ⊥ =
-    λ all. c .before .before .after-sav .ensures .1 (sav-stands (a .p) w all (omega (arith, s .pre .0 .half, s .pre .0 .long))) (c .before .if1 .taken) in
-    is-faulty (a .p) w _ _ (c .fault-from-start .ensures) not-all (not-yet (a .p) w refl)
+    let not-all : AllHold (a .p) w → (a .haste ≡ true → fillRight (a .p) w ≡ true) → ⊥ =
+    λ all right. c .before .before .after-sav .ensures .1 (sav-stands (a .p) w all (omega (arith, s .pre .0 .half, s .pre .0 .long))) (c .before .if1 .taken) in
+    is-faulty (a .p) w (a .haste) _ _ (c .fault-from-start .ensures) not-all (not-yet (a .p) w refl)
 
 mul-see-run : tie.Need-mul-see-run
 mul-see-run c = search needs
@@ -54,9 +55,9 @@ returns-2 c =
     let a = s .args in
     let w = a .symbols .now in
     let h = s .pre .0 .half in
-    let not-all : AllHold (a .p) w → ⊥ =
-    λ all. true≢false (sym (c .before .before .passes .ensures ∙ c .before .before .before .see-run .ensures .kept (bytes-stand (a .p) w all _ _ (omega arith) (omega (arith, h, s .pre .0 .long)) (λ i a b e. absurd (omega (arith, h))))) ∙ not-true _ (c .before .if2 .taken)) in
-    is-faulty (a .p) w _ _ (c .fault-from-start2 .ensures) not-all (not-yet (a .p) w refl)
+    let not-all : AllHold (a .p) w → (a .haste ≡ true → fillRight (a .p) w ≡ true) → ⊥ =
+    λ all right. true≢false (sym (c .before .before .passes .ensures ∙ c .before .before .before .see-run .ensures .kept (bytes-stand (a .p) w all _ _ (omega arith) (omega (arith, h, s .pre .0 .long)) (λ i a b e. absurd (omega (arith, h))))) ∙ not-true _ (c .before .if2 .taken)) in
+    is-faulty (a .p) w (a .haste) _ _ (c .fault-from-start2 .ensures) not-all (not-yet (a .p) w refl)
 
 take-picture-requires : tie.Need-take-picture-requires
 take-picture-requires c κs =
@@ -81,12 +82,12 @@ returns-3 c =
     let a = s .args in
     let w = a .symbols .now in
     let e = c .before .before .before .before .before .take-picture .ensures in
-    let not-all : AllHold (a .p) w → ⊥ =
-    λ all. true≢false (sym (c .before .before .passes2 .ensures ∙ e .1 .1 .1 (bytes-stand (a .p) w all _ _ (omega (arith, s .pre .0 .half)) (omega (arith, s .pre .0 .half, s .pre .0 .long)) (λ i a b q. absurd (omega arith)))) ∙ not-true _ (c .before .if3 .taken)) in
+    let not-all : AllHold (a .p) w → (a .haste ≡ true → fillRight (a .p) w ≡ true) → ⊥ =
+    λ all right. true≢false (sym (c .before .before .passes2 .ensures ∙ e .1 .1 .1 (bytes-stand (a .p) w all _ _ (omega (arith, s .pre .0 .half)) (omega (arith, s .pre .0 .half, s .pre .0 .long)) (λ i a b q. absurd (omega arith)))) ∙ not-true _ (c .before .if3 .taken)) in
     let right = sym (c .before .before .before .before .before .before .before .before .passes .ensures) ∙ not-false _ (c .before .before .before .before .before .before .before .if2 .left) in
     let come = c .before .before .before .before .before .take-picture .ensures .1 .1 .0 in
     let scan = reached-behind (a .p) w (c .before .before .before .before .before .before .before .before .before .before .before .before .after-sav .ensures .0 (c .before .before .before .before .before .before .before .before .before .before .before .if1 .left)) (c .before .before .before .before .before .before .before .before .before .see-run .ensures) right come (s .pre .0 .long) in
-    is-faulty (a .p) w _ _ (c .fault-after .ensures) not-all scan
+    is-faulty (a .p) w (a .haste) _ _ (c .fault-after .ensures) not-all scan
 
 end-of-requires : tie.Need-end-of-requires
 end-of-requires c κs =
@@ -106,11 +107,11 @@ returns-4 c =
     let s = c .before .before .before .before .before .before .before .before .before .before .before .before .before .before .before .before .before .before in
     let a = s .args in
     let w = a .symbols .now in
-    let not-all : AllHold (a .p) w → ⊥ = λ all. true≢false (sym (c .before .before .before .end-of .ensures .1 .1 all) ∙ not-true _ (c .before .if4 .taken)) in
+    let not-all : AllHold (a .p) w → (a .haste ≡ true → fillRight (a .p) w ≡ true) → ⊥ = λ all right. true≢false (sym (c .before .before .before .end-of .ensures .1 .1 all right) ∙ not-true _ (c .before .if4 .taken)) in
     let right = sym (c .before .before .before .before .before .before .before .before .before .before .before .passes .ensures) ∙ not-false _ (c .before .before .before .before .before .before .before .before .before .before .if2 .left) in
     let come = c .before .before .before .before .before .before .before .before .take-picture .ensures .1 .1 .0 in
     let scan = reached-behind (a .p) w (c .before .before .before .before .before .before .before .before .before .before .before .before .before .before .before .after-sav .ensures .0 (c .before .before .before .before .before .before .before .before .before .before .before .before .before .before .if1 .left)) (c .before .before .before .before .before .before .before .before .before .before .before .before .see-run .ensures) right come (s .pre .0 .long) in
-    is-faulty (a .p) w _ _ (c .fault-after2 .ensures) not-all scan
+    is-faulty (a .p) w (a .haste) _ _ (c .fault-after2 .ensures) not-all scan
 
 sums-of-rows-requires : tie.Need-sums-of-rows-requires
 sums-of-rows-requires c κs = search needs

@@ -24,27 +24,36 @@ returns c =
     let b = c .before .are-blank .ensures .0 (c .if1 .taken) in
     let more : a .to ≡ a .from + 3 * ((a .to - a .from) / 3) = omega (arith, s .pre .1 .1 .0, s .pre .1 .1 .1 .1 .0) in (
       λ _. record { fits = tied .fits; going = blank-going w _ (a .flips) _ b _ (begin w 0 255 (a .from) (maskBy (a .flips)) (tied .bit)) _ more },
-      (λ _. b, (λ _. refl, λ _. refl)),
+      (λ _. b, (λ _. refl, λ _ _. refl)),
     )
+
+returns-2 : tie.Need-returns-2
+returns-2 c = (
+  λ t. absurd (true≢false (sym t)),
+  (
+    λ t. absurd (true≢false (sym t)),
+    (λ b. absurd (true≢false (sym (c .before .before .are-blank .ensures .1 b) ∙ c .before .if1 .left)), λ _ blank. absurd (true≢false (sym (c .before .before .are-blank .ensures .1 (blank (c .if2 .taken))) ∙ c .before .if1 .left))),
+  ),
+)
 
 see-run-requires : tie.Need-see-run-requires
 see-run-requires c κs =
-    let s = c .before .before .before in
+    let s = c .before .before .before .before in
     let tied = s .pre .1 .1 .1 .1 .1 in
     (s .pre .0, (s .pre .1 .0, (s .pre .1 .1 .0, (s .pre .1 .1 .1 .0, see-begin (s .args .symbols .now) _ _ (tied .fits) (tied .bit)))))
 
 passes-requires : tie.Need-passes-requires
 passes-requires c κs = search needs
 
-returns-2 : tie.Need-returns-2
-returns-2 c =
+returns-3 : tie.Need-returns-3
+returns-3 c =
     let k = c .before .see-run .ensures in (
       λ t. record { fits = k .fits; going = k .clean (sym (c .passes .ensures) ∙ t) },
       (
         λ t. absurd (true≢false (sym t)),
-        (λ b. absurd (true≢false (sym (c .before .before .before .are-blank .ensures .1 b) ∙ c .before .before .if1 .left)), λ all. c .passes .ensures ∙ k .kept all),
+        (λ b. absurd (true≢false (sym (c .before .before .before .before .are-blank .ensures .1 b) ∙ c .before .before .before .if1 .left)), λ all _. c .passes .ensures ∙ k .kept all),
       ),
     )
 
 pub run-of-spec : {M : Type 1} → statement M
-run-of-spec = tie.close (tie.spec are-blank-requires returns see-run-requires passes-requires returns-2)
+run-of-spec = tie.close (tie.spec are-blank-requires returns returns-2 see-run-requires passes-requires returns-3)

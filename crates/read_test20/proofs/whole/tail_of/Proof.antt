@@ -35,7 +35,7 @@ returns c =
       λ t. absurd (true≢false (sym t ∙ c .unended .ensures)),
       (
         λ t. absurd (true≢false (sym t ∙ c .unended .ensures)),
-        λ all. absurd (true≢false (sym (c .before .before .before .run-of .ensures .1 .1 .1 (bytes-in all (omega arith) (omega arith))) ∙ not-true _ (c .before .if1 .taken))),
+        λ all _. absurd (true≢false (sym (c .before .before .before .run-of .ensures .1 .1 .1 (bytes-in all (omega arith) (omega arith)) (λ z. absurd (true≢false (sym z)))) ∙ not-true _ (c .before .if1 .taken))),
       ),
     )
 
@@ -56,7 +56,7 @@ returns-2 c =
         λ t.
             agree _ _ (λ b. blank-fill (s .args .p) w _ _ (s .pre .0 .half) (s .pre .0 .long) refl (e .1 .0 b))
             (λ right. e .1 .1 .0 (fill-blank (s .args .p) w _ _ (s .pre .0 .half) (s .pre .0 .long) refl (area .going .bit) (e .0 t .going .suited) right)),
-        λ all. e .1 .1 .1 (bytes-in all (omega (arith, s .pre .0 .long)) (omega arith)),
+        λ all right. e .1 .1 .1 (bytes-in all (omega (arith, s .pre .0 .long)) (omega arith)) (λ h. fill-blank (s .args .p) w _ _ (s .pre .0 .half) (s .pre .0 .long) refl (area .going .bit) (bytes-in all (omega (arith, s .pre .0 .long)) (omega arith) .each) (right h)),
       ),
     )
 

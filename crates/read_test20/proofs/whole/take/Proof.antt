@@ -40,7 +40,7 @@ same-length-2 c = search needs
 returns-2 : tie.Need-returns-2
 returns-2 c =
     let a = c .before .before .before .before .before .before .before .before .before .before .before .before .before .before .args in
-    fault-taken (a .f) (a .symbols .now) (a .rows .now) _ _ (c .before .before .before .before .before .before .before .before .before .before .pass .ensures) (length (c .before .before .before .before .before .before .before .before .before .before .pass .last .1 .1 .0)) (c .before .before .before .before .before .before .x .given .1) (c .fault-at .ensures) (c .before .before .before .fill .ensures) (search needs)
+    fault-taken (a .f) (a .symbols .now) (a .rows .now) _ _ (c .before .before .before .before .before .before .before .before .before .before .pass .ensures) (length (c .before .before .before .before .before .before .before .before .before .before .pass .last .1 .1 .1 .0)) (c .before .before .before .before .before .before .x .given .1) (c .fault-at .ensures) (c .before .before .before .fill .ensures) (search needs)
 
 same-length-3 : tie.Need-same-length-3
 same-length-3 c = search needs
