@@ -1,7 +1,7 @@
 -- What is answered where all refusals are told as one.
 -- Assumes nothing.
 use mathlib.Core.Path.{_≡_, refl, sym, ap, _∙_}
-use mathlib.Core.Bool.{true, true≢false}
+use mathlib.Core.Bool.{true, false, true≢false, _&&_}
 use mathlib.Core.List.{List}
 use mathlib.Core.Logic.{⊎-elim}
 use mathlib.Core.Option.{none, some}
@@ -25,7 +25,7 @@ use Rattle.window.specs.Inside.Window.{IsWindow}
 use Rattle.window.proofs.Windows.{unknown, no-window, no-room, read-is}
 use Rattle.read_test20.specs.declared.whole.Valid.{Valid}
 use Rattle.read_test20.specs.Inside.Run.{place20}
-use Rattle.read_test20.specs.Inside.Whole.{validOf, isWhole, wholeIf, rowsWhole}
+use Rattle.read_test20.specs.Inside.Whole.{validOf, isAllValid, wholeIf, rowsWhole}
 use Rattle.read_test21_26.specs.declared.service.Verdict.{Verdict}
 use Rattle.read_test21_26.specs.declared.service.Verdict.the-variants.{AllHold, Fails}
 use Rattle.read_test21_26.specs.Inside.Verdict.{isFailed, firstRow}
@@ -70,11 +70,11 @@ module _ (f : Format) (w : List ℕ) (room : ℕ) where
     pub all : place ≡ length w
     pub valid : v ≡ validOf (shapeOf f) w
     pub filled : fillRight (shapeOf f) w ≡ true
-    pub whole : isWhole f w room ≡ true
+    pub whole : isAllValid f w room ≡ true
 
   pub right : {v : Valid} → some v ≡ wholeIf f w room → Right v
   right {v} e =
-      on-test (isWhole f w room)
+      on-test (isAllValid f w room)
       (λ t.
       let fit : ready f (length w) room ≡ true = both-left (ready f (length w) room) (eqb place (length w) && fillRight (shapeOf f) w) t in
       let both = both-right (ready f (length w) room) (eqb place (length w) && fillRight (shapeOf f) w) t in
@@ -93,7 +93,7 @@ module _ (f : Format) (w : List ℕ) (room : ℕ) where
   pub wrong : none ≡ wholeIf f w room → none ≡ deliveredIn (readOf f w room)
   wrong e = on-test (isKnown f) with-format (λ t. sym (ap deliveredIn (unknown f w room t .0)))
     where
-      whole-not : isWhole f w room ≡ true → ⊥
+      whole-not : isAllValid f w room ≡ true → ⊥
       whole-not t = let z : _≡_ {A = ℕ} 0 1 = cc (rw t at e) in omega arith
 
       with-all : (is : IsWindow f w) → room ≡ samplesIn (shapeOf f) → place ≡ length w → none ≡ deliveredIn (readOf f w room)
@@ -123,7 +123,7 @@ module _ (f : Format) (w : List ℕ) (room : ℕ) where
           (λ t. sym (ap deliveredIn (no-window f w room known (eqb-false (length w) (symbolsIn (shapeOf f)) t) .0)))
 
 -- ---- the rows afterwards
-pub rows-right : (f : Format) (w : List ℕ) (room : ℕ) {left : List ℕ} → isWhole f w room ≡ true → left ≡ rowsWhole f w room left → left ≡ pictureOf f w
+pub rows-right : (f : Format) (w : List ℕ) (room : ℕ) {left : List ℕ} → isAllValid f w room ≡ true → left ≡ rowsWhole f w room left → left ≡ pictureOf f w
 unfolding pictureOf
 rows-right f w room t e = rw t at e
 

@@ -20,7 +20,7 @@ use Rattle.read_test20.specs.declared.whole.Reached.{Reached}
 use Rattle.read_test20.specs.declared.whole.Taken.the-variants.{Whole, Invalid, NotExamined}
 use Rattle.read_test20.specs.declared.whole.Valid.{Valid}
 use Rattle.read_test20.specs.Inside.Run.{ScanInv, place20}
-use Rattle.read_test20.specs.Inside.Whole.{AllHold, PassedWindow, PassedIf, takenIf, rowsIf, isWhole, wholeIf, rowsWhole}
+use Rattle.read_test20.specs.Inside.Whole.{AllHold, PassedWindow, PassedIf, takenIf, rowsIf, isAllValid, wholeIf, rowsWhole}
 use Rattle.read_test20.proofs.Kept.{all-right}
 
 -- ---- a fault
@@ -80,14 +80,14 @@ module _ (f : Format) (w entry rows : List ℕ) (o : Outcome) where
     abbrev Says : Option Valid → Type 0
     Says x = (x ≡ wholeIf f w (length entry)) × (rows ≡ rowsWhole f w (length entry) rows)
 
-    not-whole : isWhole f w (length entry) ≡ false → Says none
+    not-whole : isAllValid f w (length entry) ≡ false → Says none
     not-whole e = (rw e, rw e)
 
     pub whole-examined : {v : Valid} → o ≡ AllValid v → v .filled ≡ true → Says (some v)
     whole-examined e t =
         let (fit, (all, valid, picture)) = subst hastily e passed in
         let right : fillRight p w ≡ true = sym (ap (λ (x : Valid). x .filled) valid) ∙ t in
-        let whole : isWhole f w (length entry) ≡ true = rw (fit, eq-eqb (place20 p w) (length w) all, right) in
+        let whole : isAllValid f w (length entry) ≡ true = rw (fit, eq-eqb (place20 p w) (length w) all, right) in
         (rw whole (ap some valid), rw whole picture)
 
     pub unfilled-examined : {v : Valid} → o ≡ AllValid v → v .filled ≡ false → Says none

@@ -73,15 +73,15 @@ abbrev pub wholeIn : Examined → Option Valid
 wholeIn (AllRight v) = some v
 wholeIn Refused = none
 
-abbrev pub isWhole : Format → List ℕ → ℕ → Bool
-isWhole f w room = ready f (length w) room && (eqb (place20 (shapeOf f) w) (length w) && fillRight (shapeOf f) w)
+abbrev pub isAllValid : Format → List ℕ → ℕ → Bool
+isAllValid f w room = ready f (length w) room && (eqb (place20 (shapeOf f) w) (length w) && fillRight (shapeOf f) w)
 
 abbrev pub wholeIf : Format → List ℕ → ℕ → Option Valid
-wholeIf f w room = cond (isWhole f w room) (some (validOf (shapeOf f) w)) none
+wholeIf f w room = cond (isAllValid f w room) (some (validOf (shapeOf f) w)) none
 
 -- and the rows: the picture words of such a window, or anything
 abbrev pub rowsWhole : Format → List ℕ → ℕ → List ℕ → List ℕ
-rowsWhole f w room left = cond (isWhole f w room) (rowsOf (streams (shapeOf f)) (wordAt (shapeOf f) w)) left
+rowsWhole f w room left = cond (isAllValid f w room) (rowsOf (streams (shapeOf f)) (wordAt (shapeOf f) w)) left
 
 -- what is gathered before symbol i records the running disparity there
 pub record Tied (w : List ℕ) (i flips : ℕ) : Type 0 where
