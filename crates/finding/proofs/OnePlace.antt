@@ -14,7 +14,7 @@ use Rattle.span.specs.Format.{isKnown, shapeOf, samplesIn, symbolsIn}
 use Rattle.window.specs.declared.delivery.Delivery.{Delivery}
 use Rattle.window.specs.Read.{pictureOf, readSpan, readOf}
 use Rattle.window.proofs.Windows.{read-is}
-use Rattle.read.specs.Call.{deliveredIn, rowsAccepted}
+use Rattle.read.specs.Inside.Accept.{deliveredIn, rowsAccepted}
 use Rattle.recording.specs.Call.{spanned, wordsOr}
 use Rattle.recording.specs.Recording.{Reading, reading}
 use Rattle.recording.specs.Inside.Look.{beginsAt}

@@ -1,11 +1,11 @@
 -- What is answered where all refusals are told as one.
 -- Assumes nothing.
 use mathlib.Core.Path.{_≡_, refl, sym, ap, _∙_}
-use mathlib.Core.Bool.{Bool, true, false, true≢false, _&&_, cond}
+use mathlib.Core.Bool.{true, false, true≢false, _&&_}
 use mathlib.Core.List.{List}
 use mathlib.Core.Logic.{⊎-elim}
-use mathlib.Core.Option.{Option, none, some}
-use Prim.Native.Nat.{ℕ, _<_}
+use mathlib.Core.Option.{none, some}
+use Prim.Native.Nat.{ℕ}
 use native.Mathlib.Nat.{eq-or-lt-of-le}
 use native.Mathlib.Omega.{arith}
 use lib.Dec.{eqb}
@@ -29,7 +29,7 @@ use Rattle.read_test20.specs.Inside.Whole.{validOf, isWhole, wholeIf, rowsWhole
 use Rattle.read_test21_26.specs.declared.service.Verdict.{Verdict}
 use Rattle.read_test21_26.specs.declared.service.Verdict.the-variants.{AllHold, Fails}
 use Rattle.read_test21_26.specs.Inside.Verdict.{isFailed, firstRow}
-use Rattle.read.specs.Call.{deliveredIn, rowsAccepted}
+use Rattle.read.specs.Inside.Accept.{deliveredIn, rowsAccepted}
 use Rattle.read.specs.Inside.Picture.{lineTests, pictureTests}
 use Rattle.read.proofs.Picturing.{fill-refused}
 use Rattle.read.proofs.Verdicts.{answerBy, thenBy, then-by}

@@ -1,5 +1,5 @@
-// A span as the finder asks for it: what it delivers, or that it is refused, by whichever test and at whichever place. So nothing is searched
-// for, and rows that are the finder's own are not cleared.
+// A span as the finder asks for it: what it delivers, or that it is refused, by whichever test and at whichever place. So nothing is
+// searched for, and rows that are the finder's own are not cleared.
 use read_test20::whole::Examined;
 use read_test20::whole::Valid;
 use read_test21_26::call::Judged;
@@ -14,7 +14,7 @@ ghost use Rattle.window.specs.Inside.Fill.{fillRight};
 ghost use Rattle.window.specs.Inside.Window.{IsWindow};
 ghost use Rattle.read_test20.specs.Inside.Run.{place20};
 ghost use Rattle.read_test20.specs.Inside.Whole.{validOf};
-ghost use Rattle.read.specs.Call.{acceptedIn, deliveredIn, rowsAccepted};
+ghost use Rattle.read.specs.Inside.Accept.{acceptedIn, deliveredIn, rowsAccepted};
 
 pub enum Accepted {
     Delivered(Delivery),

@@ -29,7 +29,6 @@ use Rattle.window.specs.Inside.Columns.{sumsOf}
 use Rattle.window.specs.Inside.Fill.{fillRight}
 use Rattle.window.specs.Scan.{meant, symbolAt, startOf, runningAt, fits, holds20}
 use Rattle.window.proofs.Symbols.{some-meant, legal-told, running-on}
-use Rattle.read_test20.specs.declared.whole.Valid.{Valid}
 use Rattle.read_test20.specs.Inside.Run.{suits, place20}
 use Rattle.read_test20.specs.Inside.See.{TenBits, AreBytes, maskBy}
 use Rattle.read_test20.specs.Inside.Whole.{Twice, AllHold, validOf}

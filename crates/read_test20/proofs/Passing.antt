@@ -1,6 +1,6 @@
 -- What the single pass finds, and what is answered from it.
 -- Assumes nothing.
-use mathlib.Core.Path.{_≡_, refl, sym, ap, subst, _∙_}
+use mathlib.Core.Path.{_≡_, sym, ap, subst, _∙_}
 use mathlib.Core.Bool.{Bool, true, false, true≢false}
 use mathlib.Core.List.{List}
 use mathlib.Core.Option.{Option, none, some}
@@ -17,11 +17,10 @@ use Rattle.window.specs.Inside.Fill.{fillRight}
 use Rattle.read_test20.specs.declared.whole.Outcome.{Outcome}
 use Rattle.read_test20.specs.declared.whole.Outcome.the-variants.{Whole as AllValid, Faulty, NotExamined as NoWindow}
 use Rattle.read_test20.specs.declared.whole.Reached.{Reached}
-use Rattle.read_test20.specs.declared.whole.Taken.{Taken}
 use Rattle.read_test20.specs.declared.whole.Taken.the-variants.{Whole, Invalid, NotExamined}
 use Rattle.read_test20.specs.declared.whole.Valid.{Valid}
 use Rattle.read_test20.specs.Inside.Run.{ScanInv, place20}
-use Rattle.read_test20.specs.Inside.Whole.{AllHold, validOf, PassedWindow, PassedIf, takenIf, rowsIf, isWhole, wholeIf, rowsWhole}
+use Rattle.read_test20.specs.Inside.Whole.{AllHold, PassedWindow, PassedIf, takenIf, rowsIf, isWhole, wholeIf, rowsWhole}
 use Rattle.read_test20.proofs.Kept.{all-right}
 
 -- ---- a fault

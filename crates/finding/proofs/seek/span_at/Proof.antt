@@ -2,7 +2,7 @@
 -- Assumes nothing.
 use mathlib.Core.Path.{sym, ap, _∙_}
 use native.Mathlib.Omega.{arith}
-use Rattle.read.specs.Call.{acceptedIn}
+use Rattle.read.specs.Inside.Accept.{acceptedIn}
 use Rattle.recording.proofs.Readings.{long}
 use Rattle.finding.proofs.OnePlace.{unbegun, refuse, deliver}
 use borrow.Author.Needs.{needs}

@@ -5,7 +5,7 @@ use lib.ListN.{length}
 use Rattle.window.specs.Read.{pictureOf, readOf}
 use Rattle.window.proofs.Windows.{read-is}
 use Rattle.read_test20.specs.Inside.Whole.{wholeIn}
-use Rattle.read.specs.Call.{deliveredIn}
+use Rattle.read.specs.Inside.Accept.{deliveredIn}
 use Rattle.read.proofs.Accepted.{right, wrong, rows-right, rows-there, rows-any}
 use borrow.Author.Needs.{needs}
 use Rattle.read.proofs.accept.accept.Statement.{statement}

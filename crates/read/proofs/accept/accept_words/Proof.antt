@@ -9,7 +9,7 @@ use Rattle.read_test21_26.specs.declared.call.Service.{Service}
 use Rattle.read_test21_26.specs.Inside.Call.{serviceOf}
 use Rattle.read_test21_26.specs.Inside.Verdict.{firstRow}
 use Rattle.span.specs.Format.{shapeOf}
-use Rattle.read.specs.Call.{deliveredIn}
+use Rattle.read.specs.Inside.Accept.{deliveredIn}
 use Rattle.read.specs.Inside.Picture.{lineTests, rightPicture}
 use Rattle.read.proofs.Accepted.{not-accepted}
 use Rattle.read.proofs.Picturing.{both-hold, picture-refused}

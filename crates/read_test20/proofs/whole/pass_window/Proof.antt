@@ -2,10 +2,8 @@
 -- Assumes nothing.
 use mathlib.Core.Path.{_≡_, refl, sym, ap, _∙_}
 use mathlib.Core.Bool.{true, true≢false}
-use Prim.Native.Nat.{_*_}
 use native.Mathlib.Omega.{arith}
 use borrow.Author.Tests.{not-true, not-false}
-use Rattle.span.specs.Format.{samplesIn}
 use Rattle.window.specs.Inside.Fill.{fillRight}
 use Rattle.read_test20.proofs.Getting.{picture-is, sums-are}
 use Rattle.read_test20.proofs.Kept.{sav-stands, bytes-stand, is-valid}
