@@ -40,10 +40,10 @@ fn span_at(f: Format, symbols: &[u16], i: usize, n: usize, rows: &mut [u16]) -> 
     Sought::None
 }
 
-// The first span from a place on, with its picture in the search's own rows; up to place `seen` no K28.5 stands behind the first two symbols
-// there. The rest of the window is looked over from its end. Where K28.5 stands in it, no span begins before the place before the last, and
-// what follows is seen; where none does, the window is read if it begins with two, and no other begins in it. So each symbol is looked at
-// once, and read at most once.
+// The first span from a place on, with its picture in the search's own rows. Behind the first two symbols there, no K28.5 stands up to
+// place `seen`. The rest of the window is looked over from its end. Where K28.5 stands in it, no span begins before the place before the
+// last, and what follows is seen; where none does, the window is read if it begins with two, and no other begins in it. So each symbol is
+// looked at once, and read at most once.
 fn seek_on(f: Format, symbols: &[u16], from: usize, seen: usize, rows: &mut [u16]) -> Sought
     requires { ⌜ isKnown f ≡ true ⌝ }
     requires { ⌜ from ≤ length (now symbols) ⌝ }
@@ -78,8 +78,8 @@ fn seek_on(f: Format, symbols: &[u16], from: usize, seen: usize, rows: &mut [u16
     Sought::None
 }
 
-// The first span at or after a start. The start itself is read at once: in a recording of spans one after another, the next one begins where
-// the one before it ends.
+// The first span at or after a start. The start itself is read at once: in a recording of spans one after another, the next one begins
+// where the one before it ends.
 pub(crate) fn seek(f: Format, symbols: &[u16], start: usize, rows: &mut [u16]) -> Sought
     requires { ⌜ isKnown f ≡ true ⌝ }
     requires { ⌜ start ≤ length (now symbols) ⌝ }

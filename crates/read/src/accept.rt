@@ -1,5 +1,5 @@
-// A span as the finder asks for it: what it delivers, or that it is refused, by whichever test and at whichever place. So nothing is searched
-// for, and rows that are the finder's own are not cleared.
+// A span as the finder asks for it: what it delivers, or that it is refused, by whichever test and at whichever place. So nothing is
+// searched for, and rows that are the finder's own are not cleared.
 use read_test20::whole::Examined;
 use read_test20::whole::Valid;
 use read_test21_26::call::Judged;

@@ -87,7 +87,9 @@ fn grown(label: String, format: u32, symbols: &[u16]) -> Growth {
 
 fn report(growth: &Growth) {
     let versions = [("library", Some(growth.library)), ("fast", growth.fast)];
-    let of = |(version, times): (&str, Option<[f64; LENGTHS]>)| times.map(|times| format!("{version} {:.2} {:.2}", times[0], times[LENGTHS - 1]));
+    let of = |(version, times): (&str, Option<[f64; LENGTHS]>)| {
+        times.map(|times| format!("{version} {:.2} {:.2}", times[0], times[LENGTHS - 1]))
+    };
     let times: Vec<String> = versions.into_iter().filter_map(of).collect();
     eprintln!("finding, {}, ns a symbol of 2^16 and of 2^21: {}", growth.label, times.join(", "));
 }
@@ -109,10 +111,10 @@ fn of_spans(format: u32) -> Vec<Growth> {
     let pairs = DISTANCES.map(|count| (format!("pairs of K28.5 every {count} symbols"), recordings::beginnings(format, count)));
     let spans = [
         ("spans as sent".into(), recordings::sent_spans(format)),
-        (format!("spans as sent, each after {BEGUN} symbols of another"), recordings::begun_before_sent(format)),
         ("spans with a special character 30 before the end".into(), recordings::late_special_characters(format)),
         ("spans with a wrong last fill word".into(), recordings::wrong_last_fills(format)),
-        (format!("the same with ancillary bytes, each after {BEGUN} symbols of another"), recordings::busiest(format)),
+        (format!("spans with ancillary bytes, each after {BEGUN} symbols of another"), recordings::begun_twice(format)),
+        ("the same with a wrong picture word".into(), recordings::begun_twice_and_refused(format)),
     ];
     let all = pairs.into_iter().chain(spans);
     all.map(|(label, symbols)| grown(format!("{label}, format {format}"), format, &symbols)).collect()

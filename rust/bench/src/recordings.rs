@@ -5,7 +5,7 @@ use outside::spans::{made_characters, made_words, sent_symbols};
 use plain::code::{K28_5, K29_7};
 use plain::read::window;
 use plain::recording::LIMIT;
-use plain::span::{shape, symbols, Shape};
+use plain::span::{shape, symbols, words, Shape, ROW};
 use plain::Refused;
 
 /// K28.5 at negative and at positive disparity.
@@ -62,27 +62,18 @@ pub fn sent_spans(format: u32) -> Vec<u16> {
 
 /// The last byte of the last fill word is wrong: test 20 passes, and test 26 fails at the last place.
 pub fn wrong_last_fills(format: u32) -> Vec<u16> {
-    let (mut random, last) = (Random(5), span_shape(format).symbols() - 1);
-    repeated(|| spoilt_span(&mut random, format, |characters| characters[last] ^= 1, last_fill(format)))
-}
-
-/// The refusal of such a span.
-fn last_fill(format: u32) -> Refused {
-    (26, span_shape(format).words() as u64 - 1)
-}
-
-/// Such spans with bytes of any kind in the ancillary area, after three as they are sent, and each after the beginning of another span. All
-/// of it is examined, and what was begun is looked over for nothing.
-pub fn busiest(format: u32) -> Vec<u16> {
-    let (mut random, shape) = (Random(7), span_shape(format));
-    let beginning = begun(&mut random, format);
-    let (area, fill) = (shape.eav_symbol() + 12 * shape.streams + 3, shape.words_before_fill() / 2 * 3);
-    let change = |characters: &mut [u16]| {
-        let mut bytes = Random(3);
-        characters[area..fill].iter_mut().for_each(|character| *character = bytes.next() as u16 % 256);
+    let (mut random, shape) = (Random(5), span_shape(format));
+    repeated(|| {
+        let mut characters = span_characters(&mut random, format);
         characters[shape.symbols() - 1] ^= 1;
-    };
-    repeated(|| [beginning.clone(), spoilt_span(&mut random, format, change, last_fill(format))].concat())
+        refused_span(&mut random, format, &characters, (26, shape.words() as u64 - 1))
+    })
+}
+
+/// Bytes of any kind in the ancillary area, after three as they are sent, so that they are read one by one.
+fn fill_area(random: &mut Random, shape: Shape, characters: &mut [u16]) {
+    let (area, fill) = (shape.eav_symbol() + 12 * shape.streams + 3, shape.words_before_fill() / 2 * 3);
+    characters[area..fill].iter_mut().for_each(|character| *character = random.next() as u16 % 256);
 }
 
 /// The beginning of a span.
@@ -90,24 +81,47 @@ fn begun(random: &mut Random, format: u32) -> Vec<u16> {
     symbols(false, &span_characters(random, format)[..BEGUN]).0
 }
 
-/// Spans as they are sent, each after the beginning of another: the finder meets it first.
-pub fn begun_before_sent(format: u32) -> Vec<u16> {
-    let mut random = Random(7);
+/// Such spans, each after the beginning of another. They are accepted, and where a search starts the finder reads what was begun in vain.
+pub fn begun_twice(format: u32) -> Vec<u16> {
+    let (mut random, shape) = (Random(7), span_shape(format));
     let beginning = begun(&mut random, format);
-    repeated(|| [beginning.clone(), sent_symbols(&mut random, span_shape(format), DEPTH, 100, false)].concat())
+    repeated(|| {
+        let mut characters = span_characters(&mut random, format);
+        fill_area(&mut random, shape, &mut characters);
+        let span = symbols(random.seldom(2), &characters).0;
+        assert!(window(shape, DEPTH, &span).is_ok());
+        [beginning.clone(), span].concat()
+    })
+}
+
+/// The same with a last picture word that no sample has: only test 25 fails, the last that is tried.
+pub fn begun_twice_and_refused(format: u32) -> Vec<u16> {
+    let (mut random, shape) = (Random(7), span_shape(format));
+    let beginning = begun(&mut random, format);
+    repeated(|| {
+        let mut rows: Vec<u16> = (0..shape.samples()).map(|_| random.within(16, 4079) as u16).collect();
+        rows[shape.samples() - 1] = 0;
+        let words = words(shape, 100, &rows).expect("a stream line");
+        let mut characters = made_characters(&mut random, shape, &words);
+        fill_area(&mut random, shape, &mut characters);
+        let last = (shape.streams * (4 + ROW)) as u64 - 1;
+        [beginning.clone(), refused_span(&mut random, format, &characters, (25, last))].concat()
+    })
 }
 
 /// A special character where a byte should be, 30 before the end: test 20 fails there.
 pub fn late_special_characters(format: u32) -> Vec<u16> {
     let (mut random, place) = (Random(5), span_shape(format).symbols() - 30);
-    repeated(|| spoilt_span(&mut random, format, |characters| characters[place] = K29_7, (20, place as u64)))
+    repeated(|| {
+        let mut characters = span_characters(&mut random, format);
+        characters[place] = K29_7;
+        refused_span(&mut random, format, &characters, (20, place as u64))
+    })
 }
 
-/// A span with a character changed. Its refusal, with the place, is given.
-fn spoilt_span(random: &mut Random, format: u32, change: impl Fn(&mut [u16]), refused: Refused) -> Vec<u16> {
-    let mut characters = span_characters(random, format);
-    change(&mut characters);
-    let span = symbols(random.seldom(2), &characters).0;
+/// The symbols of a span that is refused. Its refusal, with the place, is given.
+fn refused_span(random: &mut Random, format: u32, characters: &[u16], refused: Refused) -> Vec<u16> {
+    let span = symbols(random.seldom(2), characters).0;
     assert_eq!(window(span_shape(format), DEPTH, &span).err(), Some(refused));
     span
 }

@@ -30,7 +30,7 @@ pub fn growth(all: &[Growth]) -> String {
     for Growth { label, library, fast } in all {
         for (version, times) in [("library", Some(library)), ("hand-optimised", fast.as_ref())] {
             if let Some(times) = times {
-                table += &format!("| {label} | {version} | {} |\n", times.map(|time| format!("{time:.2}")).join(" | "));
+                table += &format!("| {label} | {version} | {} |\n", times.map(|time| format!("{time:.3}")).join(" | "));
             }
         }
     }
