@@ -3,7 +3,7 @@
 use crate::calls;
 use crate::damage::DAMAGES;
 use crate::reading::{read_damaged, Met};
-use crate::recordings::search;
+use crate::recordings::{in_pieces, search};
 use crate::report::{in_two, Report};
 use crate::spans::{any_asked, any_line, any_samples, shape_of, KINDS};
 use random::Random;
@@ -34,7 +34,11 @@ fn any_call(r: &mut Report, random: &mut Random) {
             let symbols = random.below(50_000);
             search(r, random, format, depth, symbols);
         }
-        2..=20 => damaged_span(r, random),
+        2 => {
+            let ((format, depth), symbols, longest) = (random.pick(&KINDS), random.below(50_000), 2 + random.below(30_000));
+            in_pieces(r, random, format, depth, symbols, longest);
+        }
+        3..=20 => damaged_span(r, random),
         21..=35 => sent_span(r, random),
         36..=60 => any_rows(r, random),
         61..=200 => wrong_lengths(r, random),
@@ -101,13 +105,17 @@ fn wrong_lengths(r: &mut Report, random: &mut Random) {
     let (count, room) = (random.pick(&counts), random.pick(&counts));
     let symbols = random.numbers(count, 1024);
     let start = if random.seldom(3) { number(random) as u64 } else { random.below(count + 2) as u64 };
-    match random.below(7) {
+    match random.below(8) {
         0 => calls::lengths(r, format, depth),
         1 => calls::fill_blanking(r, format, depth, room),
         2 => calls::judge(r, format, depth, &symbols),
         3 => drop(calls::read(r, format, depth, &symbols, room)),
         4 => calls::find(r, format, depth, &symbols, start),
         5 => calls::next(r, format, depth, &symbols, start, room),
+        6 => {
+            let [link, stream] = [2, 4].map(|most| if random.seldom(6) { number(random) } else { random.within(1, most) });
+            calls::way_back(r, (format, depth), link, stream, number(random));
+        }
         _ => {
             let (line, positive) = (number(random), random.flip());
             drop(calls::send(r, any_asked(random, format, depth, line, positive), &symbols, room));

@@ -24,16 +24,16 @@ fn live(part: usize, r: &mut Report) {
     let mut random = Random(0x505 + part as u64);
     for round in 0..25 {
         for (format, depth) in KINDS {
-            let length = random.below(80_000);
-            let recording = any_recording(&mut random, format, depth, length);
-            let longest = [2, 100, 5_000, 20_000, 60_000][round % 5];
+            let (symbols, longest) = (random.below(80_000), [2, 100, 5_000, 20_000, 60_000][round % 5]);
             r.context = format!("round {round} of half {part}, pieces of less than {longest}");
-            in_pieces(r, &mut random, format, depth, &recording, longest);
+            in_pieces(r, &mut random, format, depth, symbols, longest);
         }
     }
 }
 
-fn in_pieces(r: &mut Report, random: &mut Random, format: u32, depth: u32, recording: &[u16], longest: usize) {
+/// A random recording that arrives in pieces, each with less than `longest` symbols, which are two or more.
+pub fn in_pieces(r: &mut Report, random: &mut Random, format: u32, depth: u32, symbols: usize, longest: usize) {
+    let recording = any_recording(random, format, depth, symbols);
     let mut link = Live::new(Format::new(format, depth)).expect("a known format");
     let (mut from, mut spans) = (0, Vec::new());
     while from < recording.len() {
@@ -42,7 +42,7 @@ fn in_pieces(r: &mut Report, random: &mut Random, format: u32, depth: u32, recor
         from = to;
     }
     let told: Vec<_> = spans.into_iter().map(|span| (span.place, span.delivery, span.rows)).collect();
-    let plain = plain::recording::delivery(format, depth, recording).expect("a known format");
+    let plain = plain::recording::delivery(format, depth, &recording).expect("a known format");
     let whole: Vec<_> = plain.into_iter().map(|(place, d)| (place, expected::delivery(&d), d.rows)).collect();
     r.holds(|| format!("{} symbols in pieces deliver something else", recording.len()), told == whole);
 }
