@@ -1,17 +1,21 @@
 -- Recordings in document 01's own terms and numerals, proved: each field cites the law that says it.
 -- Assumes nothing.
-use mathlib.Core.Path.{_≡_, refl}
+use mathlib.Core.Path.{_≡_, refl, sym, ap, _∙_}
 use mathlib.Core.List.{List}
-use Prim.Native.Nat.{ℕ, _≤_, _<_}
+use mathlib.Core.Option.{none, some}
+use Prim.Native.Nat.{ℕ, _+_, _≤_, _<_}
 use lib.ListN.{length}
 use borrow.Author.Tests.{eq-eqb, ne-eqb, le-leb, lt-leb}
-use Rattle.ground.specs.Answer.{refused}
+use Rattle.ground.specs.Answer.{refused, given}
 use Rattle.span.specs.declared.format.Format.{Format}
-use Rattle.span.specs.Format.{numbered, shapeOf, samplesIn}
-use Rattle.span.specs.Numbers.{IsFormat, Samples}
+use Rattle.span.specs.Format.{numbered, shapeOf, samplesIn, symbolsIn}
+use Rattle.span.specs.Numbers.{IsFormat, Samples, Symbols}
 use Rattle.span.proofs.Formats.{is-format, no-format}
 use Rattle.window.proofs.Calls.{is-of, of-is}
-use Rattle.recording.specs.Call.{nextOf}
+use Rattle.delivery.specs.Kept.{keptFrom}
+use Rattle.delivery.proofs.Keeping.{kept-start, kept-last}
+use Rattle.recording.specs.declared.answer.Spanned.{Spanned}
+use Rattle.recording.specs.Call.{nextOf, endOr, afterNext}
 use Rattle.recording.specs.Paper.{RecordingPaper}
 use Rattle.recording.specs.Recording.{limit}
 use Rattle.recording.proofs.Calling.{find-meets-1, find-meets-3, find-meets-5}
@@ -50,6 +54,23 @@ module _ (f : Format) (r : List ℕ) (start room : ℕ) where
           simp
           (is-format f k, le-leb (length r) 2097152 short, eq-eqb room (samplesIn (shapeOf f)) (has-room f k room h), lt-leb start (length r) b)
 
+-- the place after
+module _ (f : Format) (r : List ℕ) (start room n : ℕ) (long : Symbols f n) where
+  span-long : n ≡ symbolsIn (shapeOf f)
+  unfolding shapeOf
+  span-long = is-of (λ k. symbolsIn (numbered k)) (f .number) n long
+
+  after-span : (s : Spanned) → nextOf f r start room ≡ given (some s) → afterNext f r start room ≡ s .place + n
+  after-span s e = ap (endOr (symbolsIn (shapeOf f)) (length r) start) e ∙ ap (λ (k : ℕ). s .place + k) (sym span-long)
+
+  after-none : nextOf f r start room ≡ given none
+      → (length r + 1 ≤ start + n → afterNext f r start room ≡ start)
+      × (start + n ≤ length r + 1 → afterNext f r start room + n ≡ length r + 1)
+  after-none e =
+      let at : afterNext f r start room ≡ keptFrom n (length r) start =
+      ap (endOr (symbolsIn (shapeOf f)) (length r) start) e ∙ ap (λ (k : ℕ). keptFrom k (length r) start) (sym span-long) in
+      (λ h. at ∙ kept-start n (length r) start h, λ h. ap (λ (k : ℕ). k + n) at ∙ kept-last n (length r) start h)
+
 pub recording-paper : RecordingPaper
 unfolding limit
 recording-paper = record {
@@ -64,4 +85,7 @@ recording-paper = record {
   nextMeets3 = next-3;
   nextMeets4 = next-4;
   nextMeets5 = next-5;
+  afterSpan = λ f r start room n s long e. after-span f r start room n long s e;
+  afterNone = λ f r start room n long e. after-none f r start room n long e;
+  afterRefusal = λ f r start room number place e. ap (endOr (symbolsIn (shapeOf f)) (length r) start) e;
 }

@@ -3,15 +3,16 @@
 use mathlib.Core.Path.{_≡_}
 use mathlib.Core.List.{List}
 use mathlib.Core.Option.{none, some}
-use Prim.Native.Nat.{ℕ, _≤_, _<_}
+use Prim.Native.Nat.{ℕ, _+_, _≤_, _<_}
 use lib.ListN.{length}
 use Rattle.ground.specs.Answer.{refused, given}
 use Rattle.span.specs.declared.format.Format.{Format}
 use Rattle.span.specs.Format.{shapeOf, symbolsIn}
-use Rattle.span.specs.Numbers.{IsFormat, Samples}
+use Rattle.span.specs.Numbers.{IsFormat, Samples, Symbols}
 use Rattle.window.specs.declared.delivery.Delivery.{Delivery}
 use Rattle.window.specs.Read.{pictureOf, readSpan}
-use Rattle.recording.specs.Call.{findOf, nextOf}
+use Rattle.recording.specs.declared.answer.Spanned.{Spanned}
+use Rattle.recording.specs.Call.{findOf, nextOf, afterNext}
 use Rattle.recording.specs.Recording.{limit, Reading, reading}
 
 pub record RecordingPaper : Type 0 where
@@ -56,3 +57,20 @@ pub record RecordingPaper : Type 0 where
       → Samples f room
       → length r < start
       → nextOf f r start room ≡ refused 5 0
+  -- the place after: the end of the span; where there is none the start, or that of the last symbols, one fewer than a span has, whichever is
+  -- further on; after a refusal the start
+  pub afterSpan :
+      (f : Format) (r : List ℕ) (start room n : ℕ) (s : Spanned)
+      → Symbols f n
+      → nextOf f r start room ≡ given (some s)
+      → afterNext f r start room ≡ s .place + n
+  pub afterNone :
+      (f : Format) (r : List ℕ) (start room n : ℕ)
+      → Symbols f n
+      → nextOf f r start room ≡ given none
+      → (length r + 1 ≤ start + n → afterNext f r start room ≡ start)
+      × (start + n ≤ length r + 1 → afterNext f r start room + n ≡ length r + 1)
+  pub afterRefusal :
+      (f : Format) (r : List ℕ) (start room number place : ℕ)
+      → nextOf f r start room ≡ refused number place
+      → afterNext f r start room ≡ start
