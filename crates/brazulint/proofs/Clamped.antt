@@ -28,7 +28,7 @@ use Rattle.span.specs.Length.{lengthsOf}
 use Rattle.span.specs.Blanking.{fillOf, filledRow}
 use Rattle.request.specs.Send.{request, sendOf, sentBuffer}
 use Rattle.way_back.specs.declared.back.ImageLine.{ImageLine}
-use Rattle.way_back.specs.Back.{hasStream, brings, backOf}
+use Rattle.way_back.specs.Back.{hasStream, bringsLine, backOf}
 use Rattle.way_back.proofs.Backs.{has-told}
 use Rattle.window.specs.Read.{judgeOf, readOf, rowsRead}
 use Rattle.recording.specs.Call.{findOf, nextOf, afterNext, rowsNext}
@@ -161,7 +161,7 @@ module _ (given : FormatNumbers) where
   abbrev f : Format
   f = formatGiven given
 
-  refused-by : (link stream n : ℕ) → brings f link stream n ≡ false → backOf f link stream n ≡ nothing f
+  refused-by : (link stream n : ℕ) → bringsLine f link stream n ≡ false → backOf f link stream n ≡ nothing f
   refused-by link stream n t = on-test (isKnown f) (λ k. rw (k, t)) (λ k. rw k)
 
   no-link : (stream n m : ℕ) → 65535 ≤ m → backOf f m stream n ≡ nothing f

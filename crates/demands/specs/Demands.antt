@@ -6,7 +6,7 @@ use mathlib.Core.Path.{_≡_}
 use mathlib.Core.Bool.{Bool, true, false}
 use mathlib.Core.List.{List, [], _∷_, _++_, map}
 use mathlib.Core.Option.{none, some}
-use lib.ListN.{length, getD, set, take, drop, replicate}
+use lib.ListN.{length, getD, take, drop, replicate}
 use Rattle.ground.specs.Answer.{refused, given}
 use Rattle.ground.specs.Bit.{inverted}
 use Rattle.ground.specs.Written.{table}
@@ -62,7 +62,7 @@ use Rattle.recording.specs.Steps.{runFrom, spanStep, endStep, lastRows}
 use Rattle.span.specs.Blanking.{fillOf, blankRow, filledRow}
 use Rattle.request.specs.Send.{request, sendOf, sentBuffer}
 use Rattle.demands.specs.Rules.{meaningRules, decodeRules, repairRules, lineWordsRules, readLineWordsRules, crccRules, packRules, placeRules, backRules, splitRules, joinRules, lengthsRules, fillRules, sendRules, judgeRules, readRules, findRules, nextRules}
-use Rattle.demands.specs.Form.{Tried, Lent, Rows, Sending, WasSent, sentSymbols, readingOf, stepsFrom, DeliveredFrom, Delivered, wordsFor}
+use Rattle.demands.specs.Form.{Tried, Lent, Rows, Sending, WasSent, sentSymbols, withWrongBit, readingOf, stepsFrom, DeliveredFrom, Delivered, wordsFor}
 
 -- ==== 1 ====
 
@@ -412,8 +412,7 @@ pub record Demand3 : Type 1 where
       → i < symbolsIn (shapeOf f)
       → k < 10
       → let n = symbolsIn (shapeOf f) in
-      let harmed = set (sentSymbols f x) i (inverted k (getD (sentSymbols f x) i 0)) in
-      let r = concatenated (sentSymbols f) xs ++ (harmed ++ concatenated (sentSymbols f) ys) in
+      let r = concatenated (sentSymbols f) xs ++ (withWrongBit f x i k ++ concatenated (sentSymbols f) ys) in
       length r ≤ limit
       → Delivered f r (placedFrom n (readingOf f) 0 xs ++ placedFrom n (readingOf f) (n * length xs + n) ys)
 

@@ -6,8 +6,9 @@ use mathlib.Core.Bool.{cond}
 use mathlib.Core.List.{List, [], _∷_}
 use mathlib.Core.Option.{Option, none, some}
 use lib.Dec.{eqb}
-use lib.ListN.{length, getD, replicate}
+use lib.ListN.{length, getD, set, replicate}
 use Rattle.ground.specs.Answer.{Answer, refused, given}
+use Rattle.ground.specs.Bit.{inverted}
 use Rattle.ground.specs.Written.{upto, table}
 use Rattle.symbol.specs.declared.disparity.Disparity.{Disparity}
 use Rattle.span.specs.declared.format.Format.{Format}
@@ -90,6 +91,10 @@ pub record WasSent (f : Format) (x : Sending) : Type 0 where
 -- the symbols that it put there
 abbrev pub sentSymbols : Format → Sending → List ℕ
 sentSymbols f x = spanSymbols (x .before) f (x .asked)
+
+-- the same with bit k of symbol i inverted
+abbrev pub withWrongBit : Format → Sending → ℕ → ℕ → List ℕ
+withWrongBit f x i k = set (sentSymbols f x) i (inverted k (getD (sentSymbols f x) i 0))
 
 -- what is to be read from it: its line, its content bytes, both disparities, nothing repaired, and its picture words stream by stream
 abbrev pub readingOf : Format → Sending → Reading

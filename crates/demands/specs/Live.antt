@@ -7,9 +7,8 @@ use mathlib.Core.Path.{_≡_}
 use mathlib.Core.Bool.{false}
 use mathlib.Core.List.{List, [], _∷_, _++_}
 use mathlib.Core.Option.{none}
-use lib.ListN.{length, getD, set, take, drop}
+use lib.ListN.{length, take, drop}
 use Rattle.ground.specs.Answer.{given}
-use Rattle.ground.specs.Bit.{inverted}
 use Rattle.span.specs.declared.format.Format.{Format}
 use Rattle.span.specs.Format.{shapeOf, symbolsIn}
 use Rattle.span.specs.Numbers.{IsFormat, Samples}
@@ -17,7 +16,7 @@ use Rattle.delivery.specs.Delivery.{Found, movedBy, concatenated, placedFrom, E
 use Rattle.recording.specs.Call.{nextOf, afterNext}
 use Rattle.recording.specs.Recording.{limit, Reading, accepts, deliveryFrom}
 use Rattle.recording.specs.Steps.{Rest, restBy}
-use Rattle.demands.specs.Form.{Sending, WasSent, sentSymbols, readingOf, stepsFrom, Delivered}
+use Rattle.demands.specs.Form.{Sending, WasSent, sentSymbols, withWrongBit, readingOf, stepsFrom, Delivered}
 
 -- all that arrived
 abbrev pub arrived : List (List ℕ) → List ℕ
@@ -84,6 +83,5 @@ pub record Live : Type 0 where
       → i < symbolsIn (shapeOf f)
       → k < 10
       → let n = symbolsIn (shapeOf f) in
-      let harmed = set (sentSymbols f x) i (inverted k (getD (sentSymbols f x) i 0)) in
-      LiveGives f (concatenated (sentSymbols f) xs ++ (harmed ++ concatenated (sentSymbols f) ys))
+      LiveGives f (concatenated (sentSymbols f) xs ++ (withWrongBit f x i k ++ concatenated (sentSymbols f) ys))
       (placedFrom n (readingOf f) 0 xs ++ placedFrom n (readingOf f) (n * length xs + n) ys)

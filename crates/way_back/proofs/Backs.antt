@@ -22,7 +22,7 @@ use Rattle.span.specs.Format.{isKnown, shapeOf, streams}
 use Rattle.span.specs.Image.{imageOf}
 use Rattle.span.proofs.Formats.{small}
 use Rattle.way_back.specs.declared.back.ImageLine.{ImageLine}
-use Rattle.way_back.specs.Back.{linksBy, hasStream, imageLineOn, brings, backOf}
+use Rattle.way_back.specs.Back.{linksBy, hasStream, imageLineOn, bringsLine, backOf}
 use Rattle.way_back.specs.Inside.Image.{imageOn}
 
 -- ---- the links of a component
@@ -103,18 +103,18 @@ module _ (f : Format) (link stream : ℕ) where
     unknown-back t = rw t
 
     module _ (known : isKnown f ≡ true) where
-      brings-none : brings f link stream n ≡ false → refused 2 0 ≡ backOf f link stream n
-      brings-none t = rw (known, t)
+      bringsLine-none : bringsLine f link stream n ≡ false → refused 2 0 ≡ backOf f link stream n
+      bringsLine-none t = rw (known, t)
 
       pub no-stream : hasStream f link stream ≡ false → refused 2 0 ≡ backOf f link stream n
-      no-stream t = brings-none (ap (λ (x : Bool). x && isActive n) t)
+      no-stream t = bringsLine-none (ap (λ (x : Bool). x && isActive n) t)
 
       pub no-picture : isActive n ≡ false → refused 2 0 ≡ backOf f link stream n
-      no-picture t = brings-none (ap (λ (x : Bool). hasStream f link stream && x) t ∙ and-false (hasStream f link stream))
+      no-picture t = bringsLine-none (ap (λ (x : Bool). hasStream f link stream && x) t ∙ and-false (hasStream f link stream))
 
       pub is-back : hasStream f link stream ≡ true → isActive n ≡ true → given (imageLineOn f link stream n) ≡ backOf f link stream n
       is-back s t =
-          let b : brings f link stream n ≡ true = ap (λ (x : Bool). x && isActive n) s ∙ t in
+          let b : bringsLine f link stream n ≡ true = ap (λ (x : Bool). x && isActive n) s ∙ t in
           rw (known, b)
 
 -- what the way back of the picture says of the line

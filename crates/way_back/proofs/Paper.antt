@@ -18,7 +18,7 @@ use Rattle.span.specs.Format.{shapeOf}
 use Rattle.span.specs.Image.{imageOf}
 use Rattle.span.specs.Numbers.{IsFormat}
 use Rattle.span.proofs.Formats.{is-format, no-format, two-streams, four-streams}
-use Rattle.way_back.specs.Back.{backOf, brings, hasStream, imageLineOn}
+use Rattle.way_back.specs.Back.{backOf, bringsLine, hasStream, imageLineOn}
 use Rattle.way_back.specs.Paper.{IsStream, Carried, line, WayBackPaper}
 use Rattle.way_back.proofs.Backs.{has-told, unknown-back, is-back}
 
@@ -70,10 +70,10 @@ lines : (l : ℕ) → 1 ≤ l → (lineFrom 1 l ≡ 2 * l - 1) × (lineFrom 2 l 
 unfolding lineFrom h
 lines l a = (omega arith, omega arith, omega arith, omega arith)
 
-pub carried-says : (f : Format) → IsFormat f → (link stream n : ℕ) → Reflects (brings f link stream n) (Carried f link stream n)
+pub carried-says : (f : Format) → IsFormat f → (link stream n : ℕ) → Reflects (bringsLine f link stream n) (Carried f link stream n)
 carried-says f known link stream n = record { told = told; holds = holds }
   where
-    told : (brings f link stream n) ≡ true → Carried f link stream n
+    told : (bringsLine f link stream n) ≡ true → Carried f link stream n
     told t =
         let active = both-right (hasStream f link stream) (isActive n) t in (
           streams-say f known link stream .told (both-left (hasStream f link stream) (isActive n) t),
@@ -81,7 +81,7 @@ carried-says f known link stream n = record { told = told; holds = holds }
           to-high 42 1121 n active,
         )
 
-    holds : Carried f link stream n → (brings f link stream n) ≡ true
+    holds : Carried f link stream n → (bringsLine f link stream n) ≡ true
     holds (has, a, b) = rw (streams-say f known link stream .holds has, is-within 42 1121 n a b) refl
 
 pub way-back-paper : WayBackPaper
@@ -106,8 +106,8 @@ way-back-paper = record {
       );
   backMeets1 = λ f link stream n x. sym (unknown-back f link stream n (no-format f x));
   backMeets2 = λ f link stream n known x.
-      let t : (brings f link stream n) ≡ false =
-      on-test (brings f link stream n) (λ t. absurd (x (carried-says f known link stream n .told t))) (λ t. t) in
+      let t : (bringsLine f link stream n) ≡ false =
+      on-test (bringsLine f link stream n) (λ t. absurd (x (carried-says f known link stream n .told t))) (λ t. t) in
       rw (is-format f known, t) refl;
   goodIsGiven = λ f link stream n known good.
       (imageLineOn f link stream n, rw (is-format f known, carried-says f known link stream n .holds good) refl);

@@ -30,12 +30,12 @@ imageLineOn f link stream n =
     record { image = imageOf f link (stream - 1); line = record { 0 = lineFrom (imageOf f link (stream - 1)) (n - 41) } }
 
 -- such a stream brings a line of the picture on stream line n
-abbrev pub brings : Format → ℕ → ℕ → ℕ → Bool
-brings f link stream n = hasStream f link stream && isActive n
+abbrev pub bringsLine : Format → ℕ → ℕ → ℕ → Bool
+bringsLine f link stream n = hasStream f link stream && isActive n
 
 -- 1 for an unknown format or depth; 2 if there is no such link or stream, or the stream line carries no picture
 abbrev pub backRows : Format → ℕ → ℕ → ℕ → List Row
-backRows f link stream n = unless 1 (isKnown f) ∷ unless 2 (brings f link stream n) ∷ []
+backRows f link stream n = unless 1 (isKnown f) ∷ unless 2 (bringsLine f link stream n) ∷ []
 
 abbrev pub backOf : Format → ℕ → ℕ → ℕ → Answer ImageLine
 backOf f link stream n = checked (backRows f link stream n) (imageLineOn f link stream n)
