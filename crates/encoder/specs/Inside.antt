@@ -1,1 +1,4 @@
+pub mod Block
+pub mod Filling
+pub mod Parts
 pub mod Tables
