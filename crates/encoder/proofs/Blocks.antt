@@ -18,7 +18,8 @@ use Rattle.symbol.specs.Inside.Disparity.{flippedIf}
 use Rattle.symbol.proofs.Characters.{at-character, same, same-is}
 use Rattle.encoder.specs.declared.encode.Encoded.{Encoded}
 use Rattle.encoder.specs.Encode.{encoded}
-use Rattle.encoder.specs.Inside.Block.{fourOfByte, joined, unbalanced}
+use Rattle.encoder.specs.Inside.Character.{fourOfByte}
+use Rattle.block.specs.Inside.Bits.{joined, unbalanced}
 
 -- x has five bits, y three
 pub x-below : (c : ℕ) → c < characters → xOf c < 32

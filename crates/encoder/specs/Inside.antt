@@ -1,4 +1,3 @@
-pub mod Block
+pub mod Character
 pub mod Filling
-pub mod Parts
 pub mod Tables

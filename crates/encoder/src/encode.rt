@@ -17,11 +17,11 @@ fn encode_character(d: Disparity, c: u16) -> Encoded
     requires { ⌜ c < 268 ⌝ }
     ensures { λ r. ⌜ r ≡ encoded d c ⌝ }
 {
-    let six = crate::block::six_of(d, c);
-    let between = symbol::disparity::flipped_if(crate::block::unbalanced(3, six), d);
-    let four = crate::block::four_of(between, c);
-    let after = symbol::disparity::flipped_if(crate::block::unbalanced(2, four), between);
-    let symbol = crate::block::joined(six, four);
+    let six = crate::character::six_of(d, c);
+    let between = symbol::disparity::flipped_if(block::bits::unbalanced(3, six), d);
+    let four = crate::character::four_of(between, c);
+    let after = symbol::disparity::flipped_if(block::bits::unbalanced(2, four), between);
+    let symbol = block::bits::joined(six, four);
     Encoded { symbol, after }
 }
 

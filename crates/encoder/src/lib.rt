@@ -1,6 +1,5 @@
 // 8B/10B encoding: a character to its ten-bit symbol, and the tables that a loop uses.
-mod block;
+mod character;
 pub mod encode;
 mod filling;
-mod parts;
 pub mod tables;

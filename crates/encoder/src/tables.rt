@@ -12,7 +12,7 @@ fn put_alternates(d: Disparity, low: &[u16; 32], out: &mut [u16], at: usize)
     ensures { λ _. ⌜ now (out .exit) ≡ alternatesPut d (now (low .entry)) (now (out .entry)) at ⌝ }
 {
     let xs = symbol::blocks::alternate_at(d);
-    let high = crate::block::joined(0, symbol::blocks::alternate(d));
+    let high = block::bits::joined(0, symbol::blocks::alternate(d));
     let a = xs[0] as usize;
     let b = xs[1] as usize;
     let c = xs[2] as usize;
@@ -35,7 +35,7 @@ fn put_symbols(
     requires { ⌜ at + 268 ≤ length (now out) ⌝ }
     ensures { λ _. ⌜ now (out .exit) ≡ symbolsPut d (now (low .entry)) (now (masks .entry)) (now (same .entry)) (now (other .entry)) (now (special .entry)) (now (out .entry)) at ⌝ }
 {
-    let k28 = crate::block::joined(symbol::blocks::six_bits_k28(d), 0);
+    let k28 = block::bits::joined(symbol::blocks::six_bits_k28(d), 0);
     crate::filling::fill_characters(low, masks, same, other, k28, special, out, at);
     put_alternates(d, low, out, at + 224);
 }
@@ -47,13 +47,13 @@ pub fn symbol_table() -> [u16; 536]
 {
     let n = Disparity::Negative;
     let p = Disparity::Positive;
-    let masks = crate::parts::six_masks(symbol::blocks::six_bits(n));
-    let low_n = crate::parts::low_bits(symbol::blocks::six_bits(n));
-    let low_p = crate::parts::low_bits(symbol::blocks::six_bits(p));
-    let four_n = crate::parts::high_bits(symbol::blocks::four_bits(n));
-    let four_p = crate::parts::high_bits(symbol::blocks::four_bits(p));
-    let special_n = crate::parts::high_bits(symbol::blocks::four_bits_special(n));
-    let special_p = crate::parts::high_bits(symbol::blocks::four_bits_special(p));
+    let masks = block::parts::six_masks(symbol::blocks::six_bits(n));
+    let low_n = block::parts::low_bits(symbol::blocks::six_bits(n));
+    let low_p = block::parts::low_bits(symbol::blocks::six_bits(p));
+    let four_n = block::parts::high_bits(symbol::blocks::four_bits(n));
+    let four_p = block::parts::high_bits(symbol::blocks::four_bits(p));
+    let special_n = block::parts::high_bits(symbol::blocks::four_bits_special(n));
+    let special_p = block::parts::high_bits(symbol::blocks::four_bits_special(p));
     let mut symbols = [0u16; 536];
     put_symbols(
         n,
@@ -84,10 +84,10 @@ pub fn flip_table() -> [u16; 268]
     ensures { λ r. ⌜ r ≡ flipTable ⌝ }
 {
     let n = Disparity::Negative;
-    let masks = crate::parts::six_masks(symbol::blocks::six_bits(n));
-    let same = crate::parts::four_flips(0, symbol::blocks::four_bits(n));
-    let other = crate::parts::four_flips(268, symbol::blocks::four_bits(n));
-    let special = crate::parts::four_flips(268, symbol::blocks::four_bits_special(n));
+    let masks = block::parts::six_masks(symbol::blocks::six_bits(n));
+    let same = block::parts::four_flips(0, symbol::blocks::four_bits(n));
+    let other = block::parts::four_flips(268, symbol::blocks::four_bits(n));
+    let special = block::parts::four_flips(268, symbol::blocks::four_bits_special(n));
     let zeros = [0u16; 32];
     let mut flips = [0u16; 268];
     crate::filling::fill_characters(&zeros, &masks, &same, &other, 0, &special, &mut flips, 0);

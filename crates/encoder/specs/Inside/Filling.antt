@@ -8,7 +8,7 @@ use lib.Seq.{sets}
 use Rattle.ground.specs.Written.{upto, table}
 use Rattle.symbol.specs.declared.disparity.Disparity.{Disparity}
 use Rattle.symbol.specs.Blocks.{sixBitsK28, alternate, alternateAt}
-use Rattle.encoder.specs.Inside.Block.{joined}
+use Rattle.block.specs.Inside.Bits.{joined}
 
 -- `same` where the mask has no bit, `other` where it has all
 abbrev pub picked : ℕ → ℕ → ℕ → ℕ

@@ -7,7 +7,8 @@ use lib.ListN.{length, getD}
 use lib.Seq.{length-sets}
 use Rattle.ground.specs.Written.{upto}
 use Rattle.encoder.specs.Inside.Filling.{rowOf, bytesOf}
-use Rattle.encoder.proofs.Filled.{pieces, none-pieces, one-piece, length-row}
+use Rattle.ground.proofs.Storing.{pieces, none-pieces, one-piece}
+use Rattle.encoder.proofs.Filled.{length-row}
 use borrow.Author.Needs.{needs}
 use Rattle.encoder.proofs.filling.fill_bytes.Statement.{statement}
 use Rattle.encoder.proofs.filling.fill_bytes.Tie as tie
