@@ -97,6 +97,6 @@ pub(crate) fn four_of(d: Disparity, c: u16) -> u16
     if c < 256 {
         return four_of_byte(d, x_of(c), y);
     }
-    let blocks = symbol::blocks::four_bits_special(d);
-    blocks[y as usize]
+    let special = symbol::blocks::four_bits_special(d);
+    special[y as usize]
 }

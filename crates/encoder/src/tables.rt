@@ -1,4 +1,17 @@
 // The encoder's tables. A disparity is represented as an offset: where its symbols begin.
+use crate::filling::fill_characters;
+use crate::filling::put_entry;
+use block::bits::joined;
+use block::parts::four_flips;
+use block::parts::high_bits;
+use block::parts::low_bits;
+use block::parts::six_masks;
+use symbol::blocks::alternate;
+use symbol::blocks::alternate_at;
+use symbol::blocks::four_bits;
+use symbol::blocks::four_bits_special;
+use symbol::blocks::six_bits;
+use symbol::blocks::six_bits_k28;
 use symbol::disparity::Disparity;
 ghost use mathlib.Core.Path.{_≡_};
 ghost use Prim.Native.Nat.{_+_, _≤_};
@@ -11,14 +24,14 @@ fn put_alternates(d: Disparity, low: &[u16; 32], out: &mut [u16], at: usize)
     requires { ⌜ at + 32 ≤ length (now out) ⌝ }
     ensures { λ _. ⌜ now (out .exit) ≡ alternatesPut d (now (low .entry)) (now (out .entry)) at ⌝ }
 {
-    let xs = symbol::blocks::alternate_at(d);
-    let high = block::bits::joined(0, symbol::blocks::alternate(d));
+    let xs = alternate_at(d);
+    let high = joined(0, alternate(d));
     let a = xs[0] as usize;
     let b = xs[1] as usize;
     let c = xs[2] as usize;
-    crate::filling::put_entry(low, a, high, out, at + a);
-    crate::filling::put_entry(low, b, high, out, at + b);
-    crate::filling::put_entry(low, c, high, out, at + c);
+    put_entry(low, a, high, out, at + a);
+    put_entry(low, b, high, out, at + b);
+    put_entry(low, c, high, out, at + c);
 }
 
 // The symbols of all characters at disparity d, out of what their blocks bring (`filling::fill_characters`).
@@ -35,8 +48,8 @@ fn put_symbols(
     requires { ⌜ at + 268 ≤ length (now out) ⌝ }
     ensures { λ _. ⌜ now (out .exit) ≡ symbolsPut d (now (low .entry)) (now (masks .entry)) (now (same .entry)) (now (other .entry)) (now (special .entry)) (now (out .entry)) at ⌝ }
 {
-    let k28 = block::bits::joined(symbol::blocks::six_bits_k28(d), 0);
-    crate::filling::fill_characters(low, masks, same, other, k28, special, out, at);
+    let k28 = joined(six_bits_k28(d), 0);
+    fill_characters(low, masks, same, other, k28, special, out, at);
     put_alternates(d, low, out, at + 224);
 }
 
@@ -47,13 +60,13 @@ pub fn symbol_table() -> [u16; 536]
 {
     let n = Disparity::Negative;
     let p = Disparity::Positive;
-    let masks = block::parts::six_masks(symbol::blocks::six_bits(n));
-    let low_n = block::parts::low_bits(symbol::blocks::six_bits(n));
-    let low_p = block::parts::low_bits(symbol::blocks::six_bits(p));
-    let four_n = block::parts::high_bits(symbol::blocks::four_bits(n));
-    let four_p = block::parts::high_bits(symbol::blocks::four_bits(p));
-    let special_n = block::parts::high_bits(symbol::blocks::four_bits_special(n));
-    let special_p = block::parts::high_bits(symbol::blocks::four_bits_special(p));
+    let masks = six_masks(six_bits(n));
+    let low_n = low_bits(six_bits(n));
+    let low_p = low_bits(six_bits(p));
+    let four_n = high_bits(four_bits(n));
+    let four_p = high_bits(four_bits(p));
+    let special_n = high_bits(four_bits_special(n));
+    let special_p = high_bits(four_bits_special(p));
     let mut symbols = [0u16; 536];
     put_symbols(
         n,
@@ -84,13 +97,13 @@ pub fn flip_table() -> [u16; 268]
     ensures { λ r. ⌜ r ≡ flipTable ⌝ }
 {
     let n = Disparity::Negative;
-    let masks = block::parts::six_masks(symbol::blocks::six_bits(n));
-    let same = block::parts::four_flips(0, symbol::blocks::four_bits(n));
-    let other = block::parts::four_flips(268, symbol::blocks::four_bits(n));
-    let special = block::parts::four_flips(268, symbol::blocks::four_bits_special(n));
+    let masks = six_masks(six_bits(n));
+    let same = four_flips(0, four_bits(n));
+    let other = four_flips(268, four_bits(n));
+    let special = four_flips(268, four_bits_special(n));
     let zeros = [0u16; 32];
     let mut flips = [0u16; 268];
-    crate::filling::fill_characters(&zeros, &masks, &same, &other, 0, &special, &mut flips, 0);
+    fill_characters(&zeros, &masks, &same, &other, 0, &special, &mut flips, 0);
     flips
 }
 

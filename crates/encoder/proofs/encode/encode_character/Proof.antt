@@ -28,7 +28,16 @@ joined-requires : tie.Need-joined-requires
 joined-requires c κs = search needs
 
 returns : tie.Need-returns
-returns c = let a = c .before .before .before .before .before .before .before .args in encoded-is (a .d) (a .c) (omega arith) (c .before .before .before .before .before .before .six-of .ensures) (c .before .before .before .before .before .unbalanced .ensures) (c .before .before .before .before .flipped-if .ensures) (c .before .before .before .four-of .ensures) (c .before .before .unbalanced2 .ensures) (c .before .flipped-if2 .ensures) (c .joined .ensures)
+returns c =
+    let a = c .before .before .before .before .before .before .before .args in
+    encoded-is (a .d) (a .c) (omega arith)
+    (c .before .before .before .before .before .before .six-of .ensures)
+    (c .before .before .before .before .before .unbalanced .ensures)
+    (c .before .before .before .before .flipped-if .ensures)
+    (c .before .before .before .four-of .ensures)
+    (c .before .before .unbalanced2 .ensures)
+    (c .before .flipped-if2 .ensures)
+    (c .joined .ensures)
 
 pub encode-character-spec : {M : Type 1} → statement M
 encode-character-spec =

@@ -20,7 +20,9 @@ abbrev μ-loop : tie.MeasureT-loop
 μ-loop low masks same other out₀ at y₀ out y = 8 - y
 
 loop-holds : tie.Need-loop-holds Inv-loop μ-loop
-loop-holds c = let a = c .before .args in (omega arith, refl, none-pieces (a .out .now) (a .at) _)
+loop-holds c =
+    let a = c .before .args in
+    (omega arith, refl, none-pieces (a .out .now) (a .at) _)
 
 mul-fill-row : tie.Need-mul-fill-row Inv-loop μ-loop
 mul-fill-row c = search needs
@@ -50,14 +52,22 @@ loop-less : tie.Need-loop-less Inv-loop μ-loop
 loop-less c = search needs
 
 loop-again : tie.Need-loop-again Inv-loop μ-loop
-loop-again c = let a = c .before .before .before .before .before .before .before .before .before .args in let v = c .before .before .before .before .before .before .before .loop in let e = c .before .before .fill-row .ensures in (omega arith, simp length-sets at (ap length e) ∙ v .inv .1, e ∙ one-piece 32 (a .out .now) (a .at) _ (λ k. length-row _ _ _ _) (v .y) _ (v .inv .2) refl)
+loop-again c =
+    let a = c .before .before .before .before .before .before .before .before .before .args in
+    let v = c .before .before .before .before .before .before .before .loop in
+    let e = c .before .before .fill-row .ensures in
+    (omega arith, simp length-sets at (ap length e) ∙ v .inv .1, e ∙ one-piece 32 (a .out .now) (a .at) _ (λ k. length-row _ _ _ _) (v .y) _ (v .inv .2) refl)
 
 same-length : tie.Need-same-length Inv-loop μ-loop
 same-length c = search needs
 
 returns : tie.Need-returns Inv-loop μ-loop
 unfolding pieces bytesOf
-returns c = let a = c .before .before .before .args in let v = c .before .loop in let end : v .y ≡ 8 = omega arith in v .inv .2 ∙ ap (pieces (a .out .now) (a .at) _) end
+returns c =
+    let a = c .before .before .before .args in
+    let v = c .before .loop in
+    let end : v .y ≡ 8 = omega arith in
+    v .inv .2 ∙ ap (pieces (a .out .now) (a .at) _) end
 
 pub fill-bytes-spec : {M : Type 1} → statement M
 fill-bytes-spec =

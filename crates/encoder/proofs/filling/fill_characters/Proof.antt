@@ -28,7 +28,12 @@ same-length c = search needs
 
 returns : tie.Need-returns
 unfolding charactersPut
-returns c = rw (c .before .before .fill-other-specials .ensures, c .before .before .before .before .before .before .before .fill-k28s .ensures, c .before .before .before .before .before .before .before .before .before .before .before .fill-bytes .ensures)
+returns c =
+    rw (
+      c .before .before .fill-other-specials .ensures,
+      c .before .before .before .before .before .before .before .fill-k28s .ensures,
+      c .before .before .before .before .before .before .before .before .before .before .before .fill-bytes .ensures,
+    )
 
 pub fill-characters-spec : {M : Type 1} → statement M
 fill-characters-spec =

@@ -44,14 +44,21 @@ loop-less : tie.Need-loop-less Inv-loop μ-loop
 loop-less c = search needs
 
 loop-again : tie.Need-loop-again Inv-loop μ-loop
-loop-again c = let a = c .before .before .before .args in let v = c .before .before .loop in (omega arith, simp length-set (v .inv .1), one-more (a .out .now) (a .at) _ (v .y) (v .inv .2) refl refl)
+loop-again c =
+    let a = c .before .before .before .args in
+    let v = c .before .before .loop in
+    (omega arith, simp length-set (v .inv .1), one-more (a .out .now) (a .at) _ (v .y) (v .inv .2) refl refl)
 
 same-length : tie.Need-same-length Inv-loop μ-loop
 same-length c = search needs
 
 returns : tie.Need-returns Inv-loop μ-loop
 unfolding stored k28sOf table
-returns c = let a = c .before .before .args in let v = c .before .loop in let end : v .y ≡ 8 = omega arith in v .inv .2 ∙ ap (stored (a .out .now) (a .at) _) end
+returns c =
+    let a = c .before .before .args in
+    let v = c .before .loop in
+    let end : v .y ≡ 8 = omega arith in
+    v .inv .2 ∙ ap (stored (a .out .now) (a .at) _) end
 
 pub fill-k28s-spec : {M : Type 1} → statement M
 fill-k28s-spec =

@@ -31,7 +31,13 @@ same-length c = search needs
 
 returns : tie.Need-returns
 unfolding otherSpecialsPut
-returns c = rw (c .before .before .put-entry4 .ensures, c .before .before .before .before .before .before .put-entry3 .ensures, c .before .before .before .before .before .before .before .before .before .before .put-entry2 .ensures, c .before .before .before .before .before .before .before .before .before .before .before .before .before .before .put-entry .ensures)
+returns c =
+    rw (
+      c .before .before .put-entry4 .ensures,
+      c .before .before .before .before .before .before .put-entry3 .ensures,
+      c .before .before .before .before .before .before .before .before .before .before .put-entry2 .ensures,
+      c .before .before .before .before .before .before .before .before .before .before .before .before .before .before .put-entry .ensures,
+    )
 
 pub fill-other-specials-spec : {M : Type 1} → statement M
 fill-other-specials-spec =

@@ -20,7 +20,9 @@ abbrev μ-loop : tie.MeasureT-loop
 μ-loop low masks same other out₀ at x₀ out x = 32 - x
 
 loop-holds : tie.Need-loop-holds Inv-loop μ-loop
-loop-holds c = let a = c .before .args in (omega arith, refl, none-stored (a .out .now) (a .at) _)
+loop-holds c =
+    let a = c .before .args in
+    (omega arith, refl, none-stored (a .out .now) (a .at) _)
 
 mul-out : tie.Need-mul-out Inv-loop μ-loop
 mul-out c = search needs
@@ -53,14 +55,21 @@ loop-less : tie.Need-loop-less Inv-loop μ-loop
 loop-less c = search needs
 
 loop-again : tie.Need-loop-again Inv-loop μ-loop
-loop-again c = let a = c .before .before .before .before .before .before .args in let v = c .before .before .before .before .loop in (omega arith, simp length-set (v .inv .1), one-more (a .out .now) (a .at) _ (v .x) (v .inv .2) refl (ap (bitOr (getD (a .low .now) (v .x) 0)) (c .picked .ensures)))
+loop-again c =
+    let a = c .before .before .before .before .before .before .args in
+    let v = c .before .before .before .before .loop in
+    (omega arith, simp length-set (v .inv .1), one-more (a .out .now) (a .at) _ (v .x) (v .inv .2) refl (ap (bitOr (getD (a .low .now) (v .x) 0)) (c .picked .ensures)))
 
 same-length : tie.Need-same-length Inv-loop μ-loop
 same-length c = search needs
 
 returns : tie.Need-returns Inv-loop μ-loop
 unfolding stored rowOf table
-returns c = let a = c .before .before .before .args in let v = c .before .loop in let end : v .x ≡ 32 = omega arith in v .inv .2 ∙ ap (stored (a .out .now) (a .at) _) end
+returns c =
+    let a = c .before .before .before .args in
+    let v = c .before .loop in
+    let end : v .x ≡ 32 = omega arith in
+    v .inv .2 ∙ ap (stored (a .out .now) (a .at) _) end
 
 pub fill-row-spec : {M : Type 1} → statement M
 fill-row-spec =

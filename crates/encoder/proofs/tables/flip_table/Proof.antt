@@ -36,7 +36,18 @@ fill-characters-requires : tie.Need-fill-characters-requires
 fill-characters-requires c κs = search needs
 
 returns : tie.Need-returns
-returns c = rw (c .before .fill-characters .ensures, c .before .before .before .before .before .before .before .before .four-flips3 .ensures, c .before .before .before .before .before .before .before .before .before .four-bits-special .ensures, c .before .before .before .before .before .before .before .before .before .before .four-flips2 .ensures, c .before .before .before .before .before .before .before .before .before .before .before .four-bits2 .ensures, c .before .before .before .before .before .before .before .before .before .before .before .before .four-flips .ensures, c .before .before .before .before .before .before .before .before .before .before .before .before .before .four-bits .ensures, c .before .before .before .before .before .before .before .before .before .before .before .before .before .before .six-masks .ensures, c .before .before .before .before .before .before .before .before .before .before .before .before .before .before .before .six-bits .ensures) flips-filled
+returns c =
+    rw (
+      c .before .fill-characters .ensures,
+      c .before .before .before .before .before .before .before .before .four-flips3 .ensures,
+      c .before .before .before .before .before .before .before .before .before .four-bits-special .ensures,
+      c .before .before .before .before .before .before .before .before .before .before .four-flips2 .ensures,
+      c .before .before .before .before .before .before .before .before .before .before .before .four-bits2 .ensures,
+      c .before .before .before .before .before .before .before .before .before .before .before .before .four-flips .ensures,
+      c .before .before .before .before .before .before .before .before .before .before .before .before .before .four-bits .ensures,
+      c .before .before .before .before .before .before .before .before .before .before .before .before .before .before .six-masks .ensures,
+      c .before .before .before .before .before .before .before .before .before .before .before .before .before .before .before .six-bits .ensures,
+    ) flips-filled
 
 pub flip-table-spec : {M : Type 1} → statement M
 flip-table-spec =

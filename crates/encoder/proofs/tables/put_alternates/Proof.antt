@@ -37,29 +37,49 @@ cast-c : tie.Need-cast-c
 cast-c c = search needs
 
 add-put-entry : tie.Need-add-put-entry
-add-put-entry c = let b = alternate-below _ (c .before .before .before .alternate-at .ensures) .0 in omega arith
+add-put-entry c =
+    let b = alternate-below _ (c .before .before .before .alternate-at .ensures) in
+    omega arith
 
 put-entry-requires : tie.Need-put-entry-requires
-put-entry-requires c κs = let b = alternate-below _ (c .before .before .before .alternate-at .ensures) .0 in (b, omega arith)
+put-entry-requires c κs =
+    let b = alternate-below _ (c .before .before .before .alternate-at .ensures) in
+    (omega arith, omega arith)
 
 add-put-entry-2 : tie.Need-add-put-entry-2
-add-put-entry-2 c = let b = alternate-below _ (c .before .before .before .before .before .before .before .alternate-at .ensures) .1 in omega arith
+add-put-entry-2 c =
+    let b = alternate-below _ (c .before .before .before .before .before .before .before .alternate-at .ensures) in
+    omega arith
 
 put-entry-requires-2 : tie.Need-put-entry-requires-2
-put-entry-requires-2 c κs = let b = alternate-below _ (c .before .before .before .before .before .before .before .alternate-at .ensures) .1 in (b, omega (arith, simp length-set at (ap length (c .before .before .before .put-entry .ensures))))
+put-entry-requires-2 c κs =
+    let b = alternate-below _ (c .before .before .before .before .before .before .before .alternate-at .ensures) in
+    (omega arith, omega (arith, simp length-set at (ap length (c .before .before .before .put-entry .ensures))))
 
 add-put-entry-3 : tie.Need-add-put-entry-3
-add-put-entry-3 c = let b = alternate-below _ (c .before .before .before .before .before .before .before .before .before .before .before .alternate-at .ensures) .2 in omega arith
+add-put-entry-3 c =
+    let b = alternate-below _ (c .before .before .before .before .before .before .before .before .before .before .before .alternate-at .ensures) in
+    omega arith
 
 put-entry-requires-3 : tie.Need-put-entry-requires-3
-put-entry-requires-3 c κs = let b = alternate-below _ (c .before .before .before .before .before .before .before .before .before .before .before .alternate-at .ensures) .2 in (b, omega (arith, simp length-set at (ap length (c .before .before .before .put-entry2 .ensures)), simp length-set at (ap length (c .before .before .before .before .before .before .before .put-entry .ensures))))
+put-entry-requires-3 c κs =
+    let b = alternate-below _ (c .before .before .before .before .before .before .before .before .before .before .before .alternate-at .ensures) in
+    (omega arith, omega (arith, simp length-set at (ap length (c .before .before .before .put-entry2 .ensures)), simp length-set at (ap length (c .before .before .before .before .before .before .before .put-entry .ensures))))
 
 same-length : tie.Need-same-length
 same-length c = search needs
 
 returns : tie.Need-returns
 unfolding alternatesPut
-returns c = rw (c .before .before .put-entry3 .ensures, c .before .before .before .before .before .before .put-entry2 .ensures, c .before .before .before .before .before .before .before .before .before .before .put-entry .ensures, c .before .before .before .before .before .before .before .before .before .before .before .before .joined .ensures, c .before .before .before .before .before .before .before .before .before .before .before .before .before .alternate .ensures, c .before .before .before .before .before .before .before .before .before .before .before .before .before .before .alternate-at .ensures)
+returns c =
+    rw (
+      c .before .before .put-entry3 .ensures,
+      c .before .before .before .before .before .before .put-entry2 .ensures,
+      c .before .before .before .before .before .before .before .before .before .before .put-entry .ensures,
+      c .before .before .before .before .before .before .before .before .before .before .before .before .joined .ensures,
+      c .before .before .before .before .before .before .before .before .before .before .before .before .before .alternate .ensures,
+      c .before .before .before .before .before .before .before .before .before .before .before .before .before .before .alternate-at .ensures,
+    )
 
 pub put-alternates-spec : {M : Type 1} → statement M
 put-alternates-spec =

@@ -25,7 +25,13 @@ same-length c = search needs
 
 returns : tie.Need-returns
 unfolding symbolsPut
-returns c = rw (c .before .before .put-alternates .ensures, c .before .before .before .before .before .before .fill-characters .ensures, c .before .before .before .before .before .before .before .before .joined .ensures, c .before .before .before .before .before .before .before .before .before .six-bits-k28 .ensures)
+returns c =
+    rw (
+      c .before .before .put-alternates .ensures,
+      c .before .before .before .before .before .before .fill-characters .ensures,
+      c .before .before .before .before .before .before .before .before .joined .ensures,
+      c .before .before .before .before .before .before .before .before .before .six-bits-k28 .ensures,
+    )
 
 pub put-symbols-spec : {M : Type 1} → statement M
 put-symbols-spec =

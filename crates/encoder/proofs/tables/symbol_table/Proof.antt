@@ -60,7 +60,27 @@ put-symbols-requires-2 : tie.Need-put-symbols-requires-2
 put-symbols-requires-2 c κs = search needs
 
 returns : tie.Need-returns
-returns c = rw (c .before .put-symbols2 .ensures, c .before .before .before .before .before .before .before .before .before .put-symbols .ensures, c .before .before .before .before .before .before .before .before .before .before .before .before .before .before .before .before .high-bits4 .ensures, c .before .before .before .before .before .before .before .before .before .before .before .before .before .before .before .before .before .four-bits-special2 .ensures, c .before .before .before .before .before .before .before .before .before .before .before .before .before .before .before .before .before .before .high-bits3 .ensures, c .before .before .before .before .before .before .before .before .before .before .before .before .before .before .before .before .before .before .before .four-bits-special .ensures, c .before .before .before .before .before .before .before .before .before .before .before .before .before .before .before .before .before .before .before .before .high-bits2 .ensures, c .before .before .before .before .before .before .before .before .before .before .before .before .before .before .before .before .before .before .before .before .before .four-bits2 .ensures, c .before .before .before .before .before .before .before .before .before .before .before .before .before .before .before .before .before .before .before .before .before .before .high-bits .ensures, c .before .before .before .before .before .before .before .before .before .before .before .before .before .before .before .before .before .before .before .before .before .before .before .four-bits .ensures, c .before .before .before .before .before .before .before .before .before .before .before .before .before .before .before .before .before .before .before .before .before .before .before .before .low-bits2 .ensures, c .before .before .before .before .before .before .before .before .before .before .before .before .before .before .before .before .before .before .before .before .before .before .before .before .before .six-bits3 .ensures, c .before .before .before .before .before .before .before .before .before .before .before .before .before .before .before .before .before .before .before .before .before .before .before .before .before .before .low-bits .ensures, c .before .before .before .before .before .before .before .before .before .before .before .before .before .before .before .before .before .before .before .before .before .before .before .before .before .before .before .six-bits2 .ensures, c .before .before .before .before .before .before .before .before .before .before .before .before .before .before .before .before .before .before .before .before .before .before .before .before .before .before .before .before .six-masks .ensures, c .before .before .before .before .before .before .before .before .before .before .before .before .before .before .before .before .before .before .before .before .before .before .before .before .before .before .before .before .before .six-bits .ensures) symbols-filled
+returns c =
+    let half = c .before .before .before .before .before .before .before .before .before in
+    let parts = half .before .before .before .before .before .before .before in
+    rw (
+      c .before .put-symbols2 .ensures,
+      half .put-symbols .ensures,
+      parts .high-bits4 .ensures,
+      parts .before .four-bits-special2 .ensures,
+      parts .before .before .high-bits3 .ensures,
+      parts .before .before .before .four-bits-special .ensures,
+      parts .before .before .before .before .high-bits2 .ensures,
+      parts .before .before .before .before .before .four-bits2 .ensures,
+      parts .before .before .before .before .before .before .high-bits .ensures,
+      parts .before .before .before .before .before .before .before .four-bits .ensures,
+      parts .before .before .before .before .before .before .before .before .low-bits2 .ensures,
+      parts .before .before .before .before .before .before .before .before .before .six-bits3 .ensures,
+      parts .before .before .before .before .before .before .before .before .before .before .low-bits .ensures,
+      parts .before .before .before .before .before .before .before .before .before .before .before .six-bits2 .ensures,
+      parts .before .before .before .before .before .before .before .before .before .before .before .before .six-masks .ensures,
+      parts .before .before .before .before .before .before .before .before .before .before .before .before .before .six-bits .ensures,
+    ) symbols-filled
 
 pub symbol-table-spec : {M : Type 1} → statement M
 symbol-table-spec =
