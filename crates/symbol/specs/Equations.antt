@@ -1,6 +1,6 @@
--- The code by the logic equations that its authors published: A. X. Widmer and P. A. Franaszek, "A DC-balanced, partitioned-block, 8B/10B
--- transmission code", IBM Journal of Research and Development 27 (1983), and US patent 4,486,739. A second definition: it has no table and no
--- rule of `Blocks`, `Disparity` and `Code`, and that both are one code is the field `equations` of `Paper`.
+-- A second definition of the code, against which the first is held: the logic equations that its authors published (Widmer and Franaszek, "A
+-- DC-balanced, partitioned-block, 8B/10B transmission code", IBM Journal of Research and Development 27, 1983; US patent 4,486,739). It has no
+-- table and no rule of `Blocks`, `Disparity` and `Code`; that both are one code is the field `equations` of `Paper`.
 -- The names are the authors': A to H are the bits of a byte, A the lowest, and K is set in a special character; a, b, c, d, e, i, f, g, h, j are
 -- the bits of a symbol in the order in which they are sent. Their product is `&&` here, their sum `||`, and their prime `not`.
 -- Assumes nothing.
@@ -14,17 +14,6 @@ use Rattle.symbol.specs.declared.disparity.Disparity.the-variants.{Negat
 use Rattle.symbol.specs.Character.{isSpecial, xOf, yOf}
 use Rattle.symbol.specs.Disparity.{isPositive}
 
-pub record Letters : Type 0 where
-  pub A : Bool
-  pub B : Bool
-  pub C : Bool
-  pub D : Bool
-  pub E : Bool
-  pub F : Bool
-  pub G : Bool
-  pub H : Bool
-  pub K : Bool
-
 -- one of two is set, and not both; a bit is complemented where the other is set
 abbrev differ : Bool → Bool → Bool
 differ true x = not x
@@ -33,23 +22,39 @@ differ false x = x
 abbrev bitAt : ℕ → ℕ → Bool
 bitAt k n = eqb (n / 2 ^ k % 2) 1
 
--- those of character c, which is Dx.y or Kx.y
-unfoldable pub lettersOf : ℕ → Letters
-unfolding xOf yOf
-lettersOf c = record {
-  A = bitAt 0 (xOf c);
-  B = bitAt 1 (xOf c);
-  C = bitAt 2 (xOf c);
-  D = bitAt 3 (xOf c);
-  E = bitAt 4 (xOf c);
-  F = bitAt 0 (yOf c);
-  G = bitAt 1 (yOf c);
-  H = bitAt 2 (yOf c);
-  K = isSpecial c;
-}
+-- bits as a number, the first the lowest
+abbrev number : List Bool → ℕ
+number [] = 0
+number (x ∷ xs) = bit x + 2 * number xs
 
-module _ (t : Letters) where
-  open Letters t using (A, B, C, D, E, F, G, H, K)
+module _ (before : Disparity) (char : ℕ) where
+  -- The bits of the character Dx.y or Kx.y.
+  abbrev A : Bool
+  A = bitAt 0 (xOf char)
+
+  abbrev B : Bool
+  B = bitAt 1 (xOf char)
+
+  abbrev C : Bool
+  C = bitAt 2 (xOf char)
+
+  abbrev D : Bool
+  D = bitAt 3 (xOf char)
+
+  abbrev E : Bool
+  E = bitAt 4 (xOf char)
+
+  abbrev F : Bool
+  F = bitAt 0 (yOf char)
+
+  abbrev G : Bool
+  G = bitAt 1 (yOf char)
+
+  abbrev H : Bool
+  H = bitAt 2 (yOf char)
+
+  abbrev K : Bool
+  K = isSpecial char
 
   -- Classes of A, B, C and D: as many ones as the first digit says, as many zeros as the second.
   abbrev L40 : Bool
@@ -94,70 +99,67 @@ module _ (t : Letters) where
   abbrev ND0S4 : Bool
   ND0S4 = not F && not G
 
-  -- From here on PDL4 says that the disparity is positive before the character, which is that after the four bits before it.
-  module _ (PDL4 : Bool) where
-    abbrev COMPLS6 : Bool
-    COMPLS6 = (PD-1S6 && not PDL4) || (ND-1S6 && PDL4)
+  -- The disparity before the character, which is that after the four bits before it, is positive.
+  abbrev PDL4 : Bool
+  PDL4 = isPositive before
 
-    -- the disparity is positive after the six bits: by the block as it is sent, or as it was
-    abbrev PDL6 : Bool
-    PDL6 = (PD0S6 && not COMPLS6) || (ND0S6 && COMPLS6) || (not PD0S6 && not ND0S6 && PDL4)
+  abbrev COMPLS6 : Bool
+  COMPLS6 = (PD-1S6 && not PDL4) || (ND-1S6 && PDL4)
 
-    abbrev COMPLS4 : Bool
-    COMPLS4 = (PD-1S4 && not PDL6) || (ND-1S4 && PDL6)
+  -- the disparity is positive after the six bits: by the block as it is sent, or as it was
+  abbrev PDL6 : Bool
+  PDL6 = (PD0S6 && not COMPLS6) || (ND0S6 && COMPLS6) || (not PD0S6 && not ND0S6 && PDL4)
 
-    -- it is positive after the four bits
-    abbrev afterS4 : Bool
-    afterS4 = (PD0S4 && not COMPLS4) || (ND0S4 && COMPLS4) || (not PD0S4 && not ND0S4 && PDL6)
+  abbrev COMPLS4 : Bool
+  COMPLS4 = (PD-1S4 && not PDL6) || (ND-1S4 && PDL6)
 
-    -- a byte x.7 takes the alternate form
-    abbrev S : Bool
-    S = (PDL6 && L31 && D && not E) || (not PDL6 && L13 && not D && E)
+  -- it is positive after the four bits
+  abbrev afterS4 : Bool
+  afterS4 = (PD0S4 && not COMPLS4) || (ND0S4 && COMPLS4) || (not PD0S4 && not ND0S4 && PDL6)
 
-    -- the ten bits, complemented or not
-    abbrev a : Bool
-    a = differ COMPLS6 A
+  -- a byte x.7 takes the alternate form
+  abbrev S : Bool
+  S = (PDL6 && L31 && D && not E) || (not PDL6 && L13 && not D && E)
 
-    abbrev b : Bool
-    b = differ COMPLS6 ((B && not L40) || L04)
+  -- the ten bits, complemented or not
+  abbrev a : Bool
+  a = differ COMPLS6 A
 
-    abbrev c : Bool
-    c = differ COMPLS6 (C || L04 || (L13 && D && E))
+  abbrev b : Bool
+  b = differ COMPLS6 ((B && not L40) || L04)
 
-    abbrev d : Bool
-    d = differ COMPLS6 (D && not L40)
+  abbrev c : Bool
+  c = differ COMPLS6 (C || L04 || (L13 && D && E))
 
-    abbrev e : Bool
-    e = differ COMPLS6 ((E && not (L13 && D && E)) || (L13 && not E))
+  abbrev d : Bool
+  d = differ COMPLS6 (D && not L40)
 
-    abbrev i : Bool
-    i = differ COMPLS6 ((L22 && not E) || (L22 && K) || (L04 && E) || (L40 && E) || (L13 && not D && E))
+  abbrev e : Bool
+  e = differ COMPLS6 ((E && not (L13 && D && E)) || (L13 && not E))
 
-    abbrev f : Bool
-    f = differ COMPLS4 (F && not (F && G && H && (S || K)))
+  abbrev i : Bool
+  i = differ COMPLS6 ((L22 && not E) || (L22 && K) || (L04 && E) || (L40 && E) || (L13 && not D && E))
 
-    abbrev g : Bool
-    g = differ COMPLS4 (G || (not F && not G && not H))
+  abbrev f : Bool
+  f = differ COMPLS4 (F && not (F && G && H && (S || K)))
 
-    abbrev h : Bool
-    h = differ COMPLS4 H
+  abbrev g : Bool
+  g = differ COMPLS4 (G || (not F && not G && not H))
 
-    abbrev j : Bool
-    j = differ COMPLS4 ((differ F G && not H) || (F && G && H && (S || K)))
+  abbrev h : Bool
+  h = differ COMPLS4 H
 
-    abbrev sent : List Bool
-    sent = a ∷ b ∷ c ∷ d ∷ e ∷ i ∷ f ∷ g ∷ h ∷ j ∷ []
+  abbrev j : Bool
+  j = differ COMPLS4 ((differ F G && not H) || (F && G && H && (S || K)))
 
--- bits as a number, the first the lowest
-abbrev number : List Bool → ℕ
-number [] = 0
-number (x ∷ xs) = bit x + 2 * number xs
+  abbrev sent : List Bool
+  sent = a ∷ b ∷ c ∷ d ∷ e ∷ i ∷ f ∷ g ∷ h ∷ j ∷ []
 
--- the symbol of a character, and the disparity after it, by the disparity before it
-unfoldable pub symbolBy : Disparity → ℕ → ℕ
-unfolding lettersOf
-symbolBy before char = number (sent (lettersOf char) (isPositive before))
+  -- The symbol, and the disparity after it.
+  unfoldable pub symbolBy : ℕ
+  unfolding xOf yOf
+  symbolBy = number sent
 
-unfoldable pub afterBy : Disparity → ℕ → Disparity
-unfolding lettersOf
-afterBy before char = cond (afterS4 (lettersOf char) (isPositive before)) Positive Negative
+  unfoldable pub afterBy : Disparity
+  unfolding xOf yOf
+  afterBy = cond afterS4 Positive Negative
