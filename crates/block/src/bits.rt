@@ -2,7 +2,7 @@
 ghost use mathlib.Core.Path.{_≡_};
 ghost use Prim.Native.Nat.{_<_};
 ghost use Rattle.symbol.specs.Code.{reversed};
-ghost use Rattle.block.specs.Inside.Bits.{joined, unbalanced};
+ghost use Rattle.block.specs.Inside.Bits.{asSymbol, unbalanced};
 
 // Whether a block of at most six bits flips the disparity: its ones are not the half of its bits.
 pub fn unbalanced(half: u16, block: u16) -> bool
@@ -41,8 +41,8 @@ fn four_turned(four: u16) -> u16
 }
 
 // The symbol of two blocks. Its lowest bit is sent first, and the six bits before the four.
-pub fn joined(six: u16, four: u16) -> u16
-    ensures { λ r. ⌜ r ≡ joined six four ⌝ }
+pub fn as_symbol(six: u16, four: u16) -> u16
+    ensures { λ r. ⌜ r ≡ asSymbol six four ⌝ }
 {
     six_turned(six) + 64 * four_turned(four)
 }

@@ -1,7 +1,7 @@
 // What the blocks bring to the entries of the encoder's tables: to a symbol its low or its high bits, to a flip whether the block flips the
 // disparity. Each block is looked at once.
 ghost use mathlib.Core.Path.{_≡_};
-ghost use Rattle.block.specs.Inside.Parts.{lowBits, highBits, maskOf, sixMasks, flipOf, fourFlips};
+ghost use Rattle.block.specs.Inside.Parts.{lowBits, highBits, flipMask, sixMasks, flipOf, fourFlips};
 
 // The six bits of D0 to D31, each as the low bits of a symbol.
 pub fn low_bits(blocks: [u16; 32]) -> [u16; 32]
@@ -10,7 +10,7 @@ pub fn low_bits(blocks: [u16; 32]) -> [u16; 32]
     let mut low = [0u16; 32];
     let mut x = 0;
     while x < 32 {
-        low[x] = crate::bits::joined(blocks[x], 0);
+        low[x] = crate::bits::as_symbol(blocks[x], 0);
         x += 1;
     }
     low
@@ -23,15 +23,15 @@ pub fn high_bits(blocks: [u16; 8]) -> [u16; 8]
     let mut high = [0u16; 8];
     let mut y = 0;
     while y < 8 {
-        high[y] = crate::bits::joined(0, blocks[y]);
+        high[y] = crate::bits::as_symbol(0, blocks[y]);
         y += 1;
     }
     high
 }
 
 // All sixteen bits where a block of six flips the disparity, else none.
-fn mask_of(block: u16) -> u16
-    ensures { λ r. ⌜ r ≡ maskOf block ⌝ }
+fn flip_mask(block: u16) -> u16
+    ensures { λ r. ⌜ r ≡ flipMask block ⌝ }
 {
     if crate::bits::unbalanced(3, block) {
         return 0xFFFF;
@@ -46,7 +46,7 @@ pub fn six_masks(blocks: [u16; 32]) -> [u16; 32]
     let mut masks = [0u16; 32];
     let mut x = 0;
     while x < 32 {
-        masks[x] = mask_of(blocks[x]);
+        masks[x] = flip_mask(blocks[x]);
         x += 1;
     }
     masks

@@ -19,7 +19,7 @@ use Rattle.symbol.proofs.Characters.{at-character, same, same-is}
 use Rattle.encoder.specs.declared.encode.Encoded.{Encoded}
 use Rattle.encoder.specs.Encode.{encoded}
 use Rattle.encoder.specs.Inside.Character.{fourOfByte}
-use Rattle.block.specs.Inside.Bits.{joined, unbalanced}
+use Rattle.block.specs.Inside.Bits.{asSymbol, unbalanced}
 
 -- x has five bits, y three
 pub x-below : (c : ℕ) → c < characters → xOf c < 32
@@ -54,31 +54,24 @@ unfolding fourOfByte
 four-primary d x y e t = rw e (simp t)
 
 -- one of the three x that take the alternate form
+or-false : (t : Bool) → (t || false) ≡ t
+or-false true = refl
+or-false false = refl
+
+of-three : (x a b c : ℕ) → oneOf x (a ∷ b ∷ c ∷ []) ≡ (eqb x a || (eqb x b || eqb x c))
+of-three x a b c = ap (λ (t : Bool). eqb x a || (eqb x b || t)) (or-false (eqb x c))
+
 pub one-of-three : (d : Disparity) (x : ℕ)
     → oneOf x (alternateAt d) ≡ (eqb x (getD (alternateAt d) 0 0) || (eqb x (getD (alternateAt d) 1 0) || eqb x (getD (alternateAt d) 2 0)))
 unfolding alternateAt
-one-of-three d x = by-three d
-  where
-    or-false : (t : Bool) → (t || false) ≡ t
-    or-false true = refl
-    or-false false = refl
-
-    of-three : (a b c : ℕ) → oneOf x (a ∷ b ∷ c ∷ []) ≡ (eqb x a || (eqb x b || eqb x c))
-    of-three a b c = ap (λ (t : Bool). eqb x a || (eqb x b || t)) (or-false (eqb x c))
-
-    by-three : (d : Disparity)
-        → oneOf x (alternateAt d) ≡ (eqb x (getD (alternateAt d) 0 0) || (eqb x (getD (alternateAt d) 1 0) || eqb x (getD (alternateAt d) 2 0)))
-    by-three Negative = of-three _ _ _
-    by-three Positive = of-three _ _ _
+one-of-three Negative x = of-three x _ _ _
+one-of-three Positive x = of-three x _ _ _
 
 -- which are below 32
 pub alternate-below : (d : Disparity) {l : List ℕ} → l ≡ alternateAt d → (getD l 0 0 < 32) × (getD l 1 0 < 32) × (getD l 2 0 < 32)
 unfolding alternateAt
-alternate-below d e = rw e (by-three d)
-  where
-    by-three : (d : Disparity) → (getD (alternateAt d) 0 0 < 32) × (getD (alternateAt d) 1 0 < 32) × (getD (alternateAt d) 2 0 < 32)
-    by-three Negative = (lit< tt, lit< tt, lit< tt)
-    by-three Positive = (lit< tt, lit< tt, lit< tt)
+alternate-below Negative e = rw e (lit< tt, lit< tt, lit< tt)
+alternate-below Positive e = rw e (lit< tt, lit< tt, lit< tt)
 
 -- Counting ones is enough: the standard's rule for the disparity after a block comes to the same for every block of a character.
 pub between-is : (d : Disparity) (c : ℕ) → c < characters → flippedIf (unbalanced 3 (sixOf d c)) d ≡ betweenOf d c
@@ -95,19 +88,19 @@ after-is d c h =
     (at-character (λ e k. same (flippedIf (unbalanced 2 (fourOf (betweenOf e k) k)) (betweenOf e k)) (afterOf e k)) refl refl d c h)
 
 -- The two blocks make the symbol.
-pub symbol-is : (d : Disparity) (c : ℕ) → c < characters → joined (sixOf d c) (fourOf (betweenOf d c) c) ≡ symbolOf d c
-unfolding joined sixOf fourOf betweenOf symbolOf
+pub symbol-is : (d : Disparity) (c : ℕ) → c < characters → asSymbol (sixOf d c) (fourOf (betweenOf d c) c) ≡ symbolOf d c
+unfolding asSymbol sixOf fourOf betweenOf symbolOf
 symbol-is d c h =
-    eqb-true (joined (sixOf d c) (fourOf (betweenOf d c) c)) (symbolOf d c)
-    (at-character (λ e k. eqb (joined (sixOf e k) (fourOf (betweenOf e k) k)) (symbolOf e k)) refl refl d c h)
+    eqb-true (asSymbol (sixOf d c) (fourOf (betweenOf d c) c)) (symbolOf d c)
+    (at-character (λ e k. eqb (asSymbol (sixOf e k) (fourOf (betweenOf e k) k)) (symbolOf e k)) refl refl d c h)
 
 -- So what is worked out block by block is what encoding answers.
 pub encoded-is : (d : Disparity) (c : ℕ) → c < characters → {six four s : ℕ} {t u : Bool} {b a : Disparity} → six ≡ sixOf d c
-    → t ≡ unbalanced 3 six → b ≡ flippedIf t d → four ≡ fourOf b c → u ≡ unbalanced 2 four → a ≡ flippedIf u b → s ≡ joined six four
+    → t ≡ unbalanced 3 six → b ≡ flippedIf t d → four ≡ fourOf b c → u ≡ unbalanced 2 four → a ≡ flippedIf u b → s ≡ asSymbol six four
     → _≡_ {A = Encoded} (record { symbol = s; after = a }) (encoded d c)
 encoded-is d c h {six} {four} {s} {t} {u} {b} {a} p q r p′ q′ r′ e =
     let between : b ≡ betweenOf d c = r ∙ ap (λ (x : Bool). flippedIf x d) (q ∙ ap (unbalanced 3) p) ∙ between-is d c h in
     let fours : four ≡ fourOf (betweenOf d c) c = p′ ∙ ap (λ (x : Disparity). fourOf x c) between in
     let after : a ≡ afterOf d c =
     r′ ∙ ap₂ (λ (x : Bool) (y : Disparity). flippedIf x y) (q′ ∙ ap (unbalanced 2) fours) between ∙ after-is d c h in
-    ap₂ (λ (x : ℕ) (y : Disparity). record { symbol = x; after = y }) (e ∙ ap₂ joined p fours ∙ symbol-is d c h) after
+    ap₂ (λ (x : ℕ) (y : Disparity). record { symbol = x; after = y }) (e ∙ ap₂ asSymbol p fours ∙ symbol-is d c h) after

@@ -21,7 +21,7 @@ fn encode_character(d: Disparity, c: u16) -> Encoded
     let between = symbol::disparity::flipped_if(block::bits::unbalanced(3, six), d);
     let four = crate::character::four_of(between, c);
     let after = symbol::disparity::flipped_if(block::bits::unbalanced(2, four), between);
-    let symbol = block::bits::joined(six, four);
+    let symbol = block::bits::as_symbol(six, four);
     Encoded { symbol, after }
 }
 

@@ -4,7 +4,7 @@ ghost use mathlib.Core.Path.{_≡_};
 ghost use Prim.Native.Nat.{_+_, _≤_, _<_};
 ghost use lib.ListN.{length, set};
 ghost use lib.Seq.{sets};
-ghost use Rattle.encoder.specs.Inside.Filling.{picked, rowOf, bytesOf, k28sOf, entryOf};
+ghost use Rattle.encoder.specs.Inside.Filling.{picked, rowOf, allRows, k28sOf, bothBlocks};
 ghost use Rattle.encoder.specs.Inside.Filling.{otherSpecialsPut, charactersPut};
 
 // What the four bits bring: `same` where the mask has no bit, `other` where it has all.
@@ -36,7 +36,7 @@ fn fill_bytes(
     at: usize,
 )
     requires { ⌜ at + 256 ≤ length (now out) ⌝ }
-    ensures { λ _. ⌜ now (out .exit) ≡ sets (now (out .entry)) at (bytesOf (now (low .entry)) (now (masks .entry)) (now (same .entry)) (now (other .entry))) ⌝ }
+    ensures { λ _. ⌜ now (out .exit) ≡ sets (now (out .entry)) at (allRows (now (low .entry)) (now (masks .entry)) (now (same .entry)) (now (other .entry))) ⌝ }
 {
     let mut y = 0;
     while y < 8 {
@@ -61,7 +61,7 @@ fn fill_k28s(k28: u16, special: &[u16; 8], out: &mut [u16], at: usize)
 pub(crate) fn put_entry(low: &[u16; 32], x: usize, four: u16, out: &mut [u16], at: usize)
     requires { ⌜ x < 32 ⌝ }
     requires { ⌜ at < length (now out) ⌝ }
-    ensures { λ _. ⌜ now (out .exit) ≡ set (now (out .entry)) at (entryOf (now (low .entry)) x four) ⌝ }
+    ensures { λ _. ⌜ now (out .exit) ≡ set (now (out .entry)) at (bothBlocks (now (low .entry)) x four) ⌝ }
 {
     out[at] = low[x] | four;
 }

@@ -1,7 +1,7 @@
 // The encoder's tables. A disparity is represented as an offset: where its symbols begin.
 use crate::filling::fill_characters;
 use crate::filling::put_entry;
-use block::bits::joined;
+use block::bits::as_symbol;
 use block::parts::four_flips;
 use block::parts::high_bits;
 use block::parts::low_bits;
@@ -25,7 +25,7 @@ fn put_alternates(d: Disparity, low: &[u16; 32], out: &mut [u16], at: usize)
     ensures { λ _. ⌜ now (out .exit) ≡ alternatesPut d (now (low .entry)) (now (out .entry)) at ⌝ }
 {
     let xs = alternate_at(d);
-    let high = joined(0, alternate(d));
+    let high = as_symbol(0, alternate(d));
     let a = xs[0] as usize;
     let b = xs[1] as usize;
     let c = xs[2] as usize;
@@ -48,7 +48,7 @@ fn put_symbols(
     requires { ⌜ at + 268 ≤ length (now out) ⌝ }
     ensures { λ _. ⌜ now (out .exit) ≡ symbolsPut d (now (low .entry)) (now (masks .entry)) (now (same .entry)) (now (other .entry)) (now (special .entry)) (now (out .entry)) at ⌝ }
 {
-    let k28 = joined(six_bits_k28(d), 0);
+    let k28 = as_symbol(six_bits_k28(d), 0);
     fill_characters(low, masks, same, other, k28, special, out, at);
     put_alternates(d, low, out, at + 224);
 }

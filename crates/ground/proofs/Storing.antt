@@ -10,26 +10,26 @@ use Rattle.ground.specs.Written.{upto, table}
 use Rattle.ground.proofs.Writing.{sets-upto, sets-whole, length-table}
 
 -- what a list is after the pieces f 0, f 1, and so on, i of them, were stored in it one after the other
-unfoldable pub pieces : List ℕ → ℕ → (ℕ → List ℕ) → ℕ → List ℕ
-pieces l at f i = sets l at (upto i f)
+unfoldable pub putPieces : List ℕ → ℕ → (ℕ → List ℕ) → ℕ → List ℕ
+putPieces l at f i = sets l at (upto i f)
 
-pub none-pieces : (l : List ℕ) (at : ℕ) (f : ℕ → List ℕ) → l ≡ pieces l at f 0
-unfolding pieces upto
-none-pieces l at f = refl
+pub no-pieces : (l : List ℕ) (at : ℕ) (f : ℕ → List ℕ) → l ≡ putPieces l at f 0
+unfolding putPieces upto
+no-pieces l at f = refl
 
-pub one-piece : (k : ℕ) (l : List ℕ) (at : ℕ) (f : ℕ → List ℕ) → ((i : ℕ) → length (f i) ≡ k) → (i o : ℕ) {m : List ℕ} → m ≡ pieces l at f i
-    → o ≡ at + k * i → sets m o (f i) ≡ pieces l at f (i + 1)
-unfolding pieces
+pub one-piece : (k : ℕ) (l : List ℕ) (at : ℕ) (f : ℕ → List ℕ) → ((i : ℕ) → length (f i) ≡ k) → (i o : ℕ) {m : List ℕ} → m ≡ putPieces l at f i
+    → o ≡ at + k * i → sets m o (f i) ≡ putPieces l at f (i + 1)
+unfolding putPieces
 one-piece k l at f sized i o p q = rw p (sets-upto k f sized l at o i q)
 
 -- the same where each piece is one entry
 unfoldable pub stored : List ℕ → ℕ → (ℕ → ℕ) → ℕ → List ℕ
-unfolding pieces
-stored l at f = pieces l at (λ k. f k ∷ [])
+unfolding putPieces
+stored l at f = putPieces l at (λ k. f k ∷ [])
 
 pub none-stored : (l : List ℕ) (at : ℕ) (f : ℕ → ℕ) → l ≡ stored l at f 0
 unfolding stored
-none-stored l at f = none-pieces l at (λ k. f k ∷ [])
+none-stored l at f = no-pieces l at (λ k. f k ∷ [])
 
 pub one-more : (l : List ℕ) (at : ℕ) (f : ℕ → ℕ) (i : ℕ) {m : List ℕ} {o v : ℕ} → m ≡ stored l at f i → o ≡ at + i → v ≡ f i
     → set m o v ≡ stored l at f (i + 1)

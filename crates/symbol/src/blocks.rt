@@ -1,5 +1,5 @@
 // The blocks of the code as its tables print them, the bit sent first on the left: abcdei of the 5b/6b table, fghj of the 3b/4b table (ANSI
-// INCITS 230; IEEE 802.3, tables 36-1 and 36-2). Each table has a column for negative and one for positive disparity before the block.
+// INCITS 230; IEEE 802.3, tables 36-1 and 36-2). Each table has a column for negative (-) and one for positive (+) disparity before the block.
 use crate::disparity::Disparity;
 ghost use mathlib.Core.Path.{_≡_};
 ghost use Rattle.symbol.specs.Blocks.{sixBits, sixBitsK28, fourBits, fourBitsSpecial};

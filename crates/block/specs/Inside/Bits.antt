@@ -7,9 +7,9 @@ use lib.Dec.{eqb}
 use Rattle.symbol.specs.Code.{reversed}
 
 -- both blocks in reverse order, the six bits below the four
-unfoldable pub joined : ℕ → ℕ → ℕ
+unfoldable pub asSymbol : ℕ → ℕ → ℕ
 unfolding reversed
-joined six four = reversed 6 six + 2 ^ 6 * reversed 4 four
+asSymbol six four = reversed 6 six + 2 ^ 6 * reversed 4 four
 
 -- whether the ones of a block are not the half of its bits; no block has more than six bits
 unfoldable pub unbalanced : ℕ → ℕ → Bool

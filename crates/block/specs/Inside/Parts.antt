@@ -6,22 +6,22 @@ use mathlib.Core.List.{List}
 use lib.Bits.{bitXor}
 use lib.ListN.{getD}
 use Rattle.ground.specs.Written.{table}
-use Rattle.block.specs.Inside.Bits.{joined, unbalanced}
+use Rattle.block.specs.Inside.Bits.{asSymbol, unbalanced}
 
 -- to a symbol: six bits its low bits, four bits its high ones
 unfoldable pub lowBits : List ℕ → List ℕ
-lowBits blocks = table 32 (λ x. joined (getD blocks x 0) 0)
+lowBits blocks = table 32 (λ x. asSymbol (getD blocks x 0) 0)
 
 unfoldable pub highBits : List ℕ → List ℕ
-highBits blocks = table 8 (λ y. joined 0 (getD blocks y 0))
+highBits blocks = table 8 (λ y. asSymbol 0 (getD blocks y 0))
 
 -- to the choice of four bits: a mask of all bits where the six bits flip the disparity, else of none
-abbrev pub maskOf : ℕ → ℕ
-maskOf block = cond (unbalanced 3 block) 0xFFFF 0
+abbrev pub flipMask : ℕ → ℕ
+flipMask block = cond (unbalanced 3 block) 0xFFFF 0
 
 unfoldable pub sixMasks : List ℕ → List ℕ
 unfolding unbalanced
-sixMasks blocks = table 32 (λ x. maskOf (getD blocks x 0))
+sixMasks blocks = table 32 (λ x. flipMask (getD blocks x 0))
 
 -- to a flip, where that of the six bits alone is `six`
 abbrev pub flipOf : ℕ → ℕ → ℕ

@@ -24,8 +24,8 @@ unbalanced-requires-2 c κs = search needs
 flipped-if-requires-2 : tie.Need-flipped-if-requires-2
 flipped-if-requires-2 c κs = search needs
 
-joined-requires : tie.Need-joined-requires
-joined-requires c κs = search needs
+as-symbol-requires : tie.Need-as-symbol-requires
+as-symbol-requires c κs = search needs
 
 returns : tie.Need-returns
 returns c =
@@ -37,7 +37,7 @@ returns c =
     (c .before .before .before .four-of .ensures)
     (c .before .before .unbalanced2 .ensures)
     (c .before .flipped-if2 .ensures)
-    (c .joined .ensures)
+    (c .as-symbol .ensures)
 
 pub encode-character-spec : {M : Type 1} → statement M
 encode-character-spec =
@@ -49,5 +49,5 @@ encode-character-spec =
     four-of-requires
     unbalanced-requires-2
     flipped-if-requires-2
-    joined-requires
+    as-symbol-requires
     returns)

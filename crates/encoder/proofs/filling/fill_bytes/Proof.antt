@@ -6,15 +6,15 @@ use native.Mathlib.Omega.{arith}
 use lib.ListN.{length, getD}
 use lib.Seq.{length-sets}
 use Rattle.ground.specs.Written.{upto}
-use Rattle.encoder.specs.Inside.Filling.{rowOf, bytesOf}
-use Rattle.ground.proofs.Storing.{pieces, none-pieces, one-piece}
+use Rattle.encoder.specs.Inside.Filling.{rowOf, allRows}
+use Rattle.ground.proofs.Storing.{putPieces, no-pieces, one-piece}
 use Rattle.encoder.proofs.Filled.{length-row}
 use borrow.Author.Needs.{needs}
 use Rattle.encoder.proofs.filling.fill_bytes.Statement.{statement}
 use Rattle.encoder.proofs.filling.fill_bytes.Tie as tie
 
 abbrev Inv-loop : tie.InvT-loop
-Inv-loop low masks same other out₀ at y₀ out y = (y ≤ 8) × (length out ≡ length out₀) × (out ≡ pieces out₀ at (λ k. rowOf low masks (getD same k 0) (getD other k 0)) y)
+Inv-loop low masks same other out₀ at y₀ out y = (y ≤ 8) × (length out ≡ length out₀) × (out ≡ putPieces out₀ at (λ k. rowOf low masks (getD same k 0) (getD other k 0)) y)
 
 abbrev μ-loop : tie.MeasureT-loop
 μ-loop low masks same other out₀ at y₀ out y = 8 - y
@@ -22,7 +22,7 @@ abbrev μ-loop : tie.MeasureT-loop
 loop-holds : tie.Need-loop-holds Inv-loop μ-loop
 loop-holds c =
     let a = c .before .args in
-    (omega arith, refl, none-pieces (a .out .now) (a .at) _)
+    (omega arith, refl, no-pieces (a .out .now) (a .at) _)
 
 mul-fill-row : tie.Need-mul-fill-row Inv-loop μ-loop
 mul-fill-row c = search needs
@@ -62,12 +62,12 @@ same-length : tie.Need-same-length Inv-loop μ-loop
 same-length c = search needs
 
 returns : tie.Need-returns Inv-loop μ-loop
-unfolding pieces bytesOf
+unfolding putPieces allRows
 returns c =
     let a = c .before .before .before .args in
     let v = c .before .loop in
     let end : v .y ≡ 8 = omega arith in
-    v .inv .2 ∙ ap (pieces (a .out .now) (a .at) _) end
+    v .inv .2 ∙ ap (putPieces (a .out .now) (a .at) _) end
 
 pub fill-bytes-spec : {M : Type 1} → statement M
 fill-bytes-spec =

@@ -7,14 +7,14 @@ use lib.Bits.{bitOr}
 use lib.ListN.{length, getD, length-set}
 use lib.Seq.{sets}
 use Rattle.ground.specs.Written.{table}
-use Rattle.encoder.specs.Inside.Filling.{picked, entryOf, rowOf}
+use Rattle.encoder.specs.Inside.Filling.{picked, bothBlocks, rowOf}
 use Rattle.ground.proofs.Storing.{stored, none-stored, one-more}
 use borrow.Author.Needs.{needs}
 use Rattle.encoder.proofs.filling.fill_row.Statement.{statement}
 use Rattle.encoder.proofs.filling.fill_row.Tie as tie
 
 abbrev Inv-loop : tie.InvT-loop
-Inv-loop low masks same other out₀ at x₀ out x = (x ≤ 32) × (length out ≡ length out₀) × (out ≡ stored out₀ at (λ k. entryOf low k (picked (getD masks k 0) same other)) x)
+Inv-loop low masks same other out₀ at x₀ out x = (x ≤ 32) × (length out ≡ length out₀) × (out ≡ stored out₀ at (λ k. bothBlocks low k (picked (getD masks k 0) same other)) x)
 
 abbrev μ-loop : tie.MeasureT-loop
 μ-loop low masks same other out₀ at x₀ out x = 32 - x

@@ -15,8 +15,8 @@ alternate-at-requires c κs = search needs
 alternate-requires : tie.Need-alternate-requires
 alternate-requires c κs = search needs
 
-joined-requires : tie.Need-joined-requires
-joined-requires c κs = search needs
+as-symbol-requires : tie.Need-as-symbol-requires
+as-symbol-requires c κs = search needs
 
 array-read-a : tie.Need-array-read-a
 array-read-a c = search needs
@@ -76,7 +76,7 @@ returns c =
       c .before .before .put-entry3 .ensures,
       c .before .before .before .before .before .before .put-entry2 .ensures,
       c .before .before .before .before .before .before .before .before .before .before .put-entry .ensures,
-      c .before .before .before .before .before .before .before .before .before .before .before .before .joined .ensures,
+      c .before .before .before .before .before .before .before .before .before .before .before .before .as-symbol .ensures,
       c .before .before .before .before .before .before .before .before .before .before .before .before .before .alternate .ensures,
       c .before .before .before .before .before .before .before .before .before .before .before .before .before .before .alternate-at .ensures,
     )
@@ -87,7 +87,7 @@ put-alternates-spec =
     (tie.spec
     alternate-at-requires
     alternate-requires
-    joined-requires
+    as-symbol-requires
     array-read-a
     cast-a
     array-read-b

@@ -8,8 +8,8 @@ use Rattle.encoder.proofs.tables.put_symbols.Tie as tie
 six-bits-k28-requires : tie.Need-six-bits-k28-requires
 six-bits-k28-requires c κs = search needs
 
-joined-requires : tie.Need-joined-requires
-joined-requires c κs = search needs
+as-symbol-requires : tie.Need-as-symbol-requires
+as-symbol-requires c κs = search needs
 
 fill-characters-requires : tie.Need-fill-characters-requires
 fill-characters-requires c κs = search needs
@@ -29,7 +29,7 @@ returns c =
     rw (
       c .before .before .put-alternates .ensures,
       c .before .before .before .before .before .before .fill-characters .ensures,
-      c .before .before .before .before .before .before .before .before .joined .ensures,
+      c .before .before .before .before .before .before .before .before .as-symbol .ensures,
       c .before .before .before .before .before .before .before .before .before .six-bits-k28 .ensures,
     )
 
@@ -38,7 +38,7 @@ put-symbols-spec =
     tie.close
     (tie.spec
     six-bits-k28-requires
-    joined-requires
+    as-symbol-requires
     fill-characters-requires
     add-put-alternates
     put-alternates-requires
