@@ -2,7 +2,6 @@
 -- Assumes nothing.
 use mathlib.Core.Path.{_≡_, refl, sym, ap, ap₂, _∙_}
 use mathlib.Core.Bool.{Bool, true, false, cond}
-use mathlib.Core.List.{List}
 use Prim.Native.Nat.{ℕ, _+_, _/_, _%_, _≤_, _<_}
 use native.Mathlib.Omega.{arith}
 use lib.Bits.{bitXor}
@@ -14,8 +13,6 @@ use Rattle.symbol.specs.Code.{symbolOf, afterOf}
 use Rattle.symbol.specs.Inside.Code.{flips}
 use Rattle.symbol.specs.Inside.Disparity.{flippedIf}
 use Rattle.symbol.proofs.Ones.{flips-both}
-use Rattle.encoder.specs.declared.encode.Encoded.{Encoded}
-use Rattle.encoder.specs.Encode.{encoded}
 use Rattle.encoder.specs.Inside.Tables.{offsetOf, ofOffset, symbolTable, flipTable}
 
 -- a disparity is told again from its offset
@@ -63,11 +60,3 @@ after-at d c h = ap (bitXor (offsetOf d)) (flip-at c h) ∙ flipped d (flips c) 
     flipped Negative false = refl
     flipped Positive true = refl
     flipped Positive false = refl
-
--- so the symbol that stands after the offset, and the disparity of the offset after, are what encoding answers
-pub encoded-is : (d : Disparity) (c : ℕ) → c < 268 → {t : List ℕ} {at after : ℕ} {e : Disparity} → t ≡ symbolTable → at ≡ offsetOf d + c
-    → e ≡ ofOffset after → after ≡ offsetOf (afterOf d c) → _≡_ {A = Encoded} (record { symbol = getD t at 0; after = e }) (encoded d c)
-encoded-is d c h p q r s =
-    ap₂ (λ (x : ℕ) (y : Disparity). record { symbol = x; after = y })
-    (ap₂ (λ (l : List ℕ) (n : ℕ). getD l n 0) p q ∙ symbol-at d c h)
-    (r ∙ ap ofOffset s ∙ offset-again (afterOf d c))

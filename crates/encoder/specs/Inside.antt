@@ -1,1 +1,3 @@
+pub mod Character
+pub mod Filling
 pub mod Tables

@@ -17,13 +17,11 @@ fn encode_character(d: Disparity, c: u16) -> Encoded
     requires { ⌜ c < 268 ⌝ }
     ensures { λ r. ⌜ r ≡ encoded d c ⌝ }
 {
-    let symbols = crate::tables::symbol_table();
-    let flips = crate::tables::flip_table();
-    let offset = crate::tables::offset_of(d);
-    let at = offset + c as usize;
-    let symbol = symbols[at];
-    let flip = flips[c as usize] as usize;
-    let after = crate::tables::disparity_at(offset ^ flip);
+    let six = crate::character::six_of(d, c);
+    let between = symbol::disparity::flipped_if(block::bits::unbalanced(3, six), d);
+    let four = crate::character::four_of(between, c);
+    let after = symbol::disparity::flipped_if(block::bits::unbalanced(2, four), between);
+    let symbol = block::bits::as_symbol(six, four);
     Encoded { symbol, after }
 }
 

@@ -6,6 +6,7 @@ pub mod Putting
 pub mod Ranges
 pub mod Reading
 pub mod Searches
+pub mod Storing
 pub mod Tests
 pub mod Writing
 pub mod Xors

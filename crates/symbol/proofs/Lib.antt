@@ -1,5 +1,6 @@
 pub mod Characters
 pub mod Distinct
+pub mod Equations
 pub mod Flip
 pub mod Forms
 pub mod Inverse

@@ -1,4 +1,4 @@
--- The published tables: each row is what the definitions give.
+-- The published tables and equations: each row is what the definitions give.
 -- Assumes nothing.
 use mathlib.Core.Path.{refl}
 use lib.Count.{onesIn}
@@ -6,6 +6,7 @@ use Rattle.symbol.specs.declared.disparity.Disparity.the-variants.{Negat
 use Rattle.symbol.specs.Blocks.{sixBits}
 use Rattle.symbol.specs.Code.{reversed, symbolOf}
 use Rattle.symbol.specs.Paper.{SymbolPaper}
+use Rattle.symbol.proofs.Equations.{by-equations}
 
 pub symbol-paper : SymbolPaper
 unfolding symbolOf reversed sixBits onesIn
@@ -15,4 +16,5 @@ symbol-paper = record {
   specialTable = refl;
   ownBits = elim [ Negative ↦ refl | Positive ↦ refl ];
   threeOnes = elim [ Negative ↦ refl | Positive ↦ refl ];
+  equations = by-equations;
 }

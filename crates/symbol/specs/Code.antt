@@ -12,7 +12,7 @@ use Rattle.ground.specs.Search.{firstBelow}
 use Rattle.symbol.specs.declared.disparity.Disparity.{Disparity}
 use Rattle.symbol.specs.Blocks.{sixBits, sixBitsK28, fourBits, alternate, alternateAt, fourBitsSpecial}
 use Rattle.symbol.specs.Character.{characters, isSpecial, xOf, yOf}
-use Rattle.symbol.specs.Disparity.{afterBlock}
+use Rattle.symbol.specs.Disparity.{afterSix, afterFour}
 
 abbrev pub oneOf : ℕ → List ℕ → Bool
 oneOf x [] = false
@@ -33,12 +33,12 @@ fourOf d c =
 -- the disparity between the two blocks
 unfoldable pub betweenOf : Disparity → ℕ → Disparity
 unfolding sixOf onesIn
-betweenOf d c = afterBlock 6 d (sixOf d c)
+betweenOf d c = afterSix d (sixOf d c)
 
 -- the disparity after the character
 unfoldable pub afterOf : Disparity → ℕ → Disparity
 unfolding betweenOf fourOf onesIn
-afterOf d c = afterBlock 4 (betweenOf d c) (fourOf (betweenOf d c) c)
+afterOf d c = afterFour (betweenOf d c) (fourOf (betweenOf d c) c)
 
 -- n bits in reverse order
 unfoldable pub reversed : ℕ → ℕ → ℕ

@@ -1,7 +1,7 @@
--- The 8B/10B code in the numerals of its published tables (ANSI INCITS 230; IEEE 802.3, tables 36-1 and 36-2), so that the blocks of
--- `Blocks` and the rules of `Code` and `Disparity` can be wrong in no place; `proofs/Paper` proves each.
+-- The 8B/10B code in the numerals of its published tables (ANSI INCITS 230; IEEE 802.3, tables 36-1 and 36-2), and by its authors'
+-- equations, so that the blocks of `Blocks` and the rules of `Code` and `Disparity` can be wrong in no place; `proofs/Paper` proves each.
 -- Assumes nothing.
-use Prim.Native.Nat.{ℕ, _+_, _*_, _/_}
+use Prim.Native.Nat.{ℕ, _+_, _*_, _/_, _<_}
 use mathlib.Core.Path.{_≡_}
 use mathlib.Core.List.{List, [], _∷_, map}
 use lib.Count.{onesIn}
@@ -12,7 +12,8 @@ use Rattle.symbol.specs.declared.special.Special.{Special}
 use Rattle.symbol.specs.declared.special.Special.the-variants.{«K28_0», «K28_1», «K28_2», «K28_3», «K28_4», «K28_5», «K28_6», «K28_7», «K23_7», «K27_7», «K29_7», «K30_7»}
 use Rattle.symbol.specs.Blocks.{sixBits}
 use Rattle.symbol.specs.Character.{numberOf}
-use Rattle.symbol.specs.Code.{reversed, symbolOf}
+use Rattle.symbol.specs.Code.{reversed, symbolOf, afterOf}
+use Rattle.symbol.specs.Equations.{symbolBy, afterBy}
 
 -- a row of a published table: the bits abcdei fghj of a character at negative and at positive disparity, a on the left
 pub record Printed : Type 0 where
@@ -96,3 +97,5 @@ pub record SymbolPaper : Type 0 where
   -- where the six bits are the same at both disparities, abcde are the byte's own low five bits, a the lowest, and three of the six are ones
   pub ownBits : (e : Disparity) → map (λ (x : ℕ). getD (sixBits e) x 0 / 2) balanced ≡ map (reversed 5) balanced
   pub threeOnes : (e : Disparity) → map (λ (x : ℕ). onesIn 6 (getD (sixBits e) x 0)) balanced ≡ map (λ (x : ℕ). 3) balanced
+  -- every character has, at both disparities, the symbol that the authors' equations give it, and leaves the disparity that they say
+  pub equations : (e : Disparity) (c : ℕ) → c < 268 → (symbolBy e c ≡ symbolOf e c) × (afterBy e c ≡ afterOf e c)
