@@ -16,7 +16,7 @@ pub fn unbalanced(half: u16, block: u16) -> bool
     block % 2 + b % 2 + c % 2 + d % 2 + e % 2 + f % 2 != half
 }
 
-// Six bits turned round: the bit that is printed first is the lowest.
+// Six bits turned round: the bit that is printed first is the lowest. Each local has the bit of its name lowest.
 fn six_turned(six: u16) -> u16
     ensures value { λ r. ⌜ r ≡ reversed 6 six ⌝ }
     ensures bound { λ r. ⌜ r < 64 ⌝ }
