@@ -3,13 +3,14 @@
  *
  * Link with libbrazulint.a (`rt staticlib brazulint` writes it to target/staticlib), on x86-64 Linux. It calls memcpy and memset and
  * nothing else, allocates nothing, keeps nothing between calls, and may be called from any number of threads at once. As compiled now,
- * judging takes 29 KiB of stack, the next span 27, sending 26, finding 16, reading 14, and every other call less than 3 KiB.
+ * judging takes 29 KiB of stack, finding and the next span 27, sending 26, reading 14, and every other call less than 3 KiB.
  *
  * WHAT EVERY CALL GUARANTEES
  *
  * - Any numbers and any contents may be given. Every call ends and answers; nothing is undefined except for the pointer rules below.
  * - `number` in an answer is 0 if the call did its work, and otherwise the number of the refusal. A field that then has no meaning is 0 or
- *   false. Refusals are tried in the order of their numbers, and the first that applies is answered.
+ *   false; only `bit` of a repair, where 0 is a bit, is BRAZULINT_NO_BIT. Refusals are tried in the order of their numbers, and the first
+ *   that applies is answered.
  * - Numbers are not truncated: line 65578 is refused, and is not line 42.
  * - A refusal below 20 leaves every lent buffer as it was. A refusal from 20 on leaves the rows all zero, and `place` says where.
  *
@@ -72,7 +73,7 @@
  *
  * INTERFACES
  *
- * The names that are linked carry the number of the interface: brazulint_send is brazulint2_send in libbrazulint.a. An object that was
+ * The names that are linked carry the number of the interface: brazulint_send is brazulint3_send in libbrazulint.a. An object that was
  * compiled with the header of another interface does not link. Structs may grow with the interface, so fill them by the names of their
  * fields: a new field of a format that is left 0 is refused.
  *
@@ -105,8 +106,8 @@
 #include <stdint.h>
 
 /* The interface, and the version of the library that this header belongs to: 65536 times the interface, and the release in it. */
-#define BRAZULINT_INTERFACE 2
-#define BRAZULINT_VERSION 131072
+#define BRAZULINT_INTERFACE 3
+#define BRAZULINT_VERSION 196608
 
 #define BRAZULINT_PASTE(interface, call) brazulint##interface##call
 #define BRAZULINT_LINK_NAME(interface, call) BRAZULINT_PASTE(interface, call)
@@ -275,9 +276,10 @@ BRAZULINT_MUST_USE uint32_t brazulint_fill_blanking(brazulint_format format, uin
 typedef struct {
     brazulint_stream_line line; /* the line whose SAV begins the span */
     brazulint_content content;
-    bool positive_before; /* the running disparity before the span */
-    bool positive_after;  /* and after it */
-    uint32_t repairs;     /* timing words repaired, one bit in each */
+    bool positive_before;        /* the running disparity before the span */
+    bool positive_after;         /* and after it */
+    uint32_t repairs;            /* timing words repaired, one bit in each; a span has two in each stream, of the SAV and of the EAV */
+    uint32_t repairs_of_bit[12]; /* how often each bit of a timing word was repaired: [0] is b0, the lowest; together they are `repairs` */
 } brazulint_delivery;
 
 typedef struct {
@@ -381,10 +383,14 @@ typedef struct {
 /* The stream line for which exactly these two words are sent. */
 BRAZULINT_MUST_USE brazulint_read_line_words_answer brazulint_read_line_words(uint32_t ln0, uint32_t ln1);
 
+/* In the place of a bit: none was wrong. */
+#define BRAZULINT_NO_BIT 12
+
 typedef struct {
     uint32_t number;   /* 7, 8 */
     uint32_t word;     /* the legal timing word */
     uint32_t distance; /* in how many bits the given one differs: 0, 1 */
+    uint32_t bit;      /* the bit that was wrong, 0 to 11, 0 the lowest; BRAZULINT_NO_BIT where none was, and in a refusal */
 } brazulint_repair_answer;
 
 /* The legal timing word (800, 9D0, AB0, B60 hex) that is at most one bit from a given one. */

@@ -14,18 +14,18 @@ LAID_OUT(sizeof(brazulint_format) == 8 && offsetof(brazulint_format, depth) == 4
 LAID_OUT(sizeof(brazulint_stream_line) == 4 && sizeof(brazulint_picture_line) == 4 && sizeof(brazulint_content) == 4);
 LAID_OUT(sizeof(brazulint_request) == 12 && offsetof(brazulint_request, positive) == 4);
 LAID_OUT(offsetof(brazulint_request, named) == 5 && offsetof(brazulint_request, content) == 6);
-LAID_OUT(sizeof(brazulint_delivery) == 16 && offsetof(brazulint_delivery, content) == 4);
+LAID_OUT(sizeof(brazulint_delivery) == 64 && offsetof(brazulint_delivery, content) == 4);
 LAID_OUT(offsetof(brazulint_delivery, positive_before) == 8 && offsetof(brazulint_delivery, positive_after) == 9);
-LAID_OUT(offsetof(brazulint_delivery, repairs) == 12);
+LAID_OUT(offsetof(brazulint_delivery, repairs) == 12 && offsetof(brazulint_delivery, repairs_of_bit) == 16);
 LAID_OUT(sizeof(brazulint_lengths_answer) == 24 && offsetof(brazulint_lengths_answer, symbols) == 16);
 LAID_OUT(sizeof(brazulint_send_answer) == 16 && offsetof(brazulint_send_answer, place) == 8);
-LAID_OUT(sizeof(brazulint_read_answer) == 32 && offsetof(brazulint_read_answer, delivery) == 16);
+LAID_OUT(sizeof(brazulint_read_answer) == 80 && offsetof(brazulint_read_answer, delivery) == 16);
 LAID_OUT(sizeof(brazulint_find_answer) == 16 && offsetof(brazulint_find_answer, place) == 8);
-LAID_OUT(sizeof(brazulint_next_answer) == 40 && offsetof(brazulint_next_answer, delivery) == 24);
+LAID_OUT(sizeof(brazulint_next_answer) == 88 && offsetof(brazulint_next_answer, delivery) == 24);
 LAID_OUT(sizeof(brazulint_place_answer) == 20 && offsetof(brazulint_place_answer, stream_line) == 12);
 LAID_OUT(sizeof(brazulint_way_back_answer) == 12 && offsetof(brazulint_way_back_answer, line) == 8);
 LAID_OUT(sizeof(brazulint_line_words_answer) == 12 && sizeof(brazulint_read_line_words_answer) == 8);
-LAID_OUT(sizeof(brazulint_repair_answer) == 12 && sizeof(brazulint_crcc_answer) == 16);
+LAID_OUT(sizeof(brazulint_repair_answer) == 16 && offsetof(brazulint_repair_answer, bit) == 12 && sizeof(brazulint_crcc_answer) == 16);
 LAID_OUT(sizeof(brazulint_decode_answer) == 12 && sizeof(brazulint_encode_answer) == 12);
 LAID_OUT(BRAZULINT_LIMIT == 1 << 21 && BRAZULINT_VERSION == BRAZULINT_INTERFACE * 65536);
 
@@ -99,12 +99,17 @@ static void words(void) {
     IS(n.number == BRAZULINT_WRONG_LINE && n.line.number == 0);
     IS(brazulint_read_line_words(0x10810, 0x800).number == BRAZULINT_TOO_LARGE);
     brazulint_repair_answer r = brazulint_repair(0x801);
-    IS(r.number == 0 && r.word == 0x800 && r.distance == 1);
+    IS(r.number == 0 && r.word == 0x800 && r.distance == 1 && r.bit == 0);
     r = brazulint_repair(0x8D0);
-    IS(r.number == 0 && r.word == 0x9D0 && r.distance == 1);
+    IS(r.number == 0 && r.word == 0x9D0 && r.distance == 1 && r.bit == 8);
+    r = brazulint_repair(0x000);
+    IS(r.number == 0 && r.word == 0x800 && r.distance == 1 && r.bit == 11);
+    r = brazulint_repair(0x800);
+    IS(r.number == 0 && r.word == 0x800 && r.distance == 0 && r.bit == BRAZULINT_NO_BIT);
     r = brazulint_repair(0x803);
-    IS(r.number == BRAZULINT_BEYOND_REPAIR && r.word == 0 && r.distance == 0);
-    IS(brazulint_repair(0x10800).number == 7);
+    IS(r.number == BRAZULINT_BEYOND_REPAIR && r.word == 0 && r.distance == 0 && r.bit == BRAZULINT_NO_BIT);
+    r = brazulint_repair(0x10800);
+    IS(r.number == 7 && r.word == 0 && r.distance == 0 && r.bit == BRAZULINT_NO_BIT);
     const uint16_t above = 4096;
     brazulint_crcc_answer c = brazulint_crcc(NULL, 0); /* a register of zeros, and its guard bits */
     IS(c.number == 0 && c.crc == 0 && c.crcc0 == 0x800 && c.crcc1 == 0x800);
@@ -215,6 +220,40 @@ static void receiving(void) {
     IS(r.number == BRAZULINT_WRONG_SYMBOL && r.place == SYMBOLS - 1 && r.delivery.line.number == 0 && zero(rows, SAMPLES));
 }
 
+/* Inverts one bit of a byte of the span in `symbols`, which begins at negative disparity, and codes it again. */
+static void invert(size_t byte, unsigned bit) {
+    bool before = false, coded = false; /* the disparity as it was, and as it comes to be */
+    for (size_t i = 0; i < SYMBOLS; i++) {
+        brazulint_decode_answer d = brazulint_decode(before, symbols[i]);
+        brazulint_encode_answer e = brazulint_encode(coded, i == byte ? d.character ^ 1u << bit : d.character);
+        symbols[i] = (uint16_t)e.symbol;
+        before = d.positive_after;
+        coded = e.positive_after;
+    }
+}
+
+static bool has_repairs(brazulint_delivery d, uint32_t lowest, uint32_t highest) {
+    for (size_t i = 1; i < 11; i++)
+        if (d.repairs_of_bit[i] != 0) return false;
+    return d.repairs == lowest + highest && d.repairs_of_bit[0] == lowest && d.repairs_of_bit[11] == highest;
+}
+
+/* XYZ is bytes 9 to 11 of the SAV, and of the EAV, which begins at 5772: b0 of stream 1 comes first, b11 of stream 2 last. */
+static void repairs(void) {
+    IS(brazulint_send(HZ_120, unnamed(42), samples, SAMPLES, symbols, SYMBOLS).number == 0);
+    IS(has_repairs(brazulint_judge(HZ_120, symbols, SYMBOLS).delivery, 0, 0));
+    invert(9, 0);
+    IS(has_repairs(brazulint_judge(HZ_120, symbols, SYMBOLS).delivery, 1, 0));
+    invert(5772 + 9, 0);
+    invert(5772 + 11, 7);
+    IS(has_repairs(brazulint_read(HZ_120, symbols, SYMBOLS, rows, SAMPLES).delivery, 2, 1));
+    brazulint_next_answer n = brazulint_next(HZ_120, symbols, SYMBOLS, 0, rows, SAMPLES);
+    IS(n.found && n.delivery.line.number == 42 && has_repairs(n.delivery, 2, 1) && memcmp(rows, samples, sizeof rows) == 0);
+    invert(9, 1); /* a second bit of the SAV of stream 1, which is word 6 */
+    brazulint_read_answer r = brazulint_read(HZ_120, symbols, SYMBOLS, rows, SAMPLES);
+    IS(r.number == BRAZULINT_WRONG_TIMING && r.place == 6 && has_repairs(r.delivery, 0, 0));
+}
+
 /* At depth 10 what comes back is shifted, and blanking is not. */
 static void ten_bits(void) {
     const brazulint_format ten = {.number = BRAZULINT_120_HZ, .depth = 10};
@@ -270,6 +309,7 @@ static void *all(void *unused) {
     pictures();
     sending();
     receiving();
+    repairs();
     ten_bits();
     recordings();
     limit();

@@ -17,9 +17,8 @@ use Rattle.span.specs.Numbers.{IsFormat, Symbols}
 use Rattle.window.specs.declared.delivery.Delivery.{Delivery}
 use Rattle.window.specs.Encoded.{requestOf}
 use Rattle.window.specs.Paper.{wordOfWindow}
-use Rattle.window.specs.Read.{repairsOf, deliveryOf, pictureOf, readSpan}
+use Rattle.window.specs.Read.{deliveryOf, pictureOf, readSpan}
 use Rattle.window.specs.Inside.Encoded.{Sendable}
-use Rattle.window.specs.declared.delivery.Repairs.{Repairs}
 use Rattle.window.specs.Scan.{startOf}
 use Rattle.window.specs.Tests.{lineRead, repairCount}
 use Rattle.window.specs.Words.{wordAt}
@@ -44,7 +43,7 @@ may-be-sent d f a room good e =
 
 -- ---- what was read, sent again
 module _ (f : Format) (w : List ℕ) (r : Delivery) (known : IsFormat f) (long : Symbols f (length w)) (e : readSpan f w ≡ given r)
-    (untouched : r .repairs ≡ repairsOf 0)
+    (untouched : r .repairs .count ≡ 0)
     (area : (j t : ℕ) → 1932 ≤ j → j < 1932 + shapeOf f .ancillary → t < streams (shapeOf f) → wordOfWindow f w j t ≡ 0x100)
     (line : (42 ≤ r .line .0 → r .line .0 ≤ 1121 → ⊥) → (j t : ℕ) → 4 ≤ j → j < 1924 → t < streams (shapeOf f) → wordOfWindow f w j t ≡ 0x100) where
   abbrev asked : Request
@@ -66,7 +65,7 @@ module _ (f : Format) (w : List ℕ) (r : Delivery) (known : IsFormat f) (long :
 
   none-wrong : repairCount (streams (shapeOf f)) (wordAt (shapeOf f) w) ≡ 0
   unfolding deliveryOf
-  none-wrong = sym (ap (λ (d : Delivery). d .repairs .count) is-answer) ∙ ap (λ (x : Repairs). x .count) untouched
+  none-wrong = sym (ap (λ (d : Delivery). d .repairs .count) is-answer) ∙ untouched
 
   blank-line : isActive (lineRead (streams (shapeOf f)) (wordAt (shapeOf f) w)) ≡ false → (j t : ℕ) → 4 ≤ j → j < 1924 → t < streams (shapeOf f)
       → wordOfWindow f w j t ≡ 0x100

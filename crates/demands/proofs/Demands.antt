@@ -25,9 +25,10 @@ use Rattle.crcc.proofs.Paper.{crcc-paper}
 use Rattle.packing.proofs.Paper.{packing-paper}
 use Rattle.span.proofs.Paper.{span-paper}
 use Rattle.decoder.proofs.Answers.{decodes}
+use Rattle.word.specs.declared.repair.WrongBit.the-variants.{Bit}
 use Rattle.word.specs.Repair.{legalWord, repairOf}
 use Rattle.word.specs.Timing.{timing}
-use Rattle.word.proofs.Repairs.{one-wrong, two-wrong}
+use Rattle.word.proofs.WrongWords.{one-wrong, two-wrong}
 use Rattle.picture.specs.Division.{w}
 use Rattle.dividing.specs.Row.{divided, joined, splitOf, joinOf}
 use Rattle.dividing.proofs.RoundTrip.{join-split, split-join, place-agrees}
@@ -184,7 +185,7 @@ demand-2 = record {
   windows = window-paper;
   sentAgain = again;
   oneWrong = λ v h k l.
-      timed (λ x. repairOf (inverted k x) ≡ given (record { word = x; distance = 1 })) (λ vh m. one-wrong vh m k l) v h;
+      timed (λ x. repairOf (inverted k x) ≡ given (record { word = x; distance = 1; bit = Bit k })) (λ vh m. one-wrong vh m k l) v h;
   twoWrong = λ v h j k i l. timed (λ x. repairOf (inverted j (inverted k x)) ≡ refused 8 0) (λ vh m. two-wrong vh m j k i l) v h;
   repaired = λ f x sent words disturbed near w d c e.
       repaired-delivered f (x .asked) (sendable f x sent) words disturbed w d c e near;

@@ -1,6 +1,7 @@
 -- One wrong bit, and two, in the XYZ of the SAV of line 42: out of what the demands say of spans with wrong bits.
 -- Assumes nothing.
-use mathlib.Core.Path.{_≡_, refl, ap, _∙_}
+use mathlib.Core.Path.{_≡_, refl, ap, ap₂, _∙_}
+use mathlib.Core.Bool.{cond}
 use mathlib.Core.List.{List}
 use mathlib.Core.Logic.{inl}
 use Prim.Native.Nat.{ℕ, zero, suc, _+_, _-_, _*_, _/_, _≤_, _<_}
@@ -15,7 +16,7 @@ use Rattle.ground.specs.Bit.{inverted}
 use Rattle.ground.proofs.Bits.{inverted-below}
 use Rattle.ground.proofs.Cases.{on-test}
 use Rattle.symbol.specs.declared.disparity.Disparity.{Disparity}
-use Rattle.word.specs.Repair.{distance}
+use Rattle.word.specs.Repair.{distance, differsAt}
 use Rattle.span.specs.declared.format.Format.{Format}
 use Rattle.span.specs.Content.{contentOf}
 use Rattle.span.specs.Format.{shapeOf, streams, pairsIn}
@@ -24,21 +25,17 @@ use Rattle.span.specs.Span.{spanWords}
 use Rattle.span.proofs.Lengths.{known-has-streams}
 use Rattle.window.specs.declared.delivery.Delivery.{Delivery}
 use Rattle.window.specs.Encoded.{Encodes, Disturbed, DisturbedBefore, IsXyz, wordIn, wrongAt}
-use Rattle.window.specs.Read.{readSpan}
+use Rattle.window.specs.declared.delivery.RepairsOfBit.{RepairsOfBit}
+use Rattle.window.specs.Read.{readSpan, repairsOf}
 use Rattle.window.specs.Tests.{sumOf}
 use Rattle.window.proofs.Placing.{word-of-place, in-span}
 use Rattle.window.proofs.RoundTrip.{sent-encodes}
+use Rattle.window.proofs.Sums.{sum-one, same-bits}
 use Rattle.demands.specs.Examples.{onLine42, withXyz}
 use Rattle.demands.specs.Form.{Sending, WasSent, sentSymbols}
 use Rattle.demands.proofs.Demands.{demand-2}
 use Rattle.demands.proofs.Refusing.{known-says}
 use Rattle.demands.proofs.Sendings.{sendable}
-
--- a sum that is 1 at 0 and 0 elsewhere
-sum-one : (n : ℕ) (g : ℕ → ℕ) → g 0 ≡ 1 → ((t : ℕ) → 1 ≤ t → t < suc n → g t ≡ 0) → sumOf (suc n) g ≡ 1
-unfolding sumOf
-sum-one zero g one none = omega (arith, one)
-sum-one (suc n) g one none = omega (arith, sum-one n g one (λ t p q. none t p (omega arith)), none (suc n) (omega arith) (omega arith))
 
 module _ (f : Format) (m : ℕ) (known : IsFormat f) (d : Disparity) (sent : WasSent f (onLine42 f m d)) where
   abbrev x : Sending
@@ -79,32 +76,50 @@ module _ (f : Format) (m : ℕ) (known : IsFormat f) (d : Disparity) (sent : Was
     changed-encodes : Encodes f (withXyz f m d y) d (contentOf f (x .asked .content)) changed
     changed-encodes = record { symbols = refl; content = encodes .content; long = both .0 .long; small = both .0 .small }
 
-    wrong-there : wrongAt f (x .asked) changed there ≡ distance y 0x800
-    wrong-there = rw (getD-set-same words there y 0 (omega (arith, inside, encodes .long)), is-800) refl
+    -- by any measure g of two words that is 0 of a word and itself
+    module _ (g : ℕ → ℕ → ℕ) (zero : (w : ℕ) → g w w ≡ 0) where
+      abbrev measured : ℕ → ℕ
+      measured k = g (wordIn changed k) (wordIn words k)
 
-    none-elsewhere : (k : ℕ) → (k ≡ there → ⊥) → wrongAt f (x .asked) changed k ≡ 0
-    none-elsewhere k other = rw (getD-set-other words there k y 0 other) (demand-2 .words .distanceNone (wordIn words k))
+      there-is : measured there ≡ g y 0x800
+      there-is = rw (getD-set-same words there y 0 (omega (arith, inside, encodes .long)), is-800) refl
+
+      none-elsewhere : (k : ℕ) → (k ≡ there → ⊥) → measured k ≡ 0
+      none-elsewhere k other = rw (getD-set-other words there k y 0 other) (zero (wordIn words k))
+
+      -- what all XYZ differ by is what this one does
+      all-differ : sumOf s (λ t. measured (s * 3 + t) + measured (s * 1927 + t)) ≡ g y 0x800
+      all-differ =
+          let both : ℕ → ℕ = λ t. measured (s * 3 + t) + measured (s * 1927 + t) in
+          let eav : (t : ℕ) → measured (s * 1927 + t) ≡ 0 = λ t. none-elsewhere (s * 1927 + t) (λ e. omega (arith, has-streams)) in
+          let all : s ≡ suc (s - 1) = omega (arith, has-streams) in
+          ap (λ (n : ℕ). sumOf n both) all
+          ∙ sum-one (s - 1) both (λ t p q. omega (arith, none-elsewhere (s * 3 + t) (λ e. omega arith), eav t))
+          ∙ omega (arith, eav 0, there-is)
+
+    wrong-there : wrongAt f (x .asked) changed there ≡ distance y 0x800
+    wrong-there = there-is distance (demand-2 .words .distanceNone)
 
   pub one-wrong : (b : ℕ) → b < 12
-      → (v : Delivery) × (readSpan f (withXyz f m d (inverted b 0x800)) ≡ given v) × (v .line .0 ≡ 42) × (v .repairs .count ≡ 1)
+      → (v : Delivery)
+      × (readSpan f (withXyz f m d (inverted b 0x800)) ≡ given v)
+      × (v .line .0 ≡ 42)
+      × (v .repairs ≡ repairsOf 1 (λ k. cond (eqb k b) 1 0))
   one-wrong b h =
       let y = inverted b 0x800 in
       let below : y < 4096 = inverted-below 12 b 0x800 h (omega arith) in
-      let one : wrongAt f (x .asked) (changed y below) there ≡ 1 = wrong-there y below ∙ demand-2 .words .distanceOne b 0x800 h in
+      let one = demand-2 .words .distanceOne b 0x800 h in
+      let zero = demand-2 .words .distanceNone in
       let near : (k : ℕ) → k < 2 * pairsIn (shapeOf f) → IsXyz (k / s) → wrongAt f (x .asked) (changed y below) k ≤ 1 =
       λ k _ _.
       on-test (eqb k there)
-      (λ e. omega (arith, ap (wrongAt f (x .asked) (changed y below)) (eqb-true k there e), one))
-      (λ n. omega (arith, none-elsewhere y below k (eqb-false k there n))) in
+      (λ e. omega (arith, ap (wrongAt f (x .asked) (changed y below)) (eqb-true k there e), wrong-there y below, one))
+      (λ n. omega (arith, none-elsewhere y below distance zero k (eqb-false k there n))) in
       let (read, _) = demand-2 .repaired f x sent (changed y below) (both y below .0) near (withXyz f m d y) d _ (changed-encodes y below) in
-      let g : ℕ → ℕ =
-      λ t. wrongAt f (x .asked) (changed y below) (s * 3 + t) + wrongAt f (x .asked) (changed y below) (s * 1927 + t) in
-      let eav : (t : ℕ) → wrongAt f (x .asked) (changed y below) (s * 1927 + t) ≡ 0 =
-      λ t. none-elsewhere y below (s * 1927 + t) (λ e. omega (arith, has-streams)) in
-      let count : sumOf (suc (s - 1)) g ≡ 1 =
-      sum-one (s - 1) g (omega (arith, one, eav 0)) (λ t p q. omega (arith, none-elsewhere y below (s * 3 + t) (λ e. omega arith), eav t)) in
-      let all : s ≡ suc (s - 1) = omega (arith, has-streams) in
-      (_, read, refl, ap (λ (k : ℕ). sumOf k g) all ∙ count)
+      let bits =
+      same-bits _ (λ k. cond (eqb k b) 1 0)
+      (λ k l. all-differ y below (differsAt k) (demand-2 .words .differsNone k) ∙ demand-2 .words .differsOne k b 0x800 l h) in
+      (_, read, refl, ap₂ (λ (n : ℕ) (c : RepairsOfBit). record { count = n; «of_bit» = c }) (all-differ y below distance zero ∙ one) bits)
 
   pub two-wrong : (b c : ℕ) → b < c → c < 12 → readSpan f (withXyz f m d (inverted b (inverted c 0x800))) ≡ refused 21 (s * 3)
   two-wrong b c h l =

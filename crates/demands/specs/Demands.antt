@@ -26,6 +26,7 @@ use Rattle.decoder.specs.Decode.{decodeOf}
 use Rattle.decoder.specs.Meaning.{meaningOf}
 use Rattle.packing.specs.Bytes.{packedOf}
 use Rattle.crcc.specs.Crcc.{crccWords, crccOf}
+use Rattle.word.specs.declared.repair.WrongBit.the-variants.{Bit}
 use Rattle.word.specs.LineNumber.{numberedOf, namedOf}
 use Rattle.word.specs.Repair.{distance, repairOf}
 use Rattle.word.specs.Timing.{timing}
@@ -48,7 +49,7 @@ use Rattle.way_back.specs.Paper.{WayBackPaper}
 use Rattle.way_back.specs.Undone.{Undone}
 use Rattle.window.specs.declared.delivery.Delivery.{Delivery}
 use Rattle.window.specs.Paper.{wordOfWindow, WindowPaper}
-use Rattle.window.specs.Encoded.{requestOf, charsOf, AreContent, Encodes, IsXyz, Disturbed, wrongAt}
+use Rattle.window.specs.Encoded.{requestOf, charsOf, AreContent, Encodes, IsXyz, Disturbed, wrongAt, wrongBitAt}
 use Rattle.window.specs.Read.{repairsOf, pictureOf, readSpan, judgeOf, readOf, rowsRead}
 use Rattle.window.specs.Tests.{sumOf}
 use Rattle.delivery.specs.Delivery.{Found, foundFrom, movedBy, concatenated, placedFrom, Each}
@@ -228,16 +229,18 @@ pub record Demand2 : Type 1 where
       → Symbols f (length w)
       → readSpan f w ≡ given r
       → let word = wordOfWindow f w in
-      r .repairs ≡ repairsOf 0
+      r .repairs .count ≡ 0
       → ((j t : ℕ) → 1932 ≤ j → j < 1932 + shapeOf f .ancillary → t < streams (shapeOf f) → word j t ≡ 0x100)
       → ((42 ≤ r .line .0 → r .line .0 ≤ 1121 → ⊥) → (j t : ℕ) → 4 ≤ j → j < 1924 → t < streams (shapeOf f) → word j t ≡ 0x100)
       → let a = requestOf f r (pictureOf f w) in
       (sendOf (r .before) f a (length w) ≡ given (r .after)) × (w ≡ spanSymbols (r .before) f a)
-  -- one wrong bit of a timing word is repaired, two are refused: by the single call, and in a span at the first such word (`windows`);
+  -- one wrong bit of a timing word is repaired, and its number told; two are refused: by the single call, and in a span at the first such
+  -- word (`windows`);
   pub oneWrong :
-      (v h : Bool) (k : ℕ) → k < 12 → repairOf (inverted k (timing v h)) ≡ given (record { word = timing v h; distance = 1 })
+      (v h : Bool) (k : ℕ) → k < 12 → repairOf (inverted k (timing v h)) ≡ given (record { word = timing v h; distance = 1; bit = Bit k })
   pub twoWrong : (v h : Bool) (j k : ℕ) → j < k → k < 12 → repairOf (inverted j (inverted k (timing v h))) ≡ refused 8 0
-  -- in a span, where at most one bit of each is wrong: all is read as it was sent, and the repairs are the sum of the distances,
+  -- in a span, where at most one bit of each is wrong: all is read as it was sent, the repairs are the sum of the distances, and those of
+  -- each bit the number of timing words that differ in it from the words sent,
   pub repaired :
       (f : Format) (x : Sending)
       → WasSent f x
@@ -253,7 +256,9 @@ pub record Demand2 : Type 1 where
         content = c;
         before = d;
         after = afterRun d (charsOf (shapeOf f) c words);
-        repairs = repairsOf (sumOf s (λ t. wrongAt f (x .asked) words (s * 3 + t) + wrongAt f (x .asked) words (s * 1927 + t)));
+        repairs =
+            repairsOf (sumOf s (λ t. wrongAt f (x .asked) words (s * 3 + t) + wrongAt f (x .asked) words (s * 1927 + t)))
+            (λ b. sumOf s (λ t. wrongBitAt f (x .asked) words b (s * 3 + t) + wrongBitAt f (x .asked) words b (s * 1927 + t)));
       }))
       × (pictureOf f w ≡ readingOf f x .words)
   -- joining what was divided gives the row, and dividing what was joined gives the two rows

@@ -23,7 +23,7 @@ use Rattle.window.specs.Encoded.{charsOf, requestOf}
 use Rattle.dividing.specs.Row.{divided, splitFirst, splitSecond}
 use Rattle.span.specs.Paper.{wordOf}
 use Rattle.window.specs.Paper.{wordOfWindow}
-use Rattle.window.specs.Read.{pictureOf, readSpan, readOf, rowsRead}
+use Rattle.window.specs.Read.{repairsOf, pictureOf, readSpan, readOf, rowsRead}
 use Rattle.span.specs.Length.{lengthsOf}
 use Rattle.span.specs.Numbers.{IsFormat, Symbols, Samples}
 use Rattle.window.specs.declared.delivery.Delivery.{Delivery}
@@ -99,15 +99,15 @@ pub record At (f : Format) (n m : ℕ) : Type 0 where
       → IsNext f (threeLines f m i k) 0 m 0 1
       × IsNext f (threeLines f m i k) n m (2 * n) 3
       × (nextOf f (threeLines f m i k) (3 * n) m ≡ given none)
-  -- XYZ of line 42's SAV is 800. With one bit inverted the span is read, with one repair, and with two it is refused with 21 there: word 3 of
-  -- stream 1, the seventh interleaved word of two streams and the thirteenth of four
+  -- XYZ of line 42's SAV is 800. With one bit inverted the span is read, with one repair, of that bit, and with two it is refused with 21 there:
+  -- word 3 of stream 1, the seventh interleaved word of two streams and the thirteenth of four
   pub repaired :
       (d : Disparity) (b : ℕ)
       → b < 12
       → (v : Delivery)
       × (readSpan f (withXyz f m d (inverted b 0x800)) ≡ given v)
       × (v .line .0 ≡ 42)
-      × (v .repairs .count ≡ 1)
+      × (v .repairs ≡ repairsOf 1 (λ k. cond (eqb k b) 1 0))
   pub refused21 :
       (d : Disparity) (b c : ℕ)
       → b < c

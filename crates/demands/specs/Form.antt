@@ -23,7 +23,7 @@ use Rattle.recording.specs.declared.answer.Spanned.{Spanned}
 use Rattle.recording.specs.Recording.{Reading}
 use Rattle.recording.specs.Steps.{Step, runFrom}
 use Rattle.request.specs.Send.{sendOf}
-use Rattle.window.specs.Read.{repairsOf}
+use Rattle.window.specs.Read.{noRepairs}
 
 -- ---- document 01's own numbers
 
@@ -106,7 +106,7 @@ readingOf f x =
             content = contentOf f (x .asked .content);
             before = x .before;
             after = spanAfter (x .before) f (x .asked);
-            repairs = repairsOf 0;
+            repairs = noRepairs;
           };
       words = upto (streams (shapeOf f)) (picture f (x .asked));
     }

@@ -1,14 +1,16 @@
 -- What a caller from C has, proved: out of the demands, and out of how each answer crosses.
 -- Assumes nothing.
-use mathlib.Core.Path.{_≡_, refl, sym, ap, _∙_}
+use mathlib.Core.Path.{_≡_, refl, sym, ap, _∙_, subst}
 use mathlib.Core.Bool.{true, false, true≢false}
-use mathlib.Core.List.{List, []}
+use mathlib.Core.List.{List, [], _∷_, _++_}
 use mathlib.Core.Option.{Option, none, some}
 use Prim.Native.Nat.{ℕ, _+_, _*_, _≤_, _<_}
 use native.Mathlib.Omega.{arith}
+use lib.Dec.{eqb}
 use lib.ListN.{length, getD, take, drop}
 use borrow.Author.Tests.{eqb-true, lt-ltb, le-ltb, eq-eqb}
-use Rattle.ground.specs.Answer.{Answer, refused, given}
+use Rattle.ground.specs.Answer.{Answer, refused, given, Row, unless}
+use Rattle.ground.proofs.Answers.{given-is}
 use Rattle.ground.proofs.Ranges.{is-within, not-within}
 use Rattle.symbol.specs.declared.disparity.Disparity.{Disparity}
 use Rattle.symbol.specs.declared.disparity.Disparity.the-variants.{Negative, Positive}
@@ -23,14 +25,14 @@ use Rattle.dividing.specs.Row.{splitOf, joinOf}
 use Rattle.span.specs.Blanking.{fillOf}
 use Rattle.span.specs.Length.{lengthsOf}
 use Rattle.way_back.specs.Back.{backOf}
-use Rattle.window.specs.Read.{readOf, judgeOf, pictureOf}
+use Rattle.window.specs.Read.{spanTests, deliveryOf, readOf, judgeOf, pictureOf}
 use Rattle.recording.specs.Call.{findOf, nextOf, afterNext, rowsNext}
 use Rattle.line.specs.declared.stream.StreamLine.{StreamLine}
 use Rattle.word.proofs.LineNumbers.{line-good, read-sent}
 use Rattle.span.specs.declared.content.Content.the-variants.{NoneNamed, Named}
 use Rattle.span.specs.declared.format.Format.{Format}
 use Rattle.span.specs.Stream.{Request}
-use Rattle.span.specs.Format.{shapeOf, streams, samplesIn, symbolsIn}
+use Rattle.span.specs.Format.{isKnown, shapeOf, streams, samplesIn, symbolsIn}
 use Rattle.span.specs.Encoding.{afterRun}
 use Rattle.span.specs.Numbers.{IsFormat, Symbols}
 use Rattle.span.specs.declared.content.ContentBytes.{ContentBytes}
@@ -49,16 +51,18 @@ use Rattle.boundary.specs.Numbers.{disparityFrom, formatGiven, numberIn}
 use Rattle.character_answers.specs.Characters.{decodeAnswerOf}
 use Rattle.character_answers.proofs.Laws.{character-answers-laws}
 use Rattle.word_answers.specs.Words.{lineWordsAnswerOf, readLineWordsAnswerOf, repairAnswerOf, crccAnswerOf}
+use Rattle.word_answers.proofs.Laws.{word-answers-laws}
 use Rattle.picture_answers.specs.Pictures.{placeAnswerOf, wayBackAnswerOf}
 use Rattle.span_answers.specs.Spans.{valuesOf, lengthsAnswerOf, sendAnswerOf, readAnswerOf}
 use Rattle.recording_answers.specs.Recordings.{findAnswerOf, nextAnswerOf}
 use Rattle.demands.specs.Rules.{decodeRules, lineWordsRules, readLineWordsRules, repairRules, crccRules, placeRules, backRules, splitRules, joinRules, lengthsRules, sendRules, fillRules, readRules, judgeRules, findRules, nextRules}
 use Rattle.demands.proofs.Delivering.{known-asked}
-use Rattle.demands.proofs.Demands.{demand-1, demand-2}
+use Rattle.demands.proofs.Demands.{demand-1, demand-2, demand-3}
 use Rattle.demands.proofs.Sendings.{row-holds}
 use Rattle.window.proofs.Accepting.{row-passed}
 use Rattle.demands.proofs.Refusing.{known-says, symbols-say, samples-say}
-use Rattle.face.specs.Face.{Told, SentFrom, Stands, Face}
+use Rattle.face.specs.Face.{Told, SentFrom, AddUp, Stands, Face}
+use Rattle.face.proofs.Repaired.{bit-told, no-bit-told, refused-bit}
 use Rattle.face.proofs.Telling.{Numbered, crosses, crosses-placed, good-by-number}
 
 -- a disparity as a bool, and the values of a span
@@ -67,6 +71,20 @@ says = boundary-laws .back
 
 values : (d : Delivery) → AreValues (valuesOf d) d
 values = span-answers-laws .values
+
+-- the repairs of the twelve bits are together all repairs
+module _ (f : Format) (w : List ℕ) (d : Delivery) where
+  add-up : deliveryOf f w ≡ d → AddUp (valuesOf d)
+  add-up e = subst (λ (x : Delivery). AddUp (valuesOf x)) e (demand-2 .windows .addUp f w)
+
+  abbrev before20 : List Row
+  before20 = unless 1 (isKnown f) ∷ unless 3 (eqb (length w) (symbolsIn (shapeOf f))) ∷ []
+
+  judge-adds-up : judgeOf f w ≡ given d → AddUp (valuesOf d)
+  judge-adds-up e = add-up (given-is (before20 ++ spanTests f w) (deliveryOf f w) d e)
+
+  read-adds-up : (room : ℕ) → readOf f w room ≡ given d → AddUp (valuesOf d)
+  read-adds-up room e = add-up (given-is (before20 ++ (unless 4 (eqb room (samplesIn (shapeOf f))) ∷ spanTests f w)) (deliveryOf f w) d e)
 
 -- a span that is found, or none, is no refusal
 found-good : (o : Option ℕ) → findAnswerOf (given o) .number ≡ 0
@@ -228,6 +246,11 @@ face = record {
       crosses repairAnswerOf (λ a. a .number) (λ n p. refl) (λ a. refl) (repairOf word) (repairRules word) (refl, (refl, tt))
       (demand-1 .repair word);
   repair = λ word r e. rw e (refl, refl);
+  repairRight = word-answers-laws .rightAnswered;
+  repairWrong = word-answers-laws .wrongAnswered;
+  repairBit = bit-told;
+  repairNoBit = no-bit-told;
+  repairRefused = λ word n. refused-bit (repairOf word) n;
   crccTold = λ words.
       crosses crccAnswerOf (λ a. a .number) (λ n p. refl) (λ a. refl) (crccOf words) (crccRules words) (refl, tt)
       (demand-1 .crcc words);
@@ -285,12 +308,12 @@ face = record {
       crosses-placed readAnswerOf (λ a. a .number) (λ n p. refl) (λ a. refl) (λ a. a .place) (λ n p. refl) (λ a. refl) (readOf (formatGiven format) symbols (length rows))
       (readRules (formatGiven format) symbols (length rows))
       (demand-1 .read (formatGiven format) symbols rows .0);
-  read = λ format symbols rows d e. rw e (values d);
+  read = λ format symbols rows d e. rw e (values d, read-adds-up (formatGiven format) symbols d (length rows) e);
   judgeTold = λ format symbols.
       crosses-placed readAnswerOf (λ a. a .number) (λ n p. refl) (λ a. refl) (λ a. a .place) (λ n p. refl) (λ a. refl) (judgeOf (formatGiven format) symbols)
       (judgeRules (formatGiven format) symbols)
       (demand-1 .judge (formatGiven format) symbols);
-  judge = λ format symbols d e. rw e (values d);
+  judge = λ format symbols d e. rw e (values d, judge-adds-up (formatGiven format) symbols d e);
   findTold = λ format symbols start.
       crosses findAnswerOf (λ a. a .number) (λ n p. refl) found-good (findOf (formatGiven format) symbols start)
       (findRules (formatGiven format) symbols start) (refl, (refl, (refl, tt)))
@@ -302,7 +325,11 @@ face = record {
       let resume = afterNext f symbols start (length rows) in
       crosses (λ r. nextAnswerOf r resume) (λ a. a .number) (λ n p. refl) (next-good resume) (nextOf f symbols start (length rows))
       (nextRules f symbols start (length rows)) (refl, (refl, (refl, (refl, tt)))) (demand-1 .next f symbols start rows);
-  nextAt = λ format symbols start rows s e. rw e (refl, refl, values (s .delivery));
+  nextAt = λ format symbols start rows s e.
+      let f = formatGiven format in
+      let w = take (symbolsIn (shapeOf f)) (drop (s .place) symbols) in
+      let (_, read, _) = demand-3 .nextIs f symbols start rows s e in
+      rw e (refl, refl, values (s .delivery), read-adds-up f w (s .delivery) (length rows) read);
   nextNone = λ format symbols start rows e. rw e refl;
   nextKept = λ format symbols start rows n e long. kept-told (formatGiven format) symbols start rows e n long;
   nextRows = λ format symbols start rows. rows-after (formatGiven format) symbols start rows _ refl;

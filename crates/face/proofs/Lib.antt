@@ -1,2 +1,3 @@
 pub mod Face
+pub mod Repaired
 pub mod Telling

@@ -9,6 +9,7 @@ use mathlib.Core.Logic.{_⊎_}
 use mathlib.Core.Option.{none, some}
 use lib.ListN.{length, getD, take, drop}
 use Rattle.ground.specs.Answer.{given}
+use Rattle.ground.specs.Bit.{inverted}
 use Rattle.boundary.specs.declared.numbers.FormatNumbers.{FormatNumbers}
 use Rattle.boundary.specs.declared.numbers.PictureLineNumber.{PictureLineNumber}
 use Rattle.boundary.specs.declared.numbers.SendRequest.{SendRequest}
@@ -21,6 +22,7 @@ use Rattle.symbol.specs.declared.disparity.Disparity.the-variants.{Negative, Po
 use Rattle.symbol.specs.Code.{symbolOf, afterOf}
 use Rattle.word.specs.LineNumber.{ln0, ln1}
 use Rattle.word.specs.Repair.{repairOf}
+use Rattle.word.specs.Timing.{timing}
 use Rattle.word.specs.declared.repair.Repaired.{Repaired}
 use Rattle.crcc.specs.Crcc.{crc, crccWords, crccOf}
 use Rattle.dividing.specs.Row.{divided, joined, splitOf, joinOf}
@@ -41,6 +43,7 @@ use Rattle.window.specs.Read.{judgeOf, readOf, pictureOf}
 use Rattle.recording.specs.declared.answer.Spanned.{Spanned}
 use Rattle.recording.specs.Call.{findOf, nextOf, afterNext}
 use Rattle.span_answers.specs.declared.spans.SendAnswer.{SendAnswer}
+use Rattle.span_answers.specs.declared.spans.Values.{Values}
 use Rattle.demands.specs.Form.{Refusal, rule, Lent, Rows}
 use Rattle.demands.specs.Rules.{repairRules, readLineWordsRules, crccRules, backRules, splitRules, joinRules, fillRules, sendRules, judgeRules, readRules, findRules, nextRules}
 use Rattle.face.specs.Refusals.{RefusalNumbers}
@@ -71,14 +74,20 @@ pub record SentFrom (d : Disparity) (f : Format) (a : Request) (answer : SendAns
   pub after : answer .number ≡ 0 → Says (answer .«positive_after») (spanAfter d f a)
   pub untouched : (answer .number ≡ 0 → ⊥) → exit ≡ entry
 
+-- the repairs of the twelve bits of a delivery are together all its repairs
+abbrev pub AddUp : Values → Type 0
+AddUp v =
+    let c = v .«repairs_of_bit» in
+    c .b0 + c .b1 + c .b2 + c .b3 + c .b4 + c .b5 + c .b6 + c .b7 + c .b8 + c .b9 + c .b10 + c .b11 ≡ v .repairs
+
 -- symbol i is the symbol of byte c, at one of the two disparities
 abbrev pub Stands : List ℕ → ℕ → ℕ → Type 0
 Stands r i c = (d : Disparity) × (getD r i 0 ≡ symbolOf d c)
 
 pub record Face : Type 1 where
   pub crossing : BoundaryLaws
-  -- the interface that the header's number is compared with: 2, and in it release 0
-  pub version : version·answer ≡ 2 * 65536 + 0
+  -- the interface that the header's number is compared with: 3, and in it release 0
+  pub version : version·answer ≡ 3 * 65536 + 0
   -- which number is which refusal, by the names that the library's answers have
   pub refusals : RefusalNumbers
   -- ---- the code: true is positive, a character is its number
@@ -117,6 +126,20 @@ pub record Face : Type 1 where
       (word : ℕ) (r : Repaired)
       → repairOf word ≡ given r
       → (repair·answer word .word ≡ r .word) × (repair·answer word .distance ≡ r .distance)
+  -- the bit, from 0 to 11: inverted in the given word it gives the answered word; and 12 where none was wrong, and in every refusal
+  pub repairRight : (v h : Bool) → repair·answer (timing v h) ≡ record { number = 0; word = timing v h; distance = 0; bit = 12 }
+  pub repairWrong :
+      (v h : Bool) (k : ℕ)
+      → k < 12
+      → repair·answer (inverted k (timing v h)) ≡ record { number = 0; word = timing v h; distance = 1; bit = k }
+  pub repairBit :
+      (word : ℕ)
+      → repair·answer word .number ≡ 0
+      → repair·answer word .bit < 12
+      → inverted (repair·answer word .bit) word ≡ repair·answer word .word
+  pub repairNoBit :
+      (word : ℕ) → repair·answer word .number ≡ 0 → 12 ≤ repair·answer word .bit → word ≡ repair·answer word .word
+  pub repairRefused : (word : ℕ) → (repair·answer word .number ≡ 0 → ⊥) → repair·answer word .bit ≡ 12
   pub crccTold : (words : List ℕ) → Told (crcc·answer words .number) 0 (crccRules words)
   pub crcc :
       (words : List ℕ) (c : ℕ)
@@ -213,7 +236,7 @@ pub record Face : Type 1 where
   pub read :
       (format : FormatNumbers) (symbols rows : List ℕ) (d : Delivery)
       → readOf (formatGiven format) symbols (length rows) ≡ given d
-      → AreValues (read·answer format symbols rows .delivery) d
+      → AreValues (read·answer format symbols rows .delivery) d × AddUp (read·answer format symbols rows .delivery)
   pub judgeTold :
       (format : FormatNumbers) (symbols : List ℕ)
       → let a = judge·answer format symbols in
@@ -221,7 +244,7 @@ pub record Face : Type 1 where
   pub judge :
       (format : FormatNumbers) (symbols : List ℕ) (d : Delivery)
       → judgeOf (formatGiven format) symbols ≡ given d
-      → AreValues (judge·answer format symbols .delivery) d
+      → AreValues (judge·answer format symbols .delivery) d × AddUp (judge·answer format symbols .delivery)
   -- ---- recordings: whether there is a span is `found`, since place 0 is a place
   pub findTold :
       (format : FormatNumbers) (symbols : List ℕ) (start : ℕ)
@@ -242,7 +265,7 @@ pub record Face : Type 1 where
       → let f = formatGiven format in
       let a = next·answer format symbols start rows in
       nextOf f symbols start (length rows) ≡ given (some s)
-      → (a .found ≡ true) × (a .place ≡ s .place) × AreValues (a .delivery) (s .delivery)
+      → (a .found ≡ true) × (a .place ≡ s .place) × AreValues (a .delivery) (s .delivery) × AddUp (a .delivery)
   pub nextNone :
       (format : FormatNumbers) (symbols : List ℕ) (start : ℕ) (rows : List ℕ)
       → nextOf (formatGiven format) symbols start (length rows) ≡ given none

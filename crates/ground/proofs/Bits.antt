@@ -1,13 +1,23 @@
--- A number with one bit inverted.
+-- The bits of a number, and a number with one bit inverted.
 -- Assumes nothing.
-use mathlib.Core.Path.{_≡_, refl, ap}
+use mathlib.Core.Path.{_≡_, refl, sym, ap, _∙_}
 use Prim.Native.Nat.{ℕ, zero, suc, _+_, _-_, _*_, _/_, _%_, _^_, _<_}
-use native.Mathlib.Nat.{not-suc-le-zero, le-of-suc-le-suc, pow-suc}
+use native.Mathlib.Nat.{not-suc-le-zero, le-of-suc-le-suc, pow-suc, pow-succ', div-div-eq-div-mul}
 use native.Mathlib.Omega.{arith}
 use native.Mathlib.Numerals.{add-one}
 use lib.Count.{onesIn}
 use lib.Pow.{mod-pow-add}
-use Rattle.ground.specs.Bit.{inverted}
+use Rattle.ground.specs.Bit.{bitIn, inverted}
+
+-- Bit k + 1 of a number is bit k of its half, and 0 has no bit that is 1.
+pub bit-of-half : (k n : ℕ) → bitIn (suc k) n ≡ bitIn k (n / 2)
+unfolding bitIn
+bit-of-half k n = ap (λ (x : ℕ). x % 2) (ap (λ (x : ℕ). n / x) (pow-succ' 2 k) ∙ sym (div-div-eq-div-mul n 2 (2 ^ k)))
+
+pub no-bit : (k : ℕ) → bitIn k 0 ≡ 0
+unfolding bitIn
+no-bit zero = refl
+no-bit (suc k) = bit-of-half k 0 ∙ no-bit k
 
 -- Inverting the lowest bit keeps the rest, and inverting another keeps the lowest.
 lowest-rest : (n : ℕ) → inverted 0 n / 2 ≡ n / 2

@@ -1,7 +1,11 @@
 -- One bit of a number, counted from the lowest, which is bit 0.
 -- Assumes nothing.
 use mathlib.Core.Bool.{Bool, cond}
-use Prim.Native.Nat.{ℕ, zero, suc, _+_, _-_, _*_, _/_, _%_}
+use Prim.Native.Nat.{ℕ, zero, suc, _+_, _-_, _*_, _/_, _%_, _^_}
+
+-- bit k of a number: 0 or 1
+unfoldable pub bitIn : ℕ → ℕ → ℕ
+bitIn k n = n / 2 ^ k % 2
 
 -- the number with bit k inverted
 unfoldable pub inverted : ℕ → ℕ → ℕ

@@ -30,5 +30,5 @@ module _ (input : List ℕ) where
       ap₂ (λ (low high : ℕ). repairLine k (low + high * 256)) (getD-take 65536 input (2 * k) 0 (omega arith))
       (getD-take 65536 input (2 * k + 1) 0 (omega arith)))
 
-  pub fits : length (repairListing input) ≤ 622592
+  pub fits : length (repairListing input) ≤ 688128
   fits = omega (arith, listed-most input (wordCount (length input)) (omega arith))

@@ -18,37 +18,55 @@ use Rattle.ground.proofs.Writing.{upto-more}
 use Rattle.text.specs.Number.{decimal, hexadecimal}
 use Rattle.text.specs.Words.{wordInBytes}
 use Rattle.text.proofs.Numbers.{length-digits, places-below, places-most-16}
+use Rattle.word.specs.declared.repair.WrongBit.{WrongBit}
+use Rattle.word.specs.declared.repair.WrongBit.the-variants.{Nothing, Bit}
 use Rattle.word.specs.declared.repair.Repaired.{Repaired}
-use Rattle.word.specs.Repair.{distance, legalWord, near, nearest, repairOf}
+use Rattle.word.specs.Repair.{distance, legalWord, near, nearest, repairedTo, repairOf}
 use Rattle.word.specs.Word.{isWord}
-use Rattle.list_repairs.specs.Text.{outcome, repairLine, repairLines}
+use Rattle.word.proofs.WrongWords.{bit-answered}
+use Rattle.list_repairs.specs.Text.{bitText, outcome, repairLine, repairLines}
 
 -- how far a word was from the one it is repaired to
-abbrev pub distanceIn : Answer Repaired → ℕ
+abbrev distanceIn : Answer Repaired → ℕ
 distanceIn (given r) = r .distance
 distanceIn (refused number place) = 0
 
 -- at most one bit
 near-if : (w : ℕ) (b : Bool) (o : Option ℕ) → ((k : ℕ) → o ≡ some k → distance w (legalWord k) ≤ 1)
-    → distanceIn
-    (checked (unless 7 b ∷ unless 8 (isSome o) ∷ [])
-    (record { word = legalWord (Option·getD o 0); distance = distance w (legalWord (Option·getD o 0)) })) ≤ 1
+    → distanceIn (checked (unless 7 b ∷ unless 8 (isSome o) ∷ []) (repairedTo w (legalWord (Option·getD o 0)))) ≤ 1
 near-if w false o h = omega arith
 near-if w true none h = omega arith
 near-if w true (some k) h = h k refl
 
-pub near-enough : (w : ℕ) → distanceIn (repairOf w) ≤ 1
+near-enough : (w : ℕ) → distanceIn (repairOf w) ≤ 1
 unfolding nearest
 near-enough w = near-if w (isWord w) (nearest w) (λ k e. leb-true (distance w (legalWord k)) 1 (hit (near w) 4 k e .holds))
 
 pub index-most : (n : ℕ) → n < 65536 → length (decimal n) ≤ 5
 index-most n h = rw length-digits (places-most-16 n h)
 
-pub one-digit : (n : ℕ) → n ≤ 1 → length (decimal n) ≤ 1
+one-digit : (n : ℕ) → n ≤ 1 → length (decimal n) ≤ 1
 one-digit n h = rw length-digits (places-below n 1 (omega arith) (omega arith))
 
-outcome-most : (a : Answer Repaired) → distanceIn a ≤ 1 → length (outcome a) ≤ 8
-outcome-most (given r) h = rw length-append (omega (arith, one-digit (r .distance) h))
+-- a bit below 12 has two digits at most
+bit-most : (b : WrongBit) → ((k : ℕ) → b ≡ Bit k → k < 12) → length (bitText b) ≤ 2
+bit-most Nothing h = omega arith
+bit-most (Bit k) h = rw length-digits (places-below k 2 (omega arith) (omega (arith, h k refl)))
+
+-- what is printed of a word that was repaired: one digit for the distance, and at most two for the bit
+pub record Short (r : Repaired) : Type 0 where
+  pub distance : length (decimal (r .distance)) ≤ 1
+  pub bit : length (bitText (r .bit)) ≤ 2
+
+pub is-short : (w : ℕ) (r : Repaired) → repairOf w ≡ given r → Short r
+is-short w r e =
+    record {
+      distance = one-digit (r .distance) (rw e at (near-enough w));
+      bit = bit-most (r .bit) (λ k q. bit-answered w r e k q .0);
+    }
+
+outcome-most : (a : Answer Repaired) → ((r : Repaired) → a ≡ given r → Short r) → length (outcome a) ≤ 10
+outcome-most (given r) h = let s = h r refl in simp length-append (omega (arith, s .distance, s .bit))
 outcome-most (refused number place) h = omega arith
 
 -- what stands before it in its line
@@ -58,10 +76,10 @@ lineStart index w = decimal index ++ (32 ∷ []) ++ hexadecimal w ++ (32 ∷ [])
 pub start-most : (index w : ℕ) → index < 65536 → length (lineStart index w) ≤ 11
 start-most index w h = simp length-append (omega (arith, index-most index h))
 
-pub line-most : (index w : ℕ) → index < 65536 → length (repairLine index w) ≤ 19
+pub line-most : (index w : ℕ) → index < 65536 → length (repairLine index w) ≤ 21
 line-most index w h =
     rw (length-append (lineStart index w) (outcome (repairOf w)))
-    (omega (arith, start-most index w h, outcome-most (repairOf w) (near-enough w)))
+    (omega (arith, start-most index w h, outcome-most (repairOf w) (is-short w)))
 
 -- ---- one line after the other
 
@@ -78,7 +96,7 @@ module _ (input : List ℕ) where
       let g : Put out out₁ at end (repairLine index w) = record { written = written; ends = ends } in
       put-as (sym (upto-more i (λ k. repairLine k (wordInBytes input k)))) (then f (put-as (ap₂ repairLine p q) g))
 
-  pub listed-most : (i : ℕ) → i ≤ 32768 → length (repairLines input i) ≤ 19 * i
+  pub listed-most : (i : ℕ) → i ≤ 32768 → length (repairLines input i) ≤ 21 * i
   unfolding upto
   listed-most zero h = omega arith
   listed-most (suc i) h =

@@ -8,6 +8,8 @@ use Rattle.ground.specs.Written.{upto}
 use Rattle.text.specs.Number.{decimal, hexadecimal}
 use Rattle.text.specs.Put.{space, newline}
 use Rattle.text.specs.Words.{wordInBytes, countOf}
+use Rattle.word.specs.declared.repair.WrongBit.{WrongBit}
+use Rattle.word.specs.declared.repair.WrongBit.the-variants.{Nothing, Bit}
 use Rattle.word.specs.declared.repair.Repaired.{Repaired}
 use Rattle.word.specs.Repair.{repairOf}
 
@@ -15,9 +17,14 @@ use Rattle.word.specs.Repair.{repairOf}
 abbrev pub refusedLine : List ℕ
 refusedLine = 114 ∷ 101 ∷ 102 ∷ 117 ∷ 115 ∷ 101 ∷ 100 ∷ newline ∷ []
 
--- the repaired word and the distance, or "refused"
+-- the wrong bit, or "-"
+abbrev pub bitText : WrongBit → List ℕ
+bitText Nothing = 45 ∷ []
+bitText (Bit k) = decimal k
+
+-- the repaired word, the distance and the wrong bit, or "refused"
 abbrev pub outcome : Answer Repaired → List ℕ
-outcome (given r) = hexadecimal (r .word) ++ (space ∷ []) ++ decimal (r .distance) ++ (newline ∷ [])
+outcome (given r) = hexadecimal (r .word) ++ (space ∷ []) ++ decimal (r .distance) ++ (space ∷ []) ++ bitText (r .bit) ++ (newline ∷ [])
 outcome (refused number place) = refusedLine
 
 -- index, word, and its outcome

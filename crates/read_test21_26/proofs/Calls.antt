@@ -22,9 +22,10 @@ use Rattle.span.specs.Inside.Layout.{eavSymbol}
 use Rattle.span.proofs.Formats.{small}
 use Rattle.span.proofs.Lengths.{known-has-streams}
 use Rattle.crcc.specs.declared.sums.Sums.{Sums}
+use Rattle.window.specs.declared.delivery.Repairs.{Repairs}
 use Rattle.window.specs.Read.{contentIn, repairsOf}
 use Rattle.window.specs.Scan.{byteOf, symbolAt}
-use Rattle.window.specs.Tests.{named, nextLine, lineRead, repairCount}
+use Rattle.window.specs.Tests.{named, nextLine, lineRead, repairCount, repairsAt}
 use Rattle.window.specs.Words.{wordAt}
 use Rattle.window.specs.Inside.Given.{Given}
 use Rattle.read_test21_26.specs.declared.call.Lowest.{Lowest}
@@ -57,8 +58,9 @@ module _ (p : Shape) (w : List ℕ) {x1 x2 x3 x4 : ℕ} where
 
 -- ---- the answers
 module _ (p : Shape) (w : List ℕ) where
-  pub service-is : {l m : StreamLine} {r : ℕ} {b : ContentBytes} → some (m .0) ≡ named (streams p) (wordAt p w) → l .0 ≡ lineBefore (m .0)
-      → b ≡ contentIn p w → r ≡ repairCount (streams p) (wordAt p w) → record { line = l; content = b; repairs = repairsOf r } ≡ serviceOf p w
+  pub service-is : {l m : StreamLine} {r : Repairs} {b : ContentBytes} → some (m .0) ≡ named (streams p) (wordAt p w) → l .0 ≡ lineBefore (m .0)
+      → b ≡ contentIn p w → r ≡ repairsOf (repairCount (streams p) (wordAt p w)) (repairsAt (streams p) (wordAt p w))
+      → record { line = l; content = b; repairs = r } ≡ serviceOf p w
   unfolding lineRead nextLine
   service-is {l} {m} {r} {b} named-is el eb er =
       let line : l .0 ≡ lineRead (streams p) (wordAt p w) =

@@ -4,6 +4,7 @@ pub mod InTurn
 pub mod Numbers
 pub mod Reading
 pub mod Regions
+pub mod Repairing
 pub mod Searching
 pub mod Sizes
 pub mod Tests

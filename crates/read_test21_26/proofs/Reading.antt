@@ -4,7 +4,6 @@ use mathlib.Core.Path.{_≡_, refl, sym, ap, _∙_}
 use mathlib.Core.List.{List}
 use mathlib.Core.Option.{Option, none, some, Option·getD}
 use Prim.Native.Nat.{ℕ, zero, suc, _+_, _*_, _/_, _%_, _≤_, _<_}
-use native.Mathlib.Numerals.{add-one}
 use native.Mathlib.Omega.{arith}
 use borrow.Author.Tests.{lt-ltb, eq-eqb, ne-eqb}
 use Rattle.ground.specs.Answer.{Answer, refused, given}
@@ -20,8 +19,8 @@ use Rattle.crcc.specs.Crcc.{crc, crcWord, crccWords}
 use Rattle.word.specs.declared.line_number.Named.{Named}
 use Rattle.word.specs.declared.line_number.Named.the-variants.{Line, Above4095, Nameless}
 use Rattle.word.specs.LineNumber.{lineOf, namedOf, paperNamed}
-use Rattle.window.specs.Tests.{wordOf, sumOf, named, nextLine, lineRead, repairCount}
-use Rattle.word.specs.Received.{repaired, wrongBits}
+use Rattle.window.specs.Tests.{wordOf, named, nextLine, lineRead}
+use Rattle.word.specs.Received.{repaired}
 use Rattle.window.specs.Words.{fixedByte, byteAt, pairAt, wordAt}
 use Rattle.window.proofs.Bytes.{word-below}
 use Rattle.window.proofs.Encoded.{fixed-two, fixed-four}
@@ -143,23 +142,3 @@ module _ (s : ℕ) (some-streams : 1 ≤ s) (k : ℕ) where
   pub not-first : (j : ℕ) → (k ≡ j * s → ⊥) → k / s ≡ j → k % s ≡ 0 → ⊥
   not-first j x e q =
       x (let z : s * j + 0 ≡ k = rw (e, q) at (place-again s some-streams k) in omega arith)
-
--- ---- wrong bits
-
--- those of word 3 and word 1927 of stream t
-abbrev pub wrongOf : Shape → List ℕ → ℕ → ℕ
-wrongOf p w t = wrongBits (wordOf (streams p) (wordAt p w) 3 t) + wrongBits (wordOf (streams p) (wordAt p w) eavXyz t)
-
-module _ (p : Shape) (w : List ℕ) where
-  pub none-summed : 0 ≡ sumOf 0 (wrongOf p w)
-  unfolding sumOf
-  none-summed = refl
-
-  pub one-more : (i : ℕ) {x y sum : ℕ} → x ≡ wrongBits (wordOf (streams p) (wordAt p w) 3 i)
-      → y ≡ wrongBits (wordOf (streams p) (wordAt p w) eavXyz i) → sum ≡ sumOf i (wrongOf p w) → sum + (x + y) ≡ sumOf (i + 1) (wrongOf p w)
-  unfolding sumOf
-  one-more i e q r = rw (e, q, r, add-one i)
-
-  pub all-summed : sumOf (streams p) (wrongOf p w) ≡ repairCount (streams p) (wordAt p w)
-  unfolding repairCount
-  all-summed = refl

@@ -1,4 +1,5 @@
 pub mod Call
 pub mod Holds
 pub mod Picture
+pub mod Repairs
 pub mod Verdict

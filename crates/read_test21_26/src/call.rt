@@ -33,7 +33,7 @@ fn is_window(f: Format, symbols: usize) -> bool
 }
 
 // What the words outside the picture say where tests 21 to 24 hold: the line whose SAV begins the window, which is the one before the line
-// that stream 1 names; the content bytes; and the number of wrong bits in all timing words.
+// that stream 1 names; the content bytes; and the wrong bits of all timing words.
 pub struct Service {
     pub line: StreamLine,
     pub content: ContentBytes,
@@ -60,9 +60,7 @@ fn served(t: &[u16; 1024], p: Shape, symbols: &[u16], next: Named) -> Judged
             Judged::Serves(Service {
                 line: line::stream::line_before(l),
                 content,
-                repairs: Repairs {
-                    count: crate::holds::wrong_in_all(t, p, symbols),
-                },
+                repairs: crate::repairs::repairs_in(t, p, symbols),
             })
         }
         // Neither is met: test 22 holds, so a line is named.

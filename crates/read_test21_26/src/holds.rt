@@ -12,7 +12,7 @@ ghost use Rattle.crcc.specs.Inside.Sums.{sumIn};
 ghost use Rattle.line.specs.Stream.{vOf, lineBefore};
 ghost use Rattle.span.specs.Format.{streams, pairsIn};
 ghost use Rattle.window.specs.Read.{placed};
-ghost use Rattle.window.specs.Tests.{named, repairCount, holds21, holds22, holds23};
+ghost use Rattle.window.specs.Tests.{named, holds21, holds22, holds23};
 ghost use Rattle.window.specs.Words.{wordAt};
 ghost use Rattle.window.specs.Inside.Given.{Given};
 ghost use Rattle.read_test21_26.specs.Inside.Holds.{lineIn, LineKnown, holds24By, holdsAt, firstWrong, crccReceived};
@@ -237,31 +237,4 @@ pub(crate) fn first_wrong(
         }
     }
     to
-}
-
-// How many bits were wrong in all timing words.
-pub(crate) fn wrong_in_all(t: &[u16; 1024], p: Shape, symbols: &[u16]) -> u8
-    requires { ⌜ Given p (now t) (now symbols) ⌝ }
-    ensures { λ r. ⌜ r ≡ repairCount (streams p) (wordAt p (now (symbols .entry))) ⌝ }
-{
-    let s = 2 * p.stream_pairs;
-    let mut sum = 0;
-    let mut i = 0;
-    while i < s {
-        let sav = word::received::wrong_bits(crate::words::word_at(
-            t,
-            p,
-            symbols,
-            span::layout::SAV_XYZ * s + i,
-        ));
-        let eav = word::received::wrong_bits(crate::words::word_at(
-            t,
-            p,
-            symbols,
-            span::layout::EAV_XYZ * s + i,
-        ));
-        sum = sum + (sav + eav);
-        i += 1;
-    }
-    sum
 }

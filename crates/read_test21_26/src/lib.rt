@@ -3,5 +3,6 @@
 pub mod call;
 mod holds;
 pub mod picture;
+mod repairs;
 pub mod service;
 mod words;

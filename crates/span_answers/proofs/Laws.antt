@@ -16,6 +16,7 @@ span-answers-laws = record {
     before = boundary-laws .back (d .before);
     after = boundary-laws .back (d .after);
     repairs = refl;
+    repairsOfBit = refl;
   };
   readNumber = λ number place. (refl, refl);
   sendNumber = λ number place. (refl, refl);

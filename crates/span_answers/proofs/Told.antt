@@ -14,10 +14,12 @@ use Rattle.request.specs.declared.sent.Sent.the-variants as Sent
 use Rattle.request.specs.Send.{paperSent}
 use Rattle.request.proofs.OneToOne.{sent-one-to-one}
 use Rattle.window.specs.declared.delivery.Delivery.{Delivery}
+use Rattle.window.specs.declared.delivery.RepairsOfBit.{RepairsOfBit}
 use Rattle.read.specs.declared.answer.Read.{Read}
 use Rattle.read.specs.declared.answer.Read.the-variants as Read
 use Rattle.read.specs.Call.{paperRead}
 use Rattle.read.proofs.OneToOne.{read-one-to-one}
+use Rattle.span_answers.specs.declared.spans.BitCounts.{BitCounts}
 use Rattle.span_answers.specs.declared.spans.Values.{Values}
 use Rattle.span_answers.specs.declared.spans.LengthsAnswer.{LengthsAnswer}
 use Rattle.span_answers.specs.declared.spans.SendAnswer.{SendAnswer}
@@ -52,6 +54,23 @@ send-told = through sendAnswerOf sendBack back sent-one-to-one
     back Sent.WrongOutput = refl
     back (Sent.NotAllowed place) = refl
 
+abbrev bitsBack : BitCounts → RepairsOfBit
+bitsBack c =
+    record {
+      b0 = c .b0;
+      b1 = c .b1;
+      b2 = c .b2;
+      b3 = c .b3;
+      b4 = c .b4;
+      b5 = c .b5;
+      b6 = c .b6;
+      b7 = c .b7;
+      b8 = c .b8;
+      b9 = c .b9;
+      b10 = c .b10;
+      b11 = c .b11;
+    }
+
 pub valuesBack : Values → Delivery
 valuesBack v =
     record {
@@ -59,7 +78,7 @@ valuesBack v =
       content = v .content;
       before = disparityFrom (v .«positive_before»);
       after = disparityFrom (v .«positive_after»);
-      repairs = record { count = v .repairs };
+      repairs = record { count = v .repairs; «of_bit» = bitsBack (v .«repairs_of_bit») };
     }
 
 pub values-back : (d : Delivery) → valuesBack (valuesOf d) ≡ d

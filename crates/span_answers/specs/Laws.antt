@@ -3,10 +3,13 @@
 -- Assumes nothing.
 use Prim.Native.Nat.{ℕ}
 use mathlib.Core.Path.{_≡_}
+use mathlib.Core.List.{List, [], _∷_}
 use Rattle.ground.specs.Answer.{refused}
 use Rattle.ground.specs.Inside.Answer.{Injective}
 use Rattle.boundary.specs.Laws.{Says}
 use Rattle.window.specs.declared.delivery.Delivery.{Delivery}
+use Rattle.window.specs.declared.delivery.RepairsOfBit.{RepairsOfBit}
+use Rattle.span_answers.specs.declared.spans.BitCounts.{BitCounts}
 use Rattle.span_answers.specs.declared.spans.Values.{Values}
 use Rattle.span.specs.declared.length.Lengths.{Lengths}
 use Rattle.span.specs.Length.{paperLengths}
@@ -15,6 +18,13 @@ use Rattle.request.specs.Send.{paperSent}
 use Rattle.read.specs.declared.answer.Read.{Read}
 use Rattle.read.specs.Call.{paperRead}
 use Rattle.span_answers.specs.Spans.{valuesOf, lengthsAnswerOf, sendAnswerOf, readAnswerOf}
+
+-- the counts of the twelve bits from the lowest up: in C as they are laid out, and as they are answered
+abbrev pub inC : BitCounts → List ℕ
+inC c = c .b0 ∷ c .b1 ∷ c .b2 ∷ c .b3 ∷ c .b4 ∷ c .b5 ∷ c .b6 ∷ c .b7 ∷ c .b8 ∷ c .b9 ∷ c .b10 ∷ c .b11 ∷ []
+
+abbrev pub inOrder : RepairsOfBit → List ℕ
+inOrder c = c .b0 ∷ c .b1 ∷ c .b2 ∷ c .b3 ∷ c .b4 ∷ c .b5 ∷ c .b6 ∷ c .b7 ∷ c .b8 ∷ c .b9 ∷ c .b10 ∷ c .b11 ∷ []
 
 -- the values of a span field by field: the line, the content bytes in the order SAV 1, SAV 2, EAV 1, EAV 2, true for positive
 pub record AreValues (v : Values) (d : Delivery) : Type 0 where
@@ -26,6 +36,7 @@ pub record AreValues (v : Values) (d : Delivery) : Type 0 where
   pub before : Says (v .«positive_before») (d .before)
   pub after : Says (v .«positive_after») (d .after)
   pub repairs : v .repairs ≡ d .repairs .count
+  pub repairsOfBit : inC (v .«repairs_of_bit») ≡ inOrder (d .repairs .«of_bit»)
 
 pub record SpanAnswersLaws : Type 0 where
   pub values : (d : Delivery) → AreValues (valuesOf d) d

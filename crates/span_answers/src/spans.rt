@@ -5,12 +5,13 @@ use request::sent::Sent;
 use span::content::ContentBytes;
 use span::length::Lengths;
 use window::delivery::Delivery;
+use window::delivery::RepairsOfBit;
 ghost use mathlib.Core.Path.{_≡_};
 ghost use Rattle.ground.specs.Answer.{refused};
 ghost use Rattle.span.specs.Length.{paperLengths};
 ghost use Rattle.request.specs.Send.{paperSent};
 ghost use Rattle.read.specs.Call.{paperRead};
-ghost use Rattle.span_answers.specs.Spans.{valuesOf, noValues as nothing, lengthsAnswerOf, sendAnswerOf, readAnswerOf};
+ghost use Rattle.span_answers.specs.Spans.{bitCountsOf, valuesOf, noCounts, noValues as nothing, lengthsAnswerOf, sendAnswerOf, readAnswerOf};
 
 #[repr(C)]
 pub struct LengthsAnswer {
@@ -26,6 +27,23 @@ pub struct SendAnswer {
     pub place: u64,
 }
 
+// How often each bit of a timing word was repaired, b0 the lowest. In C an array of twelve, which has the same layout.
+#[repr(C)]
+pub struct BitCounts {
+    pub b0: u32,
+    pub b1: u32,
+    pub b2: u32,
+    pub b3: u32,
+    pub b4: u32,
+    pub b5: u32,
+    pub b6: u32,
+    pub b7: u32,
+    pub b8: u32,
+    pub b9: u32,
+    pub b10: u32,
+    pub b11: u32,
+}
+
 // What a span says about itself.
 #[repr(C)]
 pub struct Values {
@@ -34,6 +52,7 @@ pub struct Values {
     pub positive_before: bool,
     pub positive_after: bool,
     pub repairs: u32,
+    pub repairs_of_bit: BitCounts,
 }
 
 #[repr(C)]
@@ -43,18 +62,58 @@ pub struct ReadAnswer {
     pub delivery: Values,
 }
 
+fn bit_counts(c: RepairsOfBit) -> BitCounts
+    ensures { λ r. ⌜ r ≡ bitCountsOf c ⌝ }
+{
+    BitCounts {
+        b0: c.b0 as u32,
+        b1: c.b1 as u32,
+        b2: c.b2 as u32,
+        b3: c.b3 as u32,
+        b4: c.b4 as u32,
+        b5: c.b5 as u32,
+        b6: c.b6 as u32,
+        b7: c.b7 as u32,
+        b8: c.b8 as u32,
+        b9: c.b9 as u32,
+        b10: c.b10 as u32,
+        b11: c.b11 as u32,
+    }
+}
+
 pub fn values_of(d: Delivery) -> Values
     ensures { λ r. ⌜ r ≡ valuesOf d ⌝ }
 {
     let before = d.before;
     let after = d.after;
     let content = d.content;
+    let of_bit = d.repairs.of_bit;
     Values {
         line: boundary::numbers::stream_line_number(d.line),
         content,
         positive_before: boundary::numbers::is_positive(before),
         positive_after: boundary::numbers::is_positive(after),
         repairs: d.repairs.count as u32,
+        repairs_of_bit: bit_counts(of_bit),
+    }
+}
+
+fn no_counts() -> BitCounts
+    ensures { λ r. ⌜ r ≡ noCounts ⌝ }
+{
+    BitCounts {
+        b0: 0,
+        b1: 0,
+        b2: 0,
+        b3: 0,
+        b4: 0,
+        b5: 0,
+        b6: 0,
+        b7: 0,
+        b8: 0,
+        b9: 0,
+        b10: 0,
+        b11: 0,
     }
 }
 
@@ -74,6 +133,7 @@ pub fn no_values() -> Values
         positive_before: false,
         positive_after: false,
         repairs: 0,
+        repairs_of_bit: no_counts(),
     }
 }
 

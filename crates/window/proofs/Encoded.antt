@@ -30,10 +30,11 @@ use Rattle.span.proofs.Interleaving.{length-interleaved, interleaved-at}
 use Rattle.span.proofs.Lengths.{known-has-streams}
 use Rattle.span.proofs.Packing.{length-bytes, byte-at}
 use Rattle.window.specs.declared.delivery.Delivery.{Delivery}
+use Rattle.window.specs.declared.delivery.Repairs.{Repairs}
 use Rattle.window.specs.Encoded.{charsOf, Encodes, wordIn}
 use Rattle.window.specs.Read.{placed, wordTests, spanTests, contentIn, deliveryOf, pictureOf, readSpan, repairsOf}
 use Rattle.window.specs.Scan.{meant, byteOf, symbolAt, startOf, runningAt, holds20}
-use Rattle.window.specs.Tests.{holds21, lineRead, repairCount, rows}
+use Rattle.window.specs.Tests.{holds21, lineRead, repairCount, repairsAt, rows}
 use Rattle.window.specs.Words.{fixedByte, byteAt, pairAt, wordAt}
 use Rattle.window.specs.Inside.Encoded.{Restored, answered}
 use Rattle.window.proofs.Accepting.{none-fails, passes}
@@ -74,10 +75,10 @@ same-content :
 same-content p q r s = rw (p, q, r, s)
 
 same-delivery :
-    {l l' n n' : ℕ} {c c' : ContentBytes} {b b' a a' : Disparity} → l ≡ l' → c ≡ c' → b ≡ b' → a ≡ a' → n ≡ n'
+    {l l' : ℕ} {c c' : ContentBytes} {b b' a a' : Disparity} {n n' : Repairs} → l ≡ l' → c ≡ c' → b ≡ b' → a ≡ a' → n ≡ n'
     → _≡_ {A = Delivery}
-    (record { line = record { 0 = l }; content = c; before = b; after = a; repairs = repairsOf n })
-    (record { line = record { 0 = l' }; content = c'; before = b'; after = a'; repairs = repairsOf n' })
+    (record { line = record { 0 = l }; content = c; before = b; after = a; repairs = n })
+    (record { line = record { 0 = l' }; content = c'; before = b'; after = a'; repairs = n' })
 same-delivery p q r s t = rw (p, q, r, s, t)
 
 module _ (f : Format) (known : isKnown f ≡ true) (w : List ℕ) (d : Disparity) (c : ContentBytes) (words : List ℕ)
@@ -349,7 +350,7 @@ module _ (f : Format) (known : isKnown f ≡ true) (w : List ℕ) (d : Disparity
         (encoded-content f known w d c words e)
         (encoded-start f known w d c words e)
         (encoded-after f known w d c words e)
-        (ap (repairCount (streams (shapeOf f))) same)
+        (ap (λ (word : ℕ → ℕ). repairsOf (repairCount (streams (shapeOf f)) word) (repairsAt (streams (shapeOf f)) word)) same)
 
     -- and so is the reading of the window
     pub encoded-read : readSpan f w ≡ checked (wordTests f (wordIn words)) (answered f d c words)

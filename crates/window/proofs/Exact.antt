@@ -25,9 +25,9 @@ use Rattle.window.specs.Encoded.{charsOf, Encodes, wordIn, wordsOf, Meet
 use Rattle.window.specs.Read.{contentIn, repairsOf, pictureOf, readSpan}
 use Rattle.window.specs.Rules.{Names, Follows}
 use Rattle.window.specs.Scan.{meant, byteOf, symbolAt, startOf}
-use Rattle.window.specs.Tests.{sumOf, repairCount, rows}
+use Rattle.window.specs.Tests.{sumOf, repairCount, repairsAt, rows}
 use Rattle.window.specs.Words.{wordAt}
-use Rattle.word.specs.Received.{wrongBits}
+use Rattle.word.specs.Received.{wrongBits, bitWrong}
 use Rattle.window.specs.Inside.Encoded.{Restored, Passes, answered}
 use Rattle.window.proofs.Accepting.{Accepted, accepted-told, passes-given}
 use Rattle.window.proofs.Bytes.{byte-sav, byte-eav, byte-else, word-below, byte-again}
@@ -146,7 +146,7 @@ module _ (f : Format) (w : List ℕ) (known : isKnown f ≡ true) (long : length
 
 module _ (f : Format) (w : List ℕ) (known : isKnown f ≡ true) where
   -- what is answered: the line before the one that stream 1 names, the content bytes and disparities of the encoding, the wrong bits of all
-  -- XYZ together; and the picture words
+  -- XYZ together and bit by bit; and the picture words
   pub exact-read : (d : Disparity) (c : ContentBytes) (words : List ℕ) → Encodes f w d c words → Meets f (wordIn words)
       → (m n : ℕ) → Names (wordsOf f (wordIn words)) m → Follows n m
       → let s = streams (shapeOf f) in
@@ -157,10 +157,12 @@ module _ (f : Format) (w : List ℕ) (known : isKnown f ≡ true) where
         content = c;
         before = d;
         after = afterRun d (charsOf (shapeOf f) c words);
-        repairs = repairsOf (sumOf s (λ t. wrongBits (word 3 t) + wrongBits (word 1927 t)));
+        repairs =
+            repairsOf (sumOf s (λ t. wrongBits (word 3 t) + wrongBits (word 1927 t)))
+            (λ b. sumOf s (λ t. bitWrong b (word 3 t) + bitWrong b (word 1927 t)));
       }))
       × (pictureOf f w ≡ upto s (λ t. table 1920 (λ i. word (4 + i) t)))
-  unfolding repairCount rows
+  unfolding repairCount repairsAt rows
   exact-read d c words e meets m n names follows =
       let word = wordIn words in
       let passes = meets-passes f known word meets in

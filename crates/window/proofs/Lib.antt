@@ -25,6 +25,7 @@ pub mod Scanning
 pub mod Sent
 pub mod SentAgain
 pub mod Specials
+pub mod Sums
 pub mod Symbols
 pub mod TimingWords
 pub mod Windows

@@ -3,11 +3,11 @@
 use mathlib.Core.Path.{_≡_, sym, ap, _∙_}
 use mathlib.Core.Bool.{Bool, true, false}
 use mathlib.Core.Option.{Option·getD}
-use Prim.Native.Nat.{ℕ, zero, suc, _+_, _-_, _*_, _/_, _%_, _≤_, _<_}
+use Prim.Native.Nat.{ℕ, _+_, _-_, _*_, _/_, _%_, _≤_, _<_}
 use native.Mathlib.Nat.{le-div-iff-mul-le}
 use native.Mathlib.Omega.{arith}
 use lib.Dec.{eqb}
-use borrow.Author.Tests.{le-ltb, eqb-true, eqb-false}
+use borrow.Author.Tests.{le-ltb, eqb-true}
 use Rattle.ground.specs.Range.{within}
 use Rattle.ground.specs.Search.{isSome}
 use Rattle.ground.proofs.Cases.{on-test}
@@ -31,6 +31,7 @@ use Rattle.window.specs.Inside.Encoded.{Passes}
 use Rattle.window.proofs.Nearest.{same-told, near-read, repaired-is, whole-timing}
 use Rattle.window.proofs.Placing.{place-again, at-word, in-span}
 use Rattle.window.proofs.Symbols.{some-told}
+use Rattle.window.proofs.Sums.{parts-zero}
 
 -- a test that holds at all places holds at word j of stream t
 module _ (f : Format) (t : ℕ) (l : t < streams (shapeOf f)) (holds : ℕ → ℕ → Bool)
@@ -108,14 +109,6 @@ module _ (f : Format) (word : ℕ → ℕ) (m : Passes f word) (l : 0 < streams 
       at (eqb-true (word (s * (k / s) + k % s)) fillWord (rw (le-ltb (k / s) (ancillaryStart + shapeOf f .ancillary) past) at (m .fill k h)))
 
 -- ---- 22 to 25 at stream t
-
--- where a sum is 0, every part of it is
-parts-zero : (n : ℕ) (f : ℕ → ℕ) → sumOf n f ≡ 0 → (t : ℕ) → t < n → f t ≡ 0
-unfolding sumOf
-parts-zero zero f e t h = absurd (omega arith)
-parts-zero (suc n) f e t h =
-    on-test (eqb t n) (λ q. rw (eqb-true t n q) (omega arith))
-    (λ q. parts-zero n f (omega arith) t (let x = eqb-false t n q in omega arith))
 
 module _ (f : Format) (word : ℕ → ℕ) (m : Passes f word) (t : ℕ) (l : t < streams (shapeOf f)) where
   abbrev s : ℕ

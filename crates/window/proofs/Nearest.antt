@@ -8,14 +8,14 @@ use Prim.Native.Nat.{ℕ, _+_, _*_, _/_, _%_, _≤_, _<_}
 use native.Mathlib.Omega.{arith}
 use lib.Dec.{eqb}
 use borrow.Author.Tests.{eqb-true, leb-true, not-true}
-use Rattle.word.specs.Repair.{distance, legalWord, near, nearest}
+use Rattle.word.specs.Repair.{distance, differsAt, legalWord, near, nearest}
 use Rattle.word.specs.Timing.{timing}
 use Rattle.ground.specs.Bit.{bit}
 use Rattle.ground.proofs.Searches.{hit}
 use Rattle.word.proofs.Repairs.{same-word, nearest-is, nearest-none}
 use Rattle.word.proofs.Timings.{timing-below}
 use Rattle.window.specs.Tests.{same}
-use Rattle.word.specs.Received.{hasH, repaired, vIn, wrongBits}
+use Rattle.word.specs.Received.{hasH, repaired, vIn, wrongBits, bitWrong}
 
 -- two tests that agree
 pub same-test : (a b : Bool) → a ≡ b → same a b ≡ true
@@ -62,7 +62,7 @@ module _ (w : ℕ) (v h : Bool) where
     pub other-h : hasH (not h) (nearest w) ≡ false
     other-h = rw found (told v h .not-h)
 
-    -- H and V are those sent, the repaired word too, and the wrong bits are counted
+    -- H and V are those sent, and the repaired word too
     pub near-h : hasH h (nearest w) ≡ true
     near-h = rw found (told v h .h-again)
 
@@ -72,22 +72,22 @@ module _ (w : ℕ) (v h : Bool) where
     pub near-repaired : repaired w ≡ timing v h
     near-repaired = rw found (told v h .legal)
 
-    pub near-wrong : wrongBits w ≡ distance w (timing v h)
-    near-wrong = ap (distance w) near-repaired
-
   -- two wrong bits: none is
   pub none-near : distance w (timing v h) ≡ 2 → nearest w ≡ none
   none-near d = nearest-none w (vh v h) (told v h .below) (rw (told v h .legal) d)
 
 -- the same by the numerals of the legal words
 module _ (w x : ℕ) where
-  near-as : (v h : Bool) → x ≡ timing v h → distance w x ≤ 1 → (repaired w ≡ x) × (wrongBits w ≡ distance w x)
+  abbrev IsRepaired : Type 0
+  IsRepaired = (repaired w ≡ x) × (wrongBits w ≡ distance w x) × ((b : ℕ) → bitWrong b w ≡ differsAt b w x)
+
+  near-as : (v h : Bool) → x ≡ timing v h → distance w x ≤ 1 → IsRepaired
   near-as v h e d =
-      let d' : distance w (timing v h) ≤ 1 = rw e at d in
-      (near-repaired w v h d' ∙ sym e, near-wrong w v h d' ∙ ap (distance w) (sym e))
+      let is : repaired w ≡ x = near-repaired w v h (rw e at d) ∙ sym e in
+      (is, ap (distance w) is, λ b. ap (differsAt b w) is)
 
   pub near-legal : (x ≡ 0x800) ⊎ ((x ≡ 0x9D0) ⊎ ((x ≡ 0xAB0) ⊎ (x ≡ 0xB60))) → distance w x ≤ 1
-      → (repaired w ≡ x) × (wrongBits w ≡ distance w x)
+      → IsRepaired
   unfolding timing
   near-legal =
       ⊎-elim (near-as false false) (⊎-elim (near-as false true) (⊎-elim (near-as true false) (near-as true true)))

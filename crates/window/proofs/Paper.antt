@@ -2,9 +2,10 @@
 -- Assumes nothing.
 use mathlib.Core.Path.{_≡_, sym, ap, _∙_, subst}
 use mathlib.Core.List.{List}
-use Prim.Native.Nat.{ℕ}
+use Prim.Native.Nat.{ℕ, _+_}
 use Rattle.line.specs.Stream.{lineBefore}
 use Rattle.span.specs.declared.format.Format.{Format}
+use Rattle.span.specs.Format.{shapeOf, streams}
 use Rattle.span.specs.Numbers.{IsFormat}
 use Rattle.window.proofs.Accepting.{accepted-told, delivers}
 use native.Mathlib.Omega.{arith}
@@ -16,12 +17,15 @@ use Rattle.window.proofs.Line.{line-answered, all-streams, recital}
 use Rattle.window.proofs.Nearest.{near-legal}
 use Rattle.window.proofs.Rules.{follows-before, some-line}
 use Rattle.window.proofs.SentAgain.{strict}
+use Rattle.window.proofs.Sums.{bits-add-up}
 use Rattle.window.proofs.TimingWords.{two-wrong}
 use Rattle.ground.specs.Answer.{given}
 use Rattle.word.specs.LineNumber.{ln0, ln1}
 use Rattle.word.specs.Word.{guarded}
 use Rattle.window.specs.declared.delivery.Delivery.{Delivery}
-use Rattle.window.specs.Read.{readSpan}
+use Rattle.window.specs.Read.{deliveryOf, readSpan}
+use Rattle.window.specs.Tests.{sumOf}
+use Rattle.window.specs.Words.{wordAt}
 use Rattle.window.specs.Rules.{Names, Follows}
 use Rattle.window.specs.Paper.{wordOfWindow, WindowPaper}
 use Rattle.window.proofs.Numbers.{is-long}
@@ -34,6 +38,14 @@ answered-line f w r k e =
     let (m, from, to, low, high, line) = line-answered f w (is-format f k) (accepted-told f w r e) in
     let same : r .line .0 ≡ lineBefore m = ap (λ (d : Delivery). d .line .0) (delivers f w r e) ∙ line in
     (m, record { first = from; last = to; low = low; high = high }, subst (λ (n : ℕ). Follows n m) (sym same) (follows-before m from to))
+
+-- the twelve counts, one after the other
+add-up : (f : Format) (w : List ℕ)
+    → let r = deliveryOf f w .repairs in
+    let of = r .«of_bit» in
+    of .b0 + of .b1 + of .b2 + of .b3 + of .b4 + of .b5 + of .b6 + of .b7 + of .b8 + of .b9 + of .b10 + of .b11 ≡ r .count
+unfolding deliveryOf sumOf
+add-up f w = omega (arith, bits-add-up (streams (shapeOf f)) (wordAt (shapeOf f) w))
 
 -- 800 and 800 are LN0 of line 128 and LN1 of line 127
 not-800 : (f : Format) (w : List ℕ) (r : Delivery) → IsFormat f → readSpan f w ≡ given r → wordOfWindow f w 1928 0 ≡ 0x800
@@ -57,5 +69,6 @@ window-paper = record {
   wordsEncoded = λ f w d c words k. exact-word f w (is-format f k) d c words;
   beyondRepair = λ f a w d c words k known e h x before. two-wrong f a (is-format f known) words w d c e k x before h;
   nearLegal = near-legal;
+  addUp = add-up;
   strict = λ f w r k e. strict f w (is-format f k) r e;
 }

@@ -6,7 +6,7 @@ use mathlib.Core.Bool.{true, false}
 use mathlib.Core.List.{List}
 use mathlib.Core.Logic.{inl, inr}
 use mathlib.Core.Option.{some}
-use Prim.Native.Nat.{ℕ, zero, suc, _+_, _-_, _*_, _/_, _≤_, _<_}
+use Prim.Native.Nat.{ℕ, _+_, _-_, _*_, _/_, _≤_, _<_}
 use native.Mathlib.Nat.{mul-le-mul-left}
 use native.Mathlib.Omega.{arith}
 use lib.Dec.{eqb, ltb}
@@ -21,7 +21,7 @@ use Rattle.line.specs.Stream.{vOf, lineAfter}
 use Rattle.line.proofs.Lines.{after-is-line, before-after}
 use Rattle.crcc.specs.Crcc.{crccWords}
 use Rattle.word.specs.LineNumber.{ln0, ln1, lineOf}
-use Rattle.word.specs.Repair.{distance}
+use Rattle.word.specs.Repair.{distance, differsAt}
 use Rattle.word.specs.Timing.{timing}
 use Rattle.word.proofs.LineNumbers.{line-again}
 use Rattle.span.specs.declared.format.Format.{Format}
@@ -32,13 +32,14 @@ use Rattle.span.specs.Stream.{Request, picture, register}
 use Rattle.span.specs.Layout.{pictureStart, eavStart, lineStart, crccStart, ancillaryStart, savXyz, eavXyz}
 use Rattle.span.proofs.Lengths.{known-has-streams}
 use Rattle.span.proofs.Places.{wordAt as sentAt, fill-word, sav-words, picture-word, eav-words, line-number-words, crcc-words}
-use Rattle.window.specs.Encoded.{wordIn, IsXyz, Disturbed, wrongAt}
-use Rattle.window.specs.Tests.{sumOf, column, holds21, named, nextLine, lineRead, holds22, holds23, registerOf, holds24, holds25, holds26, repairCount, rows}
-use Rattle.word.specs.Received.{vIn, wrongBits}
+use Rattle.window.specs.Encoded.{wordIn, IsXyz, Disturbed, wrongAt, wrongBitAt}
+use Rattle.window.specs.Tests.{overXyz, column, holds21, named, nextLine, lineRead, holds22, holds23, registerOf, holds24, holds25, holds26, repairCount, repairsAt, rows}
+use Rattle.word.specs.Received.{repaired, vIn}
 use Rattle.window.specs.Inside.Encoded.{Restored, Passes, Sendable}
 use Rattle.window.proofs.Encoded.{restored-words}
-use Rattle.window.proofs.Nearest.{same-test, near-h, near-v, near-repaired, near-wrong}
+use Rattle.window.proofs.Nearest.{same-test, near-h, near-v, near-repaired}
 use Rattle.window.proofs.Placing.{word-of-place, at-place, in-span, four, each-place, each-of-two}
+use Rattle.window.proofs.Sums.{over-same}
 use Rattle.window.proofs.Sent.{may-bring, picture-column, register-is}
 
 -- ---- test 21, word by word
@@ -76,12 +77,6 @@ module _ (f : Format) (a : Request) (word : ℕ → ℕ) (t : ℕ) (l : t < stre
       (λ j past q kept near. simp (le-ltb j pictureStart past, not-within eavStart eavXyz j (λ x y. omega (arith, q x))))
 
 -- ---- all words
-
--- sums of the same numbers
-sum-same : (n : ℕ) (f g : ℕ → ℕ) → ((i : ℕ) → i < n → f i ≡ g i) → sumOf n f ≡ sumOf n g
-unfolding sumOf
-sum-same zero f g e = refl
-sum-same (suc n) f g e = rw (sum-same n f g (λ i h. e i (omega arith)), e n (omega arith))
 
 module _ (f : Format) (a : Request) (good : Sendable f a) (words : List ℕ) (disturbed : Disturbed f a words) where
   abbrev s : ℕ
@@ -193,19 +188,23 @@ module _ (f : Format) (a : Request) (good : Sendable f a) (words : List ℕ) (di
     unfolding rows
     near-rows = upto-same s (column s word pictureStart 1920) (picture f a) (λ t l. picture-column f a word t (is-picture t l))
 
-    -- each wrong bit is counted
-    pub near-repairs :
-        repairCount s word
-        ≡ sumOf s (λ t. wrongAt f a words (s * savXyz + t) + wrongAt f a words (s * eavXyz + t))
+    -- each XYZ is repaired to the one sent, so each wrong bit is counted: by any measure g of two words
+    repairs-by : (g : ℕ → ℕ → ℕ) → overXyz s (λ k. g (word k) (repaired (word k))) ≡ overXyz s (λ k. g (word k) (wordIn (spanWords f a) k))
+    repairs-by g =
+        over-same s (λ k. g (word k) (repaired (word k))) (λ k. g (word k) (wordIn (spanWords f a) k))
+        (λ t l. (
+          ap (g (word (s * savXyz + t)))
+              (near-repaired (word (s * savXyz + t)) (vOf (a .line)) false (sav-near t l) ∙ sym (sav-words f a t l .3)),
+          ap (g (word (s * eavXyz + t))) (near-repaired (word (s * eavXyz + t)) (vOf next) true (eav-near t l) ∙ sym (eav-words f a t l .3)),
+        ))
+
+    pub near-repairs : repairCount s word ≡ overXyz s (wrongAt f a words)
     unfolding repairCount
-    near-repairs =
-        sum-same s (λ t. wrongBits (word (s * savXyz + t)) + wrongBits (word (s * eavXyz + t)))
-        (λ t. wrongAt f a words (s * savXyz + t) + wrongAt f a words (s * eavXyz + t))
-        (λ t l.
-        ap₂ (λ (x y : ℕ). x + y)
-        (near-wrong (word (s * savXyz + t)) (vOf (a .line)) false (sav-near t l) ∙ ap (distance (word (s * savXyz + t))) (sym (sav-words f a t l .3)))
-        (near-wrong (word (s * eavXyz + t)) (vOf next) true (eav-near t l)
-        ∙ ap (distance (word (s * eavXyz + t))) (sym (eav-words f a t l .3))))
+    near-repairs = repairs-by distance
+
+    pub near-repairs-at : (b : ℕ) → repairsAt s word b ≡ overXyz s (wrongBitAt f a words b)
+    unfolding repairsAt
+    near-repairs-at b = repairs-by (differsAt b)
 
     -- ---- tests 22 to 26
     module _ (t : ℕ) (l : t < s) where

@@ -1,8 +1,8 @@
 -- A span that is sent is read back: its line, content bytes, disparities and picture, and nothing repaired.
 -- Assumes nothing.
-use mathlib.Core.Path.{_≡_, refl, _∙_}
+use mathlib.Core.Path.{_≡_, refl, ap₂, _∙_, fun-ext}
 use mathlib.Core.List.{List}
-use Prim.Native.Nat.{ℕ, zero, suc, _+_, _*_}
+use Prim.Native.Nat.{ℕ, _*_}
 use native.Mathlib.Omega.{arith}
 use lib.ListN.{length}
 use lib.Seq.{take-at, drop-at}
@@ -10,28 +10,24 @@ use Rattle.ground.specs.Answer.{given}
 use Rattle.ground.specs.Written.{upto}
 use Rattle.symbol.specs.declared.disparity.Disparity.{Disparity}
 use Rattle.word.proofs.Repairs.{no-distance}
+use Rattle.word.proofs.WhichBit.{no-bit-differs}
 use Rattle.span.specs.declared.content.ContentBytes.{ContentBytes}
 use Rattle.span.specs.declared.format.Format.{Format}
 use Rattle.span.specs.Content.{contentOf}
 use Rattle.span.specs.Format.{shapeOf, streams}
 use Rattle.span.specs.Span.{wordsFromSav, wordsFromEav, spanWords, charsFromSav, charsFromEav, spanChars, spanSymbols, spanAfter}
 use Rattle.span.specs.Stream.{Request, picture}
-use Rattle.span.specs.Layout.{eavStart, savXyz, eavXyz}
+use Rattle.span.specs.Layout.{eavStart}
 use Rattle.span.proofs.Lengths.{length-words-sav, length-words}
-use Rattle.window.specs.Encoded.{charsOf, Encodes, wordIn, Meets, Disturbed, wrongAt}
-use Rattle.window.specs.Read.{pictureOf, readSpan, repairsOf}
-use Rattle.window.specs.Tests.{sumOf}
+use Rattle.window.specs.Encoded.{charsOf, Encodes, wordIn, Meets, Disturbed, wrongAt, wrongBitAt}
+use Rattle.window.specs.Read.{pictureOf, readSpan, repairsOf, noRepairs}
+use Rattle.window.specs.Tests.{overXyz}
 use Rattle.window.specs.Inside.Encoded.{Sendable}
 use Rattle.window.proofs.Repaired.{near-passes}
 use Rattle.window.proofs.Rules.{passes-meets}
 use Rattle.window.proofs.Sent.{sent-twelve-bits}
+use Rattle.window.proofs.Sums.{over-none}
 use Rattle.window.proofs.TimingWords.{disturbed-encodes, repaired-delivered}
-
--- nothing, so many times
-zero-sum : (n : ℕ) (f : ℕ → ℕ) → ((i : ℕ) → f i ≡ 0) → sumOf n f ≡ 0
-unfolding sumOf
-zero-sum zero f e = refl
-zero-sum (suc n) f e = omega (arith, zero-sum n f e, e n)
 
 module _ (f : Format) (a : Request) where
   abbrev s : ℕ
@@ -54,10 +50,10 @@ module _ (f : Format) (a : Request) where
   right-at : (k : ℕ) → wrongAt f a words k ≡ 0
   right-at k = no-distance (wordIn words k)
 
-  none-wrong : sumOf s (λ t. wrongAt f a words (s * savXyz + t) + wrongAt f a words (s * eavXyz + t)) ≡ 0
+  none-wrong : repairsOf (overXyz s (wrongAt f a words)) (λ b. overXyz s (wrongBitAt f a words b)) ≡ noRepairs
   none-wrong =
-      zero-sum s (λ t. wrongAt f a words (s * savXyz + t) + wrongAt f a words (s * eavXyz + t))
-      (λ t. omega (arith, right-at (s * savXyz + t), right-at (s * eavXyz + t)))
+      ap₂ repairsOf (over-none s (wrongAt f a words) right-at)
+      (fun-ext (λ b. over-none s (wrongBitAt f a words b) (λ k. no-bit-differs b (wordIn words k))))
 
   -- its words are those of a span that is sent, XYZ and all
   as-sent : Sendable f a → Disturbed f a words
@@ -77,7 +73,7 @@ module _ (f : Format) (a : Request) where
     -- what is read is what was asked to be sent
     pub round-trip :
         readSpan f (spanSymbols d f a)
-        ≡ given (record { line = record { 0 = a .line }; content = content; before = d; after = spanAfter d f a; repairs = repairsOf 0 })
+        ≡ given (record { line = record { 0 = a .line }; content = content; before = d; after = spanAfter d f a; repairs = noRepairs })
     unfolding spanAfter
     round-trip =
         repaired-delivered f a good words (as-sent good) (spanSymbols d f a) d content sent-encodes (λ k h x. omega (arith, right-at k)) .0

@@ -1,12 +1,12 @@
 -- Wrong bits in timing words: with at most one in each XYZ the span is given as it was sent, and the first with two is where it is refused.
 -- Assumes nothing.
-use mathlib.Core.Path.{_≡_, refl, sym, ap, _∙_}
+use mathlib.Core.Path.{_≡_, refl, sym, ap, ap₂, _∙_, fun-ext}
 use mathlib.Core.Bool.{true, false}
 use mathlib.Core.List.{List}
 use mathlib.Core.Logic.{inl, inr, ⊎-elim}
 use Prim.Native.Nat.{ℕ, _+_, _*_, _/_, _%_, _≤_, _<_}
 use native.Mathlib.Omega.{arith}
-use Rattle.ground.specs.Answer.{refused, given}
+use Rattle.ground.specs.Answer.{Answer, refused, given}
 use Rattle.ground.specs.Range.{within}
 use Rattle.ground.specs.Written.{upto}
 use Rattle.symbol.specs.declared.disparity.Disparity.{Disparity}
@@ -19,12 +19,13 @@ use Rattle.span.specs.Encoding.{symbolsFrom, afterRun}
 use Rattle.span.specs.Format.{isKnown, shapeOf, streams, pairsIn}
 use Rattle.span.specs.Span.{spanWords}
 use Rattle.span.specs.Stream.{Request, picture}
-use Rattle.span.specs.Layout.{savXyz}
 use Rattle.span.proofs.Lengths.{known-has-streams}
 use Rattle.span.proofs.Places.{wordAt as sentAt, sav-words, eav-words}
-use Rattle.window.specs.Encoded.{charsOf, AreContent, Encodes, wordIn, IsXyz, Disturbed, wrongAt, DisturbedBefore}
+use Rattle.window.specs.declared.delivery.Delivery.{Delivery}
+use Rattle.window.specs.declared.delivery.Repairs.{Repairs}
+use Rattle.window.specs.Encoded.{charsOf, AreContent, Encodes, wordIn, IsXyz, Disturbed, wrongAt, wrongBitAt, DisturbedBefore}
 use Rattle.window.specs.Read.{placed, pictureOf, readSpan, repairsOf}
-use Rattle.window.specs.Tests.{sumOf, holds21}
+use Rattle.window.specs.Tests.{overXyz, holds21}
 use Rattle.window.specs.Words.{wordAt}
 use Rattle.window.specs.Inside.Encoded.{Restored, answered, Sendable}
 use Rattle.window.proofs.Accepting.{passes-given}
@@ -32,7 +33,7 @@ use Rattle.window.proofs.Encoded.{Begins, encoded-scan, encoded-word, e
 use Rattle.window.proofs.Nearest.{none-near}
 use Rattle.window.proofs.Placing.{word-of-place, place-again, stream-below, at-place}
 use Rattle.window.proofs.Refusals.{meets-21}
-use Rattle.window.proofs.Repaired.{timing-holds, disturbed-restored, near-line, near-rows, near-repairs, near-passes}
+use Rattle.window.proofs.Repaired.{timing-holds, disturbed-restored, near-line, near-rows, near-repairs, near-repairs-at, near-passes}
 
 -- words that are those of a span that is sent, apart from its XYZ, have an encoding, with any content bytes
 pub disturbed-encodes :
@@ -75,6 +76,10 @@ module _ (f : Format) (a : Request) (good : Sendable f a) (words : List ℕ) (di
     abbrev restored : Restored (shapeOf f) words
     restored = disturbed-restored f a good words disturbed
 
+    abbrev deliver : ℕ → Repairs → Answer Delivery
+    deliver l r =
+        given (record { line = record { 0 = l }; content = c; before = d; after = afterRun d (charsOf (shapeOf f) c words); repairs = r })
+
     -- ---- at most one wrong bit in each XYZ
     module _ (near : (k : ℕ) → k < n → IsXyz (k / s) → wrongAt f a words k ≤ 1) where
       -- the span is given with the line and the picture that were sent, and the wrong bits are counted
@@ -85,13 +90,14 @@ module _ (f : Format) (a : Request) (good : Sendable f a) (words : List ℕ) (di
             content = c;
             before = d;
             after = afterRun d (charsOf (shapeOf f) c words);
-            repairs = repairsOf (sumOf s (λ t. wrongAt f a words (s * savXyz + t) + wrongAt f a words (s * 1927 + t)));
+            repairs = repairsOf (overXyz s (wrongAt f a words)) (λ b. overXyz s (wrongBitAt f a words b));
           }))
           × (pictureOf f w ≡ upto s (picture f a))
       repaired-delivered = (
         encoded-read f (good .known) w d c words e restored
             ∙ passes-given f (wordIn words) (near-passes f a good words disturbed near) (answered f d c words)
-            ∙ rw (near-line f a good words disturbed near, near-repairs f a good words disturbed near),
+            ∙ ap₂ deliver (near-line f a good words disturbed near)
+            (ap₂ repairsOf (near-repairs f a good words disturbed near) (fun-ext (near-repairs-at f a good words disturbed near))),
         encoded-picture f (good .known) w d c words e restored ∙ near-rows f a good words disturbed near,
       )
 

@@ -20,7 +20,7 @@ use Rattle.span.specs.Format.{shapeOf, streams, pairsIn}
 use Rattle.span.specs.Layout.{eavStart, savXyz, eavXyz}
 use Rattle.span.specs.Span.{bytes, synchronised, spanWords}
 use Rattle.span.specs.Stream.{Request}
-use Rattle.word.specs.Repair.{distance}
+use Rattle.word.specs.Repair.{distance, differsAt}
 use Rattle.window.specs.declared.delivery.Delivery.{Delivery}
 use Rattle.window.specs.Rules.{Rule21, Rule22, Rule23, Rule24, Rule25, Rule26}
 
@@ -84,6 +84,10 @@ pub record Disturbed (f : Format) (a : Request) (words : List ℕ) : Type 0 wher
 -- in how many bits the word at place k differs from the one sent
 abbrev pub wrongAt : Format → Request → List ℕ → ℕ → ℕ
 wrongAt f a words k = distance (wordIn words k) (wordIn (spanWords f a) k)
+
+-- whether bit b of it does: 1 or 0
+abbrev pub wrongBitAt : Format → Request → List ℕ → ℕ → ℕ → ℕ
+wrongBitAt f a words b k = differsAt b (wordIn words k) (wordIn (spanWords f a) k)
 
 -- words that are those of a sent span before place k, apart from its XYZ, each of which has at most one wrong bit; whatever stands behind k
 pub record DisturbedBefore (f : Format) (a : Request) (words : List ℕ) (k : ℕ) : Type 0 where

@@ -3,15 +3,15 @@
 -- Assumes nothing.
 use Prim.Native.Nat.{ℕ, _+_, _*_, _/_, _≤_, _<_}
 use mathlib.Core.Path.{_≡_}
-use mathlib.Core.Bool.{Bool, not}
+use mathlib.Core.Bool.{Bool}
 use mathlib.Core.List.{List}
 use mathlib.Core.Logic.{_⊎_}
 use lib.ListN.{length, getD, set}
 use Rattle.ground.specs.Answer.{refused, given}
 use Rattle.ground.specs.Written.{upto, table}
 use Rattle.symbol.specs.declared.disparity.Disparity.{Disparity}
-use Rattle.word.specs.Repair.{distance}
-use Rattle.word.specs.Timing.{timing, timingCode}
+use Rattle.word.specs.Repair.{distance, differsAt}
+use Rattle.word.specs.Timing.{timingCode}
 use Rattle.span.specs.declared.content.ContentBytes.{ContentBytes}
 use Rattle.span.specs.declared.format.Format.{Format}
 use Rattle.span.specs.Encoding.{afterRun}
@@ -21,10 +21,10 @@ use Rattle.span.specs.Span.{interleaved, bytes, spanWords}
 use Rattle.span.specs.Stream.{Request}
 use Rattle.window.specs.declared.delivery.Delivery.{Delivery}
 use Rattle.window.specs.Encoded.{charsOf, Encodes, wordIn, wordsOf, Meets, IsXyz, Disturbed, wrongAt, DisturbedBefore, requestOf, SentBut}
-use Rattle.window.specs.Read.{repairsOf, pictureOf, readSpan}
+use Rattle.window.specs.Read.{repairsOf, deliveryOf, pictureOf, readSpan}
 use Rattle.window.specs.Rules.{Names, Follows}
 use Rattle.window.specs.Tests.{sumOf}
-use Rattle.word.specs.Received.{repaired, wrongBits}
+use Rattle.word.specs.Received.{repaired, wrongBits, bitWrong}
 use Rattle.window.specs.Words.{fixedByte, wordAt}
 
 -- word j of stream t of a window
@@ -41,7 +41,7 @@ pub record WindowPaper : Type 0 where
       → Meets f word
       → (m : ℕ) × (n : ℕ) × Names (wordsOf f word) m × Follows n m
   -- and the encoding of such words, whoever made it, is read: as line n, with its content bytes and disparities, the wrong bits of all XYZ
-  -- together, and its picture words; no other window is read
+  -- together and bit by bit, and its picture words; no other window is read
   pub exactIf :
       (f : Format) (w : List ℕ) (d : Disparity) (c : ContentBytes) (words : List ℕ)
       → IsFormat f
@@ -58,7 +58,9 @@ pub record WindowPaper : Type 0 where
         content = c;
         before = d;
         after = afterRun d (charsOf (shapeOf f) c words);
-        repairs = repairsOf (sumOf s (λ t. wrongBits (word 3 t) + wrongBits (word 1927 t)));
+        repairs =
+            repairsOf (sumOf s (λ t. wrongBits (word 3 t) + wrongBits (word 1927 t)))
+            (λ b. sumOf s (λ t. bitWrong b (word 3 t) + bitWrong b (word 1927 t)));
       }))
       × (pictureOf f w ≡ upto s (λ t. table 1920 (λ i. word (4 + i) t)))
   pub exactOnlyIf :
@@ -90,7 +92,13 @@ pub record WindowPaper : Type 0 where
       (w x : ℕ)
       → (x ≡ 0x800) ⊎ ((x ≡ 0x9D0) ⊎ ((x ≡ 0xAB0) ⊎ (x ≡ 0xB60)))
       → distance w x ≤ 1
-      → (repaired w ≡ x) × (wrongBits w ≡ distance w x)
+      → (repaired w ≡ x) × (wrongBits w ≡ distance w x) × ((b : ℕ) → bitWrong b w ≡ differsAt b w x)
+  -- the counts of the twelve bits add up to the count of wrong bits, whatever the words
+  pub addUp :
+      (f : Format) (w : List ℕ)
+      → let r = deliveryOf f w .repairs in
+      let of = r .«of_bit» in
+      of .b0 + of .b1 + of .b2 + of .b3 + of .b4 + of .b5 + of .b6 + of .b7 + of .b8 + of .b9 + of .b10 + of .b11 ≡ r .count
   -- a sent span's words with another twelve-bit word for one XYZ of the SAV are such words, at every place and before every place
   pub disturbed :
       (f : Format) (a : Request) (t x : ℕ)

@@ -14,8 +14,9 @@ use Rattle.span.specs.declared.format.Shape.{Shape}
 use Rattle.span.specs.Format.{isKnown, shapeOf, streams, samplesIn, pairsIn, symbolsIn, eavAt}
 use Rattle.window.specs.declared.delivery.Delivery.{Delivery}
 use Rattle.window.specs.declared.delivery.Repairs.{Repairs}
+use Rattle.window.specs.declared.delivery.RepairsOfBit.{RepairsOfBit}
 use Rattle.window.specs.Scan.{byteOf, symbolAt, startOf, runningAt, holds20}
-use Rattle.window.specs.Tests.{holds21, holds22, holds23, holds24, holds25, holds26, lineRead, repairCount, rows}
+use Rattle.window.specs.Tests.{holds21, holds22, holds23, holds24, holds25, holds26, lineRead, repairCount, repairsAt, rows}
 use Rattle.window.specs.Words.{wordAt}
 
 -- a test of n places: it fails at the lowest place at which it does not hold
@@ -53,9 +54,31 @@ contentIn p w =
       eav2 = byteOf (symbolAt w (eavAt p + 3));
     }
 
--- the repairs of a span with this many wrong bits
-abbrev pub repairsOf : ℕ → Repairs
-repairsOf count = record { count = count }
+-- a count for each bit
+abbrev pub eachBit : (ℕ → ℕ) → RepairsOfBit
+eachBit at =
+    record {
+      b0 = at 0;
+      b1 = at 1;
+      b2 = at 2;
+      b3 = at 3;
+      b4 = at 4;
+      b5 = at 5;
+      b6 = at 6;
+      b7 = at 7;
+      b8 = at 8;
+      b9 = at 9;
+      b10 = at 10;
+      b11 = at 11;
+    }
+
+-- the repairs of a span with this many wrong bits, of which so many are each bit
+abbrev pub repairsOf : ℕ → (ℕ → ℕ) → Repairs
+repairsOf count at = record { count = count; «of_bit» = eachBit at }
+
+-- where nothing was wrong
+abbrev pub noRepairs : Repairs
+noRepairs = repairsOf 0 (λ b. 0)
 
 -- what is answered if all tests hold
 unfoldable pub deliveryOf : Format → List ℕ → Delivery
@@ -66,7 +89,7 @@ deliveryOf f w =
       content = contentIn p w;
       before = startOf w;
       after = runningAt w (symbolsIn p);
-      repairs = repairsOf (repairCount (streams p) (wordAt p w));
+      repairs = repairsOf (repairCount (streams p) (wordAt p w)) (repairsAt (streams p) (wordAt p w));
     }
 
 -- the picture words of a window, stream by stream

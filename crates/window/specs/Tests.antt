@@ -17,7 +17,7 @@ use Rattle.span.specs.Layout.{pictureStart, eavStart, lineStart, crccStart, anc
 use Rattle.span.specs.Span.{fillWord}
 use Rattle.crcc.specs.Crcc.{crc, crccWords}
 use Rattle.word.specs.LineNumber.{lineOf}
-use Rattle.word.specs.Received.{isTiming, repaired, vIn, wrongBits}
+use Rattle.word.specs.Received.{isTiming, repaired, vIn, wrongBits, bitWrong}
 use Rattle.packing.specs.Sample.{allowedWord}
 
 -- ---- one word
@@ -34,6 +34,10 @@ mayBring f n t w = cond (isActive n) (allowedWord (f .depth) w) true
 unfoldable pub sumOf : ℕ → (ℕ → ℕ) → ℕ
 sumOf zero f = 0
 sumOf (suc n) f = sumOf n f + f n
+
+-- the sum of g k over the places k of all XYZ of s streams, those of the SAV and of the EAV
+abbrev pub overXyz : ℕ → (ℕ → ℕ) → ℕ
+overXyz s g = sumOf s (λ t. g (s * savXyz + t) + g (s * eavXyz + t))
 
 -- ---- all words
 module _ (s : ℕ) (word : ℕ → ℕ) where
@@ -92,7 +96,11 @@ module _ (s : ℕ) (word : ℕ → ℕ) where
 
   -- how many bits were wrong in all timing words together
   unfoldable pub repairCount : ℕ
-  repairCount = sumOf s (λ t. wrongBits (wordOf savXyz t) + wrongBits (wordOf eavXyz t))
+  repairCount = overXyz s (λ k. wrongBits (word k))
+
+  -- and in how many of them bit b was wrong
+  unfoldable pub repairsAt : ℕ → ℕ
+  repairsAt b = overXyz s (λ k. bitWrong b (word k))
 
   -- the picture, stream by stream
   unfoldable pub rows : List ℕ

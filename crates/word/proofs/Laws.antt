@@ -4,8 +4,9 @@ use Rattle.word.specs.Laws.{WordLaws}
 use Rattle.word.proofs.Guards.{guard-opposite, guard-kept}
 use Rattle.word.proofs.LineNumbers.{line-good, no-line-0, no-line, different, read-sent, meets-7, meets-22}
 use Rattle.word.proofs.OneToOne.{repair-one-to-one, numbered-one-to-one, named-one-to-one}
-use Rattle.word.proofs.Repairs.{apart, sent-whole, repair-meets-7, repair-meets-8}
+use Rattle.word.proofs.Repairs.{apart}
 use Rattle.word.proofs.Timings.{v-told, h-told}
+use Rattle.word.proofs.WrongWords.{sent-whole, repair-meets-7, repair-meets-8}
 
 pub word-laws : WordLaws
 word-laws = record {

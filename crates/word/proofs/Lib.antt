@@ -7,4 +7,6 @@ pub mod OneToOne
 pub mod Paper
 pub mod Repairs
 pub mod Timings
+pub mod WhichBit
 pub mod Words
+pub mod WrongWords

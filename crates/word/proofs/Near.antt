@@ -6,16 +6,15 @@ use mathlib.Core.Option.{Option, none, some, Option·getD}
 use Prim.Native.Nat.{ℕ, zero, suc, _+_, _/_, _%_, _^_, _≤_, _<_}
 use native.Mathlib.Nat.{pow-suc}
 use native.Mathlib.Omega.{arith}
-use lib.Bits.{bitXor}
 use lib.Count.{onesIn, ones, ones-step}
 use lib.Dec.{eqb}
 use borrow.Author.Tests.{lt-ltb, le-ltb}
-use Rattle.ground.specs.Answer.{refused, given}
 use Rattle.ground.specs.Xor.{_⊕_}
+use Rattle.ground.specs.Answer.{refused, given}
 use Rattle.ground.proofs.Bits.{ones-low}
 use Rattle.ground.proofs.Searches.{hit}
 use Rattle.word.specs.declared.repair.Repaired.{Repaired}
-use Rattle.word.specs.Repair.{distance, legalWord, near, nearest, repairOf}
+use Rattle.word.specs.Repair.{distance, legalWord, near, nearest, repairedTo, repairOf}
 use Rattle.word.specs.Timing.{timing}
 use Rattle.ground.specs.Bit.{bit}
 use Rattle.word.specs.Received.{hasH, isTiming, repaired, vIn, wrongBits}
@@ -36,7 +35,7 @@ vh-again (suc (suc (suc zero))) h = refl
 vh-again (suc (suc (suc (suc vh)))) h = absurd (omega arith)
 
 module _ (w : ℕ) (h : w < 4096) where
-  is-given : (vh : ℕ) → nearest w ≡ some vh → repairOf w ≡ given (record { word = legalWord vh; distance = distance w (legalWord vh) })
+  is-given : (vh : ℕ) → nearest w ≡ some vh → repairOf w ≡ given (repairedTo w (legalWord vh))
   is-given vh e = simp (lt-ltb w 4096 h, e)
 
   is-refused : nearest w ≡ none → repairOf w ≡ refused 8 0
@@ -48,7 +47,7 @@ module _ (w : ℕ) (h : w < 4096) where
       go : (o : Option ℕ) → nearest w ≡ o → r .word / 256 % 4 ≡ Option·getD (nearest w) 4
       go none e = let z : _≡_ {A = ℕ} 0 1 = cc (q ∙ is-refused e) in absurd (omega arith)
       go (some vh) e =
-          let same : r ≡ record { word = legalWord vh; distance = distance w (legalWord vh) } = cc (q ∙ is-given vh e) in
+          let same : r ≡ repairedTo w (legalWord vh) = cc (q ∙ is-given vh e) in
           ap (λ (x : Repaired). x .word / 256 % 4) same ∙ vh-again vh (below w vh e) ∙ sym (rw e)
 
   pub none-near : (number : ℕ) → refused number 0 ≡ repairOf w → 4 ≡ Option·getD (nearest w) 4
@@ -120,11 +119,10 @@ unfolding onesIn
 few-ones zero n = omega arith
 few-ones (suc d) n = omega (arith, few-ones d (n / 2))
 
-module _ {r : ℕ} (w : ℕ) (is : r ≡ repaired w) where
-  pub bits-told : ones (bitXor w r % 4096) ≡ wrongBits w
-  unfolding distance _⊕_
-  bits-told =
-      ones-are 12 (bitXor w r % 4096) (omega arith) ∙ ones-low 12 (bitXor w r) ∙ ap (λ (x : ℕ). onesIn 12 (bitXor w x)) is
+module _ {x : ℕ} (w : ℕ) (is : x ≡ w ⊕ repaired w) where
+  pub bits-told : ones (x % 4096) ≡ wrongBits w
+  unfolding distance
+  bits-told = ones-are 12 (x % 4096) (omega arith) ∙ ones-low 12 x ∙ ap (onesIn 12) is
 
-  pub few-bits : ones (bitXor w r % 4096) ≤ 12
-  few-bits = rw (ones-are 12 (bitXor w r % 4096) (omega arith)) (few-ones 12 (bitXor w r % 4096))
+  pub few-bits : ones (x % 4096) ≤ 12
+  few-bits = rw (ones-are 12 (x % 4096) (omega arith)) (few-ones 12 (x % 4096))

@@ -11,6 +11,8 @@ use Rattle.word.proofs.Agree.{agree}
 use Rattle.word.proofs.Guards.{guard-kept, guard-opposite}
 use Rattle.word.proofs.LineNumbers.{recital}
 use Rattle.word.proofs.Repairs.{no-distance, one-off, two-off}
+use Rattle.word.proofs.WhichBit.{no-bit-differs, one-bit-differs}
+use Rattle.word.proofs.WrongWords.{wrong-one, bit-answered, nothing-answered}
 
 -- the number's bits are as they are below the guard bit
 low-ln0 : (n : ℕ) → ln0 n % 2048 ≡ n % 128 * 16
@@ -31,4 +33,9 @@ word-paper = record {
   distanceNone = no-distance;
   distanceOne = one-off;
   distanceTwo = λ j k w p q. two-off j k w (omega arith) q ∙ simp (ne-eqb j k (λ e. omega arith));
+  differsNone = no-bit-differs;
+  differsOne = one-bit-differs;
+  wrongOne = wrong-one;
+  bitAnswered = λ w r k e q. bit-answered w r e k q;
+  nothingAnswered = nothing-answered;
 }

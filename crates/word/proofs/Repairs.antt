@@ -1,7 +1,7 @@
 -- Repair of a timing word: what the search for the nearest legal word finds, and how far the legal words are apart.
 -- Assumes nothing.
 use mathlib.Core.Path.{_≡_, refl, sym, ap, _∙_}
-use mathlib.Core.Bool.{Bool, true, false, cond}
+use mathlib.Core.Bool.{Bool, true, cond}
 use mathlib.Core.Logic.{⊎-elim}
 use mathlib.Core.Option.{none, some}
 use Prim.Native.Nat.{ℕ, zero, suc, _+_, _-_, _/_, _%_, _^_, _≤_, _<_, min}
@@ -10,20 +10,21 @@ use native.Mathlib.Omega.{arith}
 use lib.Bits.{bitAnd, bitXor, and-step, and-self, and-le-l, and-shr}
 use lib.Count.{onesIn}
 use lib.Dec.{eqb}
-use borrow.Author.Tests.{eqb-true, eqb-false, ne-eqb, lt-ltb, le-ltb, le-leb, lt-leb, leb-true}
-use Rattle.ground.specs.Answer.{refused, given}
+use borrow.Author.Tests.{eqb-true, eqb-false, lt-ltb, le-leb, lt-leb, leb-true}
+use Rattle.ground.specs.Answer.{Answer, refused, given}
 use Rattle.ground.specs.Bit.{inverted}
 use Rattle.ground.specs.Search.{firstBelow}
 use Rattle.ground.specs.Xor.{_⊕_}
 use Rattle.ground.specs.Inside.Test.{everyBelow}
-use Rattle.ground.proofs.Bits.{inverted-below, ones-low}
+use Rattle.ground.proofs.Bits.{ones-low}
 use Rattle.ground.proofs.Cases.{on-test}
 use Rattle.ground.proofs.Searches.{Nowhere, is-hit, is-miss, is-only}
 use Rattle.ground.proofs.Tests.{at-number}
 use Rattle.ground.proofs.Xors.{⊕-self, ⊕-below, ⊕-cancel, ⊕-middle, zero-⊕, ones-⊕, one-inverted, two-inverted}
-use Rattle.word.specs.Repair.{distance, legalWord, near, nearest, repairOf}
+use Rattle.word.specs.declared.repair.WrongBit.{WrongBit}
+use Rattle.word.specs.declared.repair.Repaired.{Repaired}
+use Rattle.word.specs.Repair.{distance, bitOf, legalWord, near, nearest, repairedTo, repairOf}
 use Rattle.word.specs.Timing.{timing}
-use Rattle.word.proofs.Timings.{timing-below}
 
 -- ---- a number without its lowest one
 
@@ -48,7 +49,7 @@ ones-without (suc b) x =
     rw (low, half, h, e, and-self) (omega arith))
 
 -- a number that is not 0 has a one
-some-one : (b x : ℕ) → x < 2 ^ b → 0 < x → 0 < onesIn b x
+pub some-one : (b x : ℕ) → x < 2 ^ b → 0 < x → 0 < onesIn b x
 unfolding onesIn
 some-one zero x h l = absurd (omega arith)
 some-one (suc b) x h l =
@@ -86,9 +87,14 @@ difference-is a b = nearness-is (bitXor a b % 4096) (omega arith) ∙ ap (min 2)
 
 -- ---- what the search finds
 
+-- a word repaired, field by field
+pub is-repaired : (w : ℕ) {legal word d : ℕ} {b : WrongBit} → word ≡ legal → d ≡ distance w legal → b ≡ bitOf w legal
+    → _≡_ {A = Answer Repaired} (given (record { word = word; distance = d; bit = b })) (given (repairedTo w legal))
+is-repaired w p q r = rw (p, q, r)
+
 module _ (w : ℕ) (h : w < 4096) where
   pub found : (vh : ℕ) → vh < 4 → Nowhere (near w) 0 vh → distance w (legalWord vh) ≤ 1
-      → repairOf w ≡ given (record { word = legalWord vh; distance = distance w (legalWord vh) })
+      → repairOf w ≡ given (repairedTo w (legalWord vh))
   unfolding nearest
   found vh l lower d =
       let hit : firstBelow 4 (near w) ≡ some vh =
@@ -180,51 +186,3 @@ two-off j k w p q =
     ap (onesIn 12) (two-inverted j k w)
     ∙ eqb-true (onesIn 12 (2 ^ j ⊕ 2 ^ k)) (cond (eqb j k) 0 2)
     (at-number 12 (test j) (at-number 12 (λ j. everyBelow 12 (test j)) refl j p) k q)
-
-module _ (vh : ℕ) (h : vh < 4) where
-  abbrev legal : ℕ
-  legal = legalWord vh
-
-  legal-below : legal < 2 ^ 12
-  legal-below = timing-below (eqb (vh / 2) 1) (eqb (vh % 2) 1)
-
-  near-legal : (w : ℕ) → w < 4096 → distance w legal ≤ 1 → repairOf w ≡ given (record { word = legal; distance = distance w legal })
-  near-legal w l d = simp (lt-ltb w 4096 l, nearest-is w vh h d)
-
-  -- none wrong: the word itself; one wrong: the word that it was
-  pub none-wrong : repairOf legal ≡ given (record { word = legal; distance = 0 })
-  none-wrong =
-      let e = no-distance legal in
-      rw e at (near-legal legal legal-below (omega (arith, e)))
-
-  pub one-wrong : (k : ℕ) → k < 12 → repairOf (inverted k legal) ≡ given (record { word = legal; distance = 1 })
-  one-wrong k l =
-      let e = one-off k legal l in
-      rw e at (near-legal (inverted k legal) (inverted-below 12 k legal l legal-below) (omega (arith, e)))
-
-  -- two wrong: no legal word is near
-  pub two-wrong : (j k : ℕ) → j < k → k < 12 → repairOf (inverted j (inverted k legal)) ≡ refused 8 0
-  two-wrong j k p q =
-      let l : j < 12 = omega arith in
-      let n : j ≡ k → ⊥ = λ e. omega arith in
-      let w = inverted j (inverted k legal) in
-      let e : distance w legal ≡ 2 = two-off j k legal l q ∙ simp (ne-eqb j k n) in
-      let small : w < 4096 = inverted-below 12 j (inverted k legal) l (inverted-below 12 k legal q legal-below) in
-      simp (lt-ltb w 4096 small, nearest-none w vh h e)
-
--- the word of any V and H, as it is sent
-pub sent-whole : (v h : Bool) → repairOf (timing v h) ≡ given (record { word = timing v h; distance = 0 })
-sent-whole false false = none-wrong 0 (omega arith)
-sent-whole false true = none-wrong 1 (omega arith)
-sent-whole true false = none-wrong 2 (omega arith)
-sent-whole true true = none-wrong 3 (omega arith)
-
--- ---- which words are refused, in the paper's own numerals
-
-pub repair-meets-7 : (w : ℕ) → 4095 < w → repairOf w ≡ refused 7 0
-repair-meets-7 w h = simp (le-ltb w 4096 h)
-
-pub repair-meets-8 : (w : ℕ) → w ≤ 4095
-    → ((v h : Bool) → 1 < distance w (timing v h)) → repairOf w ≡ refused 8 0
-repair-meets-8 w h far =
-    lost w (omega arith) (record { never = λ vh p q. lt-leb (distance w (legalWord vh)) 1 (far (eqb (vh / 2) 1) (eqb (vh % 2) 1)) })

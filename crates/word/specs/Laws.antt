@@ -7,11 +7,11 @@ use mathlib.Core.Logic.{_⊎_}
 use lib.Dec.{eqb}
 use Rattle.ground.specs.Answer.{refused, given}
 use Rattle.ground.specs.Inside.Answer.{Injective}
+use Rattle.word.specs.declared.repair.WrongBit.the-variants.{Nothing}
 use Rattle.word.specs.LineNumber.{ln0, ln1, lineWords, paperNumbered, numberedOf, paperNamed, namedOf}
 use Rattle.word.specs.Repair.{distance, legalWord, paperRepair, repairOf}
 use Rattle.word.specs.Timing.{timing}
 use Rattle.ground.specs.Bit.{bit}
-use Rattle.word.specs.Values.{values}
 use Rattle.word.specs.Word.{guarded}
 
 pub record WordLaws : Type 0 where
@@ -23,8 +23,8 @@ pub record WordLaws : Type 0 where
   pub hTold : (v h : Bool) → timing v h / 2 ^ 8 % 2 ≡ bit h
   -- any two of the four legal timing words differ in four bits (6.2)
   pub legalApart : (i j : ℕ) → i < 4 → j < 4 → distance (legalWord i) (legalWord j) ≡ cond (eqb i j) 0 4
-  -- a timing word as sent is repaired to itself, at distance 0
-  pub sentWhole : (v h : Bool) → repairOf (timing v h) ≡ given (record { word = timing v h; distance = 0 })
+  -- a timing word as sent is repaired to itself, at distance 0, with no wrong bit
+  pub sentWhole : (v h : Bool) → repairOf (timing v h) ≡ given (record { word = timing v h; distance = 0; bit = Nothing })
   -- repair refuses a number above 4095 with 7, and a word that is two bits or more from every legal word with 8
   pub repairMeets7 : (w : ℕ) → 4095 < w → repairOf w ≡ refused 7 0
   pub repairMeets8 : (w : ℕ) → w ≤ 4095 → ((v h : Bool) → 1 < distance w (timing v h)) → repairOf w ≡ refused 8 0

@@ -5,7 +5,7 @@ use mathlib.Core.Bool.{Bool, false, cond}
 use mathlib.Core.Option.{Option, none, some, Option·getD}
 use lib.Dec.{eqb, ltb}
 use lib.ListN.{getD}
-use Rattle.word.specs.Repair.{distance, legalWord, nearest}
+use Rattle.word.specs.Repair.{distance, differsAt, legalWord, nearest}
 use Rattle.word.specs.Timing.{timingCode}
 use Rattle.ground.specs.Bit.{bit}
 
@@ -18,7 +18,7 @@ hasH h (some vh) = eqb (vh % 2) (bit h)
 abbrev pub isTiming : Bool → ℕ → ℕ → Bool
 isTiming h j w = cond (ltb j 3) (eqb w (getD (timingCode false h) j 0)) (hasH h (nearest w))
 
--- XYZ as repaired, V in it, and how many bits were wrong
+-- XYZ as repaired, V in it, how many bits were wrong, and whether bit k was: 1 or 0
 abbrev pub repaired : ℕ → ℕ
 repaired w = legalWord (Option·getD (nearest w) 0)
 
@@ -27,3 +27,6 @@ vIn w = eqb (Option·getD (nearest w) 0 / 2) 1
 
 abbrev pub wrongBits : ℕ → ℕ
 wrongBits w = distance w (repaired w)
+
+abbrev pub bitWrong : ℕ → ℕ → ℕ
+bitWrong k w = differsAt k w (repaired w)

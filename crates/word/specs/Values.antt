@@ -9,6 +9,8 @@ use Rattle.symbol.specs.declared.disparity.Disparity.the-variants.{Negative, Po
 use Rattle.symbol.specs.declared.special.Special.the-variants.{«K28_5», «K29_7»}
 use Rattle.symbol.specs.Character.{numberOf}
 use Rattle.symbol.specs.Code.{symbolOf}
+use Rattle.word.specs.declared.repair.WrongBit.{WrongBit}
+use Rattle.word.specs.declared.repair.WrongBit.the-variants.{Nothing, Bit}
 use Rattle.word.specs.declared.repair.Repaired.{Repaired}
 use Rattle.word.specs.declared.line_number.LineWords.{LineWords}
 use Rattle.word.specs.LineNumber.{numberedOf}
@@ -26,10 +28,14 @@ paper = given
 abbrev xyz : Bool → Bool → Answer (List ℕ)
 xyz v h = given (timing v h ∷ [])
 
--- the repaired word and its distance
+-- the repaired word, its distance, and the bit, if one was wrong
+abbrev bits : WrongBit → List ℕ
+bits Nothing = []
+bits (Bit k) = k ∷ []
+
 abbrev repair : Answer Repaired → Answer (List ℕ)
 repair (refused n p) = refused n p
-repair (given r) = given (r .word ∷ r .distance ∷ [])
+repair (given r) = given (r .word ∷ r .distance ∷ bits (r .bit))
 
 -- the two words of a line
 abbrev line : Answer LineWords → Answer (List ℕ)
@@ -50,8 +56,10 @@ values =
     ∷ (xyz false true beside paper (0x9D0 ∷ []))
     ∷ (xyz true false beside paper (0xAB0 ∷ []))
     ∷ (xyz true true beside paper (0xB60 ∷ []))
-    ∷ (repair (repairOf 0x801) beside paper (0x800 ∷ 1 ∷ []))
-    ∷ (repair (repairOf 0x8D0) beside paper (0x9D0 ∷ 1 ∷ []))
+    ∷ (repair (repairOf 0x801) beside paper (0x800 ∷ 1 ∷ 0 ∷ []))
+    ∷ (repair (repairOf 0x8D0) beside paper (0x9D0 ∷ 1 ∷ 8 ∷ []))
+    ∷ (repair (repairOf 0x000) beside paper (0x800 ∷ 1 ∷ 11 ∷ []))
+    ∷ (repair (repairOf 0x800) beside paper (0x800 ∷ 0 ∷ []))
     ∷ (repair (repairOf 0x803) beside refused 8 0)
     ∷ (line (numberedOf 1) beside paper (0x810 ∷ 0x800 ∷ []))
     ∷ (line (numberedOf 42) beside paper (0xAA0 ∷ 0x800 ∷ []))

@@ -3,6 +3,7 @@ use crate::repair::Repair;
 ghost use mathlib.Core.Path.{_≡_};
 ghost use Prim.Native.Nat.{_%_, _≤_};
 ghost use mathlib.Core.Option.{Option·getD};
+ghost use Rattle.ground.specs.Xor.{_⊕_};
 ghost use Rattle.word.specs.Repair.{nearest};
 ghost use Rattle.word.specs.Received.{isTiming, repaired, vIn, wrongBits};
 
@@ -52,11 +53,18 @@ pub fn repaired_word(w: u16) -> u16
     crate::timing::timing_word(vh / 2 == 1, vh % 2 == 1)
 }
 
+// Its bits that were wrong, each in its place.
+pub fn wrong_mask(w: u16) -> u16
+    ensures { λ r. ⌜ r ≡ w % 4096 ⊕ repaired (w % 4096) ⌝ }
+{
+    let x = w % 4096;
+    x ^ repaired_word(x)
+}
+
 // How many of its bits were wrong.
 pub fn wrong_bits(w: u16) -> u8
     ensures count { λ r. ⌜ r ≡ wrongBits (w % 4096) ⌝ }
     ensures few { λ r. ⌜ r ≤ 12 ⌝ }
 {
-    let x = w % 4096;
-    u16::count_ones((x ^ repaired_word(x)) % 4096) as u8
+    u16::count_ones(wrong_mask(w) % 4096) as u8
 }

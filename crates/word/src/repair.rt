@@ -1,12 +1,19 @@
 // Repair of a timing word: one wrong bit is corrected, two are refused (004, 6.2).
 ghost use mathlib.Core.Path.{_≡_};
-ghost use Prim.Native.Nat.{min};
-ghost use Rattle.word.specs.Repair.{distance, paperRepair, repairOf};
+ghost use Prim.Native.Nat.{_<_, min};
+ghost use Rattle.word.specs.Repair.{distance, bitOf, paperRepair, repairOf};
 
-// The legal word, and in how many of its twelve bits the given one differs: 0 or 1.
+// Which of the twelve bits was wrong, 0 to 11: bit 0 is b0 of table 6, the lowest.
+pub enum WrongBit {
+    Nothing,
+    Bit(u8),
+}
+
+// The legal word, in how many of its twelve bits the given one differs, 0 or 1, and in which.
 pub struct Repaired {
     pub word: u16,
     pub distance: u8,
+    pub bit: WrongBit,
 }
 
 pub enum Repair {
@@ -31,6 +38,19 @@ fn difference(a: u16, b: u16) -> u8
     2
 }
 
+// The bit in which two words of twelve bits differ; the lowest if there are more.
+fn wrong_bit(a: u16, b: u16) -> WrongBit
+    requires { ⌜ a < 4096 ⌝ }
+    requires { ⌜ b < 4096 ⌝ }
+    ensures { λ r. ⌜ r ≡ bitOf a b ⌝ }
+{
+    let x = a ^ b;
+    if x == 0 {
+        return WrongBit::Nothing;
+    }
+    WrongBit::Bit(u16::trailing_zeros(x) as u8)
+}
+
 // The legal word at most one bit from a given one. There are never two: law one-near.
 pub fn repair_timing_word(w: u16) -> Repair
     ensures { λ r. ⌜ paperRepair r ≡ repairOf w ⌝ }
@@ -46,6 +66,7 @@ pub fn repair_timing_word(w: u16) -> Repair
             return Repair::Word(Repaired {
                 word: legal,
                 distance: d,
+                bit: wrong_bit(w, legal),
             });
         }
         vh += 1;

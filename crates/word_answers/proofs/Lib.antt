@@ -1,2 +1,3 @@
 pub mod Laws
+pub mod Repairs
 pub mod Told

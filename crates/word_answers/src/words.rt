@@ -4,12 +4,13 @@ use crcc::crcc::Crcc;
 use word::line_number::Named;
 use word::line_number::Numbered;
 use word::repair::Repair;
+use word::repair::WrongBit;
 ghost use mathlib.Core.Path.{_≡_};
 ghost use Rattle.ground.specs.Answer.{refused};
 ghost use Rattle.word.specs.LineNumber.{paperNumbered, paperNamed};
 ghost use Rattle.word.specs.Repair.{paperRepair};
 ghost use Rattle.crcc.specs.Crcc.{paperCrcc};
-ghost use Rattle.word_answers.specs.Words.{lineWordsAnswerOf, readLineWordsAnswerOf, repairAnswerOf, crccAnswerOf};
+ghost use Rattle.word_answers.specs.Words.{lineWordsAnswerOf, readLineWordsAnswerOf, bitNumber, repairAnswerOf, crccAnswerOf};
 
 #[repr(C)]
 pub struct LineWordsAnswer {
@@ -29,6 +30,7 @@ pub struct RepairAnswer {
     pub number: u32,
     pub word: u32,
     pub distance: u32,
+    pub bit: u32,
 }
 
 #[repr(C)]
@@ -48,13 +50,24 @@ fn nameless(number: u32) -> ReadLineWordsAnswer
     }
 }
 
-fn repaired(number: u32, word: u16, distance: u8) -> RepairAnswer
-    ensures { λ r. ⌜ r ≡ record { number = number; word = word; distance = distance } ⌝ }
+// 12 where nothing was wrong: 0 is a bit, the lowest.
+fn bit_number(b: WrongBit) -> u32
+    ensures { λ r. ⌜ r ≡ bitNumber b ⌝ }
+{
+    match b {
+        WrongBit::Nothing => 12,
+        WrongBit::Bit(k) => k as u32,
+    }
+}
+
+fn repaired(number: u32, word: u16, distance: u8, bit: WrongBit) -> RepairAnswer
+    ensures { λ r. ⌜ r ≡ record { number = number; word = word; distance = distance; bit = bitNumber bit } ⌝ }
 {
     RepairAnswer {
         number,
         word: word as u32,
         distance: distance as u32,
+        bit: bit_number(bit),
     }
 }
 
@@ -92,9 +105,12 @@ pub fn repair_answer(r: Repair) -> RepairAnswer
     ensures { λ a. ⌜ a ≡ repairAnswerOf (paperRepair r) ⌝ }
 {
     match r {
-        Repair::Word(w) => repaired(0, w.word, w.distance),
-        Repair::Above4095 => repaired(7, 0, 0),
-        Repair::BeyondRepair => repaired(8, 0, 0),
+        Repair::Word(w) => {
+            let bit = w.bit;
+            repaired(0, w.word, w.distance, bit)
+        },
+        Repair::Above4095 => repaired(7, 0, 0, WrongBit::Nothing),
+        Repair::BeyondRepair => repaired(8, 0, 0, WrongBit::Nothing),
     }
 }
 

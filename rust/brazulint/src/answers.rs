@@ -1,7 +1,8 @@
-//! The structs of the header, field for field. The header says what each field means; a field without meaning is 0 or false.
+//! The structs of the header, field for field. The header says what each field means, and what stands in one without meaning.
 
 use crate::given::{PictureLine, StreamLine};
 use crate::refusal::Refusal;
+use crate::NO_BIT;
 
 macro_rules! structs {
     ($($(#[$of:meta])* $name:ident { $($field:ident: $kind:ty),* })*) => {$(
@@ -18,7 +19,9 @@ structs! {
     /// The content bytes of a span: 1 and 2 of the SAV, then of the EAV.
     Content { sav1: u8, sav2: u8, eav1: u8, eav2: u8 }
     /// What a span says about itself.
-    Delivery { line: StreamLine, content: Content, positive_before: bool, positive_after: bool, repairs: u32 }
+    Delivery {
+        line: StreamLine, content: Content, positive_before: bool, positive_after: bool, repairs: u32, repairs_of_bit: [u32; 12]
+    }
     /// The lengths of a span: samples of all streams, and symbols. Refusal 1.
     #[must_use]
     LengthsAnswer { number: u32, samples: usize, symbols: usize }
@@ -46,9 +49,6 @@ structs! {
     /// Refusals 7 and 22.
     #[must_use]
     ReadLineWordsAnswer { number: u32, line: StreamLine }
-    /// Refusals 7 and 8.
-    #[must_use]
-    RepairAnswer { number: u32, word: u32, distance: u32 }
     /// Refusal 7. Bit i of `crc` is CRCCi.
     #[must_use]
     CrccAnswer { number: u32, crc: u32, crcc0: u32, crcc1: u32 }
@@ -58,6 +58,18 @@ structs! {
     /// Refuses nothing; `known` is false for a number that is not a character.
     #[must_use]
     EncodeAnswer { known: bool, symbol: u32, positive_after: bool }
+}
+
+/// Refusals 7 and 8. It has no `Default`: that would say of bit 0 that it was wrong.
+#[repr(C)]
+#[derive(Clone, Copy, Debug, PartialEq, Eq)]
+#[must_use]
+pub struct RepairAnswer {
+    pub number: u32,
+    pub word: u32,
+    pub distance: u32,
+    /// `NO_BIT` where none was wrong, and in a refusal.
+    pub bit: u32,
 }
 
 impl LengthsAnswer {
@@ -122,9 +134,10 @@ impl ReadLineWordsAnswer {
 }
 
 impl RepairAnswer {
-    /// The legal timing word, and in how many bits the given one differs.
-    pub fn result(self) -> Result<(u32, u32), Refusal> {
-        Refusal::check(self.number, 0).map(|()| (self.word, self.distance))
+    /// The legal timing word, in how many bits the given one differs, and in which; none where nothing was wrong.
+    pub fn result(self) -> Result<(u32, u32, Option<u32>), Refusal> {
+        let bit = (self.bit != NO_BIT).then_some(self.bit);
+        Refusal::check(self.number, 0).map(|()| (self.word, self.distance, bit))
     }
 }
 

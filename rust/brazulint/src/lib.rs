@@ -35,12 +35,15 @@ pub use refusal::Refusal;
 pub use spans::{spans, Span, Spans};
 
 /// The version of the library that this wrapper belongs to: 65536 times the interface, and the release in it.
-pub const VERSION: u32 = 2 * 65536;
+pub const VERSION: u32 = 3 * 65536;
 
 /// The samples and the symbols of a span of the largest format, and the symbols of the longest recording.
 pub const MOST_SAMPLES: usize = 7680;
 pub const MOST_SYMBOLS: usize = 19_008;
 pub const LIMIT: usize = 2_097_152;
+
+/// In the place of a bit of a timing word: none was wrong.
+pub const NO_BIT: u32 = 12;
 
 /// The special characters by number; a byte is its own number.
 pub const K28_0: u32 = 256;
@@ -69,44 +72,44 @@ macro_rules! call {
 /// The version of the library that is linked.
 #[must_use]
 pub fn version() -> u32 {
-    call!(brazulint2_version())
+    call!(brazulint3_version())
 }
 
 /// How many samples a span of a format takes, and how many symbols it has.
 pub fn lengths(format: Format) -> LengthsAnswer {
-    call!(brazulint2_lengths(format))
+    call!(brazulint3_lengths(format))
 }
 
 /// Sends the span of a stream line into `symbols`.
 pub fn send(format: Format, request: Request, samples: &[u16], symbols: &mut [u16]) -> SendAnswer {
     let (from, to) = (samples.as_ptr(), symbols.as_mut_ptr());
-    call!(brazulint2_send(format, request, from, samples.len(), to, symbols.len()))
+    call!(brazulint3_send(format, request, from, samples.len(), to, symbols.len()))
 }
 
 /// Whether a stream line carries the picture; false for blanking.
 #[must_use]
 pub fn carries_picture(line: StreamLine) -> bool {
-    call!(brazulint2_carries_picture(line))
+    call!(brazulint3_carries_picture(line))
 }
 
 /// Fills a row with the blanking samples of all streams. Refusals 1 and 4.
 pub fn fill_blanking(format: Format, row: &mut [u16]) -> Result<(), Refusal> {
-    Refusal::check(call!(brazulint2_fill_blanking(format, row.as_mut_ptr(), row.len())), 0)
+    Refusal::check(call!(brazulint3_fill_blanking(format, row.as_mut_ptr(), row.len())), 0)
 }
 
 /// Reads exactly one span into `rows`.
 pub fn read(format: Format, symbols: &[u16], rows: &mut [u16]) -> ReadAnswer {
-    call!(brazulint2_read(format, symbols.as_ptr(), symbols.len(), rows.as_mut_ptr(), rows.len()))
+    call!(brazulint3_read(format, symbols.as_ptr(), symbols.len(), rows.as_mut_ptr(), rows.len()))
 }
 
 /// Answers what reading would.
 pub fn judge(format: Format, symbols: &[u16]) -> ReadAnswer {
-    call!(brazulint2_judge(format, symbols.as_ptr(), symbols.len()))
+    call!(brazulint3_judge(format, symbols.as_ptr(), symbols.len()))
 }
 
 /// The first place at or after `start` at which a span would be read.
 pub fn find(format: Format, symbols: &[u16], start: u64) -> FindAnswer {
-    call!(brazulint2_find(format, symbols.as_ptr(), symbols.len(), start))
+    call!(brazulint3_find(format, symbols.as_ptr(), symbols.len(), start))
 }
 
 /// Finds a span and reads it into `rows` at once; continue from `resume`. Where there is none, nothing before `resume` can begin a span,
@@ -114,58 +117,64 @@ pub fn find(format: Format, symbols: &[u16], start: u64) -> FindAnswer {
 /// they were, so what an earlier call left there is still there and looks like a good row. Look at `found` before you look at the rows.
 /// `spans` has rows of its own for each span.
 pub fn next(format: Format, symbols: &[u16], start: u64, rows: &mut [u16]) -> NextAnswer {
-    call!(brazulint2_next(format, symbols.as_ptr(), symbols.len(), start, rows.as_mut_ptr(), rows.len()))
+    call!(brazulint3_next(format, symbols.as_ptr(), symbols.len(), start, rows.as_mut_ptr(), rows.len()))
 }
 
 /// Divides a row of 3840 samples into two of 1920. Refusals 3 and 4.
 pub fn split(row: &[u16], first: &mut [u16], second: &mut [u16]) -> Result<(), Refusal> {
     let (one, two) = (first.as_mut_ptr(), second.as_mut_ptr());
-    Refusal::check(call!(brazulint2_split(row.as_ptr(), row.len(), one, first.len(), two, second.len())), 0)
+    Refusal::check(call!(brazulint3_split(row.as_ptr(), row.len(), one, first.len(), two, second.len())), 0)
 }
 
 /// Joins them again. Refusals 3 and 4.
 pub fn join(first: &[u16], second: &[u16], row: &mut [u16]) -> Result<(), Refusal> {
     let (one, two) = (first.as_ptr(), second.as_ptr());
-    Refusal::check(call!(brazulint2_join(one, first.len(), two, second.len(), row.as_mut_ptr(), row.len())), 0)
+    Refusal::check(call!(brazulint3_join(one, first.len(), two, second.len(), row.as_mut_ptr(), row.len())), 0)
 }
 
 /// Where a sample of a picture line goes.
 pub fn place(line: PictureLine, sample: u32) -> PlaceAnswer {
-    call!(brazulint2_place(line, sample))
+    call!(brazulint3_place(line, sample))
 }
 
 /// The way back: the line of the picture that a stream line brings, and its basic image. `link` is one of the links of its component, `stream`
 /// one of the link's streams, both from 1.
 pub fn way_back(format: Format, link: u32, stream: u32, line: StreamLine) -> WayBackAnswer {
-    call!(brazulint2_way_back(format, link, stream, line))
+    call!(brazulint3_way_back(format, link, stream, line))
 }
 
 /// The two words of a stream line's number.
 pub fn line_words(line: StreamLine) -> LineWordsAnswer {
-    call!(brazulint2_line_words(line))
+    call!(brazulint3_line_words(line))
 }
 
 /// The stream line for which exactly these two words are sent.
 pub fn read_line_words(ln0: u32, ln1: u32) -> ReadLineWordsAnswer {
-    call!(brazulint2_read_line_words(ln0, ln1))
+    call!(brazulint3_read_line_words(ln0, ln1))
 }
 
 /// The legal timing word that is at most one bit from a given one.
+///
+/// ```
+/// assert_eq!(brazulint::repair(0x801).result(), Ok((0x800, 1, Some(0))));
+/// assert_eq!(brazulint::repair(0x800).result(), Ok((0x800, 0, None)));
+/// assert_eq!(brazulint::repair(0x803).result(), Err(brazulint::Refusal::BeyondRepair));
+/// ```
 pub fn repair(word: u32) -> RepairAnswer {
-    call!(brazulint2_repair(word))
+    call!(brazulint3_repair(word))
 }
 
 /// The CRCC of a run of words of one stream.
 pub fn crcc(words: &[u16]) -> CrccAnswer {
-    call!(brazulint2_crcc(words.as_ptr(), words.len()))
+    call!(brazulint3_crcc(words.as_ptr(), words.len()))
 }
 
 /// The character that has a symbol at the running disparity before it.
 pub fn decode(positive: bool, symbol: u32) -> DecodeAnswer {
-    call!(brazulint2_decode(positive, symbol))
+    call!(brazulint3_decode(positive, symbol))
 }
 
 /// The symbol of a character at the running disparity before it.
 pub fn encode(positive: bool, character: u32) -> EncodeAnswer {
-    call!(brazulint2_encode(positive, character))
+    call!(brazulint3_encode(positive, character))
 }

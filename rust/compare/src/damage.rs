@@ -18,7 +18,7 @@ pub enum Change {
 
 use Change::{Characters, Late, Symbols, Words};
 
-pub const DAMAGES: [(&str, Change); 42] = [
+pub const DAMAGES: [(&str, Change); 43] = [
     ("nothing", Words(|_, _| ())),
     ("a bit of a fixed word of a SAV", Words(|random, draft| fixed_bit(random, draft, 0))),
     ("a bit of a fixed word of an EAV", Words(|random, draft| fixed_bit(random, draft, 1924))),
@@ -26,7 +26,8 @@ pub const DAMAGES: [(&str, Change); 42] = [
     ("one bit of an XYZ", Words(|random, draft| xyz_bits(random, draft, 1))),
     ("two bits of an XYZ", Words(|random, draft| xyz_bits(random, draft, 2))),
     ("three bits of an XYZ", Words(|random, draft| xyz_bits(random, draft, 3))),
-    ("one bit of each XYZ", Words(each_xyz)),
+    ("one bit of each XYZ", Words(|random, draft| drop(bit_of_xyzs(random, draft, u64::MAX)))),
+    ("one bit of some XYZs", Words(some_xyzs)),
     ("the other H", Words(|random, draft| another_xyz(random, draft, 0x100))),
     ("the other V", Words(|random, draft| another_xyz(random, draft, 0x200))),
     ("the other V and H", Words(|random, draft| another_xyz(random, draft, 0x300))),
@@ -136,10 +137,21 @@ fn xyz_bits(random: &mut Random, draft: &mut Draft, count: u32) {
     }
 }
 
-fn each_xyz(random: &mut Random, draft: &mut Draft) {
-    for k in [3, 1927] {
-        (0..draft.shape.streams).for_each(|t| bit_of(random, draft, k, t));
-    }
+/// Inverts one bit of each XYZ of a set, in which bit i stands for XYZ i of the span: those of the SAVs, then those of the EAVs. Gives each
+/// with its bit.
+pub fn bit_of_xyzs(random: &mut Random, draft: &mut Draft, set: u64) -> Vec<(usize, usize)> {
+    let streams = draft.shape.streams;
+    let invert = |i: usize| {
+        let (at, bit) = (draft.at([3, 1927][i / streams], i % streams), random.below(12));
+        draft.words[at] ^= 1 << bit;
+        (i, bit)
+    };
+    (0..2 * streams).filter(|i| set >> i & 1 == 1).map(invert).collect()
+}
+
+pub fn some_xyzs(random: &mut Random, draft: &mut Draft) {
+    let set = random.next();
+    drop(bit_of_xyzs(random, draft, set));
 }
 
 /// The legal XYZ with V or H, or both, inverted.

@@ -1,4 +1,4 @@
-//! What the library must answer, field for field, given what plain answers. A field without meaning is 0 or false.
+//! What the library must answer, field for field, given what plain answers. The header says what stands in a field without meaning.
 
 use brazulint::*;
 use plain::picture::Place;
@@ -28,7 +28,8 @@ pub fn send(plain: &Answer<(Vec<u16>, bool)>) -> SendAnswer {
 pub fn delivery(d: &Delivered) -> Delivery {
     let [sav1, sav2, eav1, eav2] = d.content;
     let content = Content { sav1, sav2, eav1, eav2 };
-    Delivery { line: StreamLine(d.line), content, positive_before: d.positive_before, positive_after: d.positive_after, repairs: d.repairs }
+    let Delivered { positive_before, positive_after, repairs, repairs_of_bit, .. } = *d;
+    Delivery { line: StreamLine(d.line), content, positive_before, positive_after, repairs, repairs_of_bit }
 }
 
 pub fn read(plain: &Answer<Delivered>) -> ReadAnswer {
@@ -86,8 +87,8 @@ pub fn read_line_words(plain: Answer<u32>) -> ReadLineWordsAnswer {
 
 pub fn repair(plain: Answer<Repaired>) -> RepairAnswer {
     match plain {
-        Ok(r) => RepairAnswer { number: 0, word: r.word.into(), distance: r.distance },
-        Err((number, _)) => RepairAnswer { number, ..Default::default() },
+        Ok(r) => RepairAnswer { number: 0, word: r.word.into(), distance: r.distance, bit: r.bit.unwrap_or(NO_BIT) },
+        Err((number, _)) => RepairAnswer { number, word: 0, distance: 0, bit: NO_BIT },
     }
 }
 

@@ -1,7 +1,7 @@
 //! The wrapper's names for numbers, and the header's.
 
 use crate::report::Report;
-use brazulint::{version, Refusal, LIMIT, MOST_SAMPLES, MOST_SYMBOLS, VERSION};
+use brazulint::{version, Refusal, LIMIT, MOST_SAMPLES, MOST_SYMBOLS, NO_BIT, VERSION};
 
 /// The header that C callers have.
 const HEADER: &str = include_str!("../../../include/brazulint.h");
@@ -13,7 +13,7 @@ fn header_name(refusal: Refusal) -> String {
     variant.fold("BRAZULINT".to_string(), |name, c| name + if c.is_uppercase() { "_" } else { "" } + &c.to_uppercase().to_string())
 }
 
-/// The wrapper has the header's numbers: each refusal under its name, with its words, the version, and the greatest lengths.
+/// The wrapper has the header's numbers: each refusal under its name, with its words, the version, the greatest lengths, and no bit.
 pub fn run() -> Report {
     let mut r = Report::default();
     for number in (1..=8).chain(20..=26) {
@@ -24,8 +24,8 @@ pub fn run() -> Report {
         r.holds(|| format!("the header has other words than the wrapper for {name}"), HEADER.contains(&text));
     }
     r.answer(|| "version".into(), version(), VERSION);
-    let numbers = [("VERSION", VERSION as usize), ("MOST_SAMPLES", MOST_SAMPLES), ("MOST_SYMBOLS", MOST_SYMBOLS), ("LIMIT", LIMIT)];
-    for (name, number) in numbers {
+    let lengths = [("MOST_SAMPLES", MOST_SAMPLES), ("MOST_SYMBOLS", MOST_SYMBOLS), ("LIMIT", LIMIT)];
+    for (name, number) in lengths.into_iter().chain([("VERSION", VERSION as usize), ("NO_BIT", NO_BIT as usize)]) {
         r.holds(|| format!("the header has no {name} {number}"), HEADER.contains(&format!("#define BRAZULINT_{name} {number}\n")));
     }
     r

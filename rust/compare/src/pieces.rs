@@ -1,15 +1,16 @@
 //! What recordings are made of: sent spans, and things that look like spans or keep them from being found.
 
-use crate::damage::{damaged, DAMAGES};
+use crate::damage::{damaged, some_xyzs, DAMAGES};
 use crate::spans::{any_sent, shape_of, Draft};
 use random::Random;
 use plain::code::{encode, K28_5};
 
 type Piece = fn(&mut Random, u32, u32) -> Vec<u16>;
 
-const PIECES: [Piece; 13] = [
+const PIECES: [Piece; 14] = [
     any_sent,
     any_sent,
+    repaired,
     |random, _, _| noise(random),
     |random, _, _| legal_noise(random),
     |random, format, depth| cut(random, format, depth).0,
@@ -31,6 +32,13 @@ pub fn any_recording(random: &mut Random, format: u32, depth: u32, symbols: usiz
         recording.extend(piece);
     }
     recording
+}
+
+/// A span that is delivered, with some timing words repaired.
+fn repaired(random: &mut Random, format: u32, depth: u32) -> Vec<u16> {
+    let mut draft = Draft::at_random(random, format, depth);
+    some_xyzs(random, &mut draft);
+    draft.symbols()
 }
 
 /// Ten-bit numbers, or larger ones.

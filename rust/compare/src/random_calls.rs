@@ -65,7 +65,11 @@ fn single_number(r: &mut Report, random: &mut Random) {
         1 => calls::decode(r, positive, number(random) % 2048),
         2 => calls::encode(r, positive, number(random)),
         3 => calls::decode(r, positive, number(random)),
-        4 => calls::repair(r, random.pick(&[0x800, 0x9D0, 0xAB0, 0xB60]) ^ 1 << random.below(13) ^ 1 << random.below(13)),
+        4 => {
+            // One bit or two, of which one may be above the twelve.
+            let wrong = 1 << random.below(13) ^ random.within(0, 1) << random.below(13);
+            calls::repair(r, random.pick(&[0x800, 0x9D0, 0xAB0, 0xB60]) ^ wrong);
+        }
         5 => calls::line_words(r, number(random)),
         6 => any_line_words(r, random),
         7 => calls::place(r, number(random), number(random)),

@@ -1,20 +1,24 @@
 //! Reading spans as they were sent, and damaged in every way, with one change and with two.
 
 use crate::calls;
-use crate::damage::{damaged, DAMAGES};
+use crate::damage::{bit_of_xyzs, damaged, DAMAGES};
 use crate::report::{in_two, Report};
-use crate::spans::{shape_of, Draft, EDGES, KINDS};
+use crate::spans::{any_line, shape_of, Draft, EDGES, KINDS};
 use random::Random;
 use std::sync::atomic::{AtomicU64, Ordering};
 
 /// How often each refusal must be met, and a delivery with a repair.
 const OFTEN: u64 = 50;
 
-/// How often each of 20 to 26 was met, and how often a delivery had repairs.
+/// How often each bit of each XYZ must be wrong in a span that is delivered, in each format.
+const OF_EACH_BIT: u64 = 20;
+
+/// How often each of 20 to 26 was met, how often a delivery had repairs, and how often by format, XYZ and bit.
 #[derive(Default)]
 pub struct Met {
     numbers: [AtomicU64; 27],
     repaired: AtomicU64,
+    of_bit: [[[AtomicU64; 12]; 8]; 3],
 }
 
 pub fn run() -> Report {
@@ -23,6 +27,7 @@ pub fn run() -> Report {
     r.add(in_two(|part, r| single(part, r, &met)));
     r.add(in_two(|part, r| pairs(part, r, &met)));
     r.add(in_two(service_bits));
+    r.add(in_two(|part, r| timing_words(part, r, &met)));
     r.add(in_two(|part, r| row_limits(part, r, &met)));
     for number in 20..=26 {
         let times = met.numbers[number].load(Ordering::Relaxed);
@@ -30,6 +35,12 @@ pub fn run() -> Report {
     }
     let times = met.repaired.load(Ordering::Relaxed);
     r.holds(|| format!("{times} deliveries only had repairs"), times >= OFTEN);
+    for format in 1..=3 {
+        for (xyz, bit) in (0..2 * shape_of(format).streams).flat_map(|xyz| (0..12).map(move |bit| (xyz, bit))) {
+            let times = met.of_bit[format as usize - 1][xyz][bit].load(Ordering::Relaxed);
+            r.holds(|| format!("format {format}: bit {bit} of XYZ {xyz} was repaired {times} times only"), times >= OF_EACH_BIT);
+        }
+    }
     r
 }
 
@@ -114,6 +125,30 @@ fn service_bits(part: usize, r: &mut Report) {
                 }
                 r.context = format!("line {line}, bit {bit} of word {k} of stream {t}");
                 drop(calls::read(r, format, depth, &changed.symbols(), draft.shape.samples()));
+            }
+        }
+    }
+}
+
+/// One wrong bit in each XYZ of a set, every set of them, and nothing else wrong: the span is delivered, and the repairs that are told are
+/// those that were put in. Where there are fewer than eight XYZs, the sets come more often.
+fn timing_words(part: usize, r: &mut Report, met: &Met) {
+    let mut random = Random(0x121 + part as u64);
+    for (format, depth) in KINDS.into_iter().skip(part).step_by(2) {
+        for set in 0..512 {
+            let line = any_line(&mut random);
+            let mut draft = Draft::of_line(&mut random, format, depth, line);
+            let wrong = bit_of_xyzs(&mut random, &mut draft, set);
+            let mut of_bit = [0; 12];
+            wrong.iter().for_each(|&(_, bit)| of_bit[bit] += 1);
+            r.context = format!("line {line}, XYZs with their wrong bits: {wrong:?}");
+            let (symbols, samples) = (draft.symbols(), draft.shape.samples());
+            calls::judge(r, format, depth, &symbols);
+            calls::next(r, format, depth, &symbols, 0, samples);
+            let told = calls::read(r, format, depth, &symbols, samples).map(|d| (d.repairs as usize, d.repairs_of_bit));
+            r.holds(|| format!("format {format}, depth {depth}: {told:?} is told"), told == Ok((wrong.len(), of_bit)));
+            for (xyz, bit) in wrong.into_iter().filter(|_| told.is_ok()) {
+                met.of_bit[format as usize - 1][xyz][bit].fetch_add(1, Ordering::Relaxed);
             }
         }
     }

@@ -139,7 +139,7 @@ fn chain(random: &mut Random, format: u32, depth: u32, count: u32) -> Vec<Sent> 
 fn delivery(asked: Asked, positive_after: bool) -> Delivery {
     let [sav1, sav2, eav1, eav2] = asked.content.unwrap_or([0; 4]);
     let content = Content { sav1, sav2, eav1, eav2 };
-    Delivery { line: StreamLine(asked.line), content, positive_before: asked.positive, positive_after, repairs: 0 }
+    Delivery { line: StreamLine(asked.line), content, positive_before: asked.positive, positive_after, repairs: 0, repairs_of_bit: [0; 12] }
 }
 
 /// One inverted bit in sent spans alone: exactly the other spans are delivered, with what was sent. This calls only the library.

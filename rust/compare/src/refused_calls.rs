@@ -148,21 +148,21 @@ fn nulls(r: &mut Report) {
     // SAFETY: every pointer is null with 0 as its number of elements, which the header allows for each of these calls.
     unsafe {
         let sent = expected::send(&plain::span::send(asked, &[], 0));
-        r.answer(|| "send of nothing".into(), raw::brazulint2_send(format, request, from, 0, to, 0), sent);
+        r.answer(|| "send of nothing".into(), raw::brazulint3_send(format, request, from, 0, to, 0), sent);
         let filled = expected::number(&plain::span::blanking_row(1, 12, 0));
-        r.answer(|| "fill_blanking of nothing".into(), raw::brazulint2_fill_blanking(format, to, 0), filled);
+        r.answer(|| "fill_blanking of nothing".into(), raw::brazulint3_fill_blanking(format, to, 0), filled);
         let read = expected::read(&plain::read::read(1, 12, &[], 0));
-        r.answer(|| "read of nothing".into(), raw::brazulint2_read(format, from, 0, to, 0), read);
-        r.answer(|| "judge of nothing".into(), raw::brazulint2_judge(format, from, 0), read);
+        r.answer(|| "read of nothing".into(), raw::brazulint3_read(format, from, 0, to, 0), read);
+        r.answer(|| "judge of nothing".into(), raw::brazulint3_judge(format, from, 0), read);
         let found = expected::find(plain::recording::find(1, 12, &[], 0));
-        r.answer(|| "find in nothing".into(), raw::brazulint2_find(format, from, 0, 0), found);
+        r.answer(|| "find in nothing".into(), raw::brazulint3_find(format, from, 0, 0), found);
         let next = expected::next(&plain::recording::next(1, 12, &[], 0, 0), 0, 7920, 0);
-        r.answer(|| "next in nothing".into(), raw::brazulint2_next(format, from, 0, 0, to, 0), next);
+        r.answer(|| "next in nothing".into(), raw::brazulint3_next(format, from, 0, 0, to, 0), next);
         let split = expected::number(&plain::picture::split(&[], [0, 0]));
-        r.answer(|| "split of nothing".into(), raw::brazulint2_split(from, 0, to, 0, to, 0), split);
+        r.answer(|| "split of nothing".into(), raw::brazulint3_split(from, 0, to, 0, to, 0), split);
         let joined = expected::number(&plain::picture::join(&[], &[], 0));
-        r.answer(|| "join of nothing".into(), raw::brazulint2_join(from, 0, from, 0, to, 0), joined);
+        r.answer(|| "join of nothing".into(), raw::brazulint3_join(from, 0, from, 0, to, 0), joined);
         let crcc = expected::crcc(plain::words::crcc(&[]));
-        r.answer(|| "crcc of nothing".into(), raw::brazulint2_crcc(from, 0), crcc);
+        r.answer(|| "crcc of nothing".into(), raw::brazulint3_crcc(from, 0), crcc);
     }
 }

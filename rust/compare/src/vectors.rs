@@ -126,9 +126,12 @@ fn form(r: &mut Report, character: u32, positive: bool, symbol: u32) {
 }
 
 fn words(r: &mut Report) {
-    let repairs = [(0x800, 0, 0x800, 0), (0x9D0, 0, 0x9D0, 0), (0xAB0, 0, 0xAB0, 0), (0xB60, 0, 0xB60, 0)];
-    for (given, number, word, distance) in repairs.into_iter().chain([(0x801, 0, 0x800, 1), (0x8D0, 0, 0x9D0, 1), (0x803, 8, 0, 0)]) {
-        r.answer(|| format!("repair({given:#x})"), repair(given), RepairAnswer { number, word, distance });
+    let legal = [0x800, 0x9D0, 0xAB0, 0xB60].map(|word| (word, RepairAnswer { number: 0, word, distance: 0, bit: NO_BIT }));
+    let wrong = [(0x801, 0x800, 0), (0x8D0, 0x9D0, 8), (0x000, 0x800, 11)];
+    let repaired = wrong.map(|(given, word, bit)| (given, RepairAnswer { number: 0, word, distance: 1, bit }));
+    let refused = (0x803, RepairAnswer { number: 8, word: 0, distance: 0, bit: NO_BIT });
+    for (given, answer) in legal.into_iter().chain(repaired).chain([refused]) {
+        r.answer(|| format!("repair({given:#x})"), repair(given), answer);
         calls::repair(r, given);
     }
     for (line, ln0, ln1) in [(1, 0x810, 0x800), (42, 0xAA0, 0x800), (127, 0x7F0, 0x800), (128, 0x800, 0x810), (1125, 0x650, 0x880)] {

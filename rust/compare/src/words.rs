@@ -15,10 +15,14 @@ pub fn run() -> Report {
     r
 }
 
+/// Every number of sixteen bits, and larger ones; and what must be answered for each bit of each legal word, whatever plain says.
 fn repairs(r: &mut Report) {
     let above = [0x10800, 0x10801, 0x1_0000, 0x1_09D0, 0x2_0AB0, 0x8000_0B60, 0xFFFF_0800, 0x1000_0800, u32::MAX - 1, u32::MAX];
     for word in (0..=65_535).chain(above).chain((1..=32).map(|n| (n << 16) + 0x800)) {
         calls::repair(r, word);
+    }
+    for (legal, bit) in [0x800, 0x9D0, 0xAB0, 0xB60].into_iter().flat_map(|legal| (0..12).map(move |bit| (legal, bit))) {
+        r.answer(|| format!("bit {bit} of {legal:#x}"), brazulint::repair(legal ^ 1 << bit).result(), Ok((legal, 1, Some(bit))));
     }
 }
 

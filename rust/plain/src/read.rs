@@ -2,7 +2,7 @@
 
 use crate::code::{encode, meaning, K28_5, K29_7};
 use crate::span::{shape, Shape, ROW};
-use crate::words::{crcc_of, is_active, line_before, named, nearest, Repaired, BLANKING};
+use crate::words::{crcc_of, differ, is_active, line_before, named, nearest, Repaired, BLANKING};
 use crate::{refuse_unless, Answer};
 
 /// What a span says about itself, and its rows stream by stream.
@@ -13,6 +13,8 @@ pub struct Delivered {
     pub positive_before: bool,
     pub positive_after: bool,
     pub repairs: u32,
+    /// How often each bit of a timing word was repaired, b0 first.
+    pub repairs_of_bit: [u32; 12],
     pub rows: Vec<u16>,
 }
 
@@ -52,6 +54,12 @@ impl Words {
 
     fn eav(&self, t: usize) -> Option<Repaired> {
         nearest(self.at(EAV_AT + 3, t))
+    }
+
+    /// In how many XYZ words a bit is not that of the repaired word.
+    fn repaired_at(&self, bit: u32) -> u32 {
+        let wrong = |k: usize, t: usize| nearest(self.at(k, t)).is_some_and(|r| differ(bit, self.at(k, t), r.word));
+        (0..self.s).map(|t| wrong(3, t) as u32 + wrong(EAV_AT + 3, t) as u32).sum()
     }
 }
 
@@ -157,8 +165,9 @@ pub fn window(shape: Shape, depth: u32, symbols: &[u16]) -> Answer<Delivered> {
     let content = [2, 3, eav + 2, eav + 3].map(|i| characters[i] as u8);
     let distance = |repaired: Option<Repaired>| repaired.map_or(0, |r| r.distance);
     let repairs = (0..words.s).map(|t| distance(words.sav(t)) + distance(words.eav(t))).sum();
+    let repairs_of_bit = std::array::from_fn(|bit| words.repaired_at(bit as u32));
     let rows = (0..words.s).flat_map(|t| (ROW_AT..EAV_AT).map(move |k| (k, t))).map(|(k, t)| words.at(k, t)).collect();
-    Ok(Delivered { line, content, positive_before, positive_after, repairs, rows })
+    Ok(Delivered { line, content, positive_before, positive_after, repairs, repairs_of_bit, rows })
 }
 
 /// The reader with rows; `room` is their length.

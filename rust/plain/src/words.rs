@@ -41,19 +41,28 @@ pub fn timing_code(line: u32, eav: bool) -> [u16; 4] {
     [0xFFF, 0x000, 0x000, xyz(!is_active(line), eav)]
 }
 
-/// A legal timing word near a given one.
+/// A legal timing word near a given one: in how many bits that one differs, and in which, b0 being the lowest (004, table 6).
 #[derive(Clone, Copy, Debug, PartialEq, Eq)]
 pub struct Repaired {
     pub word: u16,
     pub distance: u32,
+    pub bit: Option<u32>,
     pub v: bool,
     pub h: bool,
+}
+
+/// Whether two words differ in bit k.
+pub fn differ(k: u32, one: u16, other: u16) -> bool {
+    one >> k & 1 != other >> k & 1
 }
 
 /// The legal word at distance 0 or 1 over all twelve bits (01, "Words of a stream").
 pub fn nearest(word: u16) -> Option<Repaired> {
     let legal = [(false, false), (false, true), (true, false), (true, true)];
-    let near = legal.map(|(v, h)| Repaired { word: xyz(v, h), distance: (word ^ xyz(v, h)).count_ones(), v, h });
+    let near = legal.map(|(v, h)| {
+        let bit = (0..12).find(|&k| differ(k, word, xyz(v, h)));
+        Repaired { word: xyz(v, h), distance: (word ^ xyz(v, h)).count_ones(), bit, v, h }
+    });
     near.into_iter().find(|r| r.distance <= 1)
 }
 

@@ -12,7 +12,7 @@ use Rattle.span.specs.Format.{isKnown, shapeOf, streams, symbolsIn}
 use Rattle.span.specs.Layout.{pictureStart, eavStart, ancillaryStart}
 use Rattle.crcc.specs.declared.sums.Sums.{Sums}
 use Rattle.window.specs.Read.{placed, contentIn, repairsOf}
-use Rattle.window.specs.Tests.{lineRead, repairCount}
+use Rattle.window.specs.Tests.{lineRead, repairCount, repairsAt}
 use Rattle.window.specs.Words.{wordAt}
 use Rattle.read_test21_26.specs.declared.call.Judged.{Judged}
 use Rattle.read_test21_26.specs.declared.call.Judged.the-variants.{Serves, Refused, NoWindow}
@@ -33,7 +33,7 @@ serviceOf p w =
     record {
       line = record { 0 = lineRead (streams p) (wordAt p w) };
       content = contentIn p w;
-      repairs = repairsOf (repairCount (streams p) (wordAt p w));
+      repairs = repairsOf (repairCount (streams p) (wordAt p w)) (repairsAt (streams p) (wordAt p w));
     }
 
 -- these if all tests hold, and else the one that does not

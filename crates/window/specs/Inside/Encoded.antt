@@ -22,7 +22,7 @@ use Rattle.line.specs.Stream.{isLine}
 use Rattle.window.specs.declared.delivery.Delivery.{Delivery}
 use Rattle.window.specs.Encoded.{charsOf, AreContent, wordIn, sampleOf}
 use Rattle.window.specs.Read.{placed, contentIn, repairsOf}
-use Rattle.window.specs.Tests.{wordOf, holds21, holds22, holds23, holds24, holds25, holds26, lineRead, repairCount}
+use Rattle.window.specs.Tests.{wordOf, holds21, holds22, holds23, holds24, holds25, holds26, lineRead, repairCount, repairsAt}
 use Rattle.window.specs.Words.{fixedByte, wordAt}
 
 -- words whose replaced bytes, in SAV and EAV, have the values that a receiver assumes
@@ -48,7 +48,7 @@ answered f d c words =
       content = c;
       before = d;
       after = afterRun d (charsOf p c words);
-      repairs = repairsOf (repairCount (streams p) (wordIn words));
+      repairs = repairsOf (repairCount (streams p) (wordIn words)) (repairsAt (streams p) (wordIn words));
     }
 
 -- ---- what is sent, and what arrives

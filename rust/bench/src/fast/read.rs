@@ -115,10 +115,10 @@ impl Reader<'_> {
         self.at += 1;
     }
 
-    /// The rest of a timing code after its special characters: the content bytes, and V H of each stream's XYZ with its distance. Sound if
+    /// The rest of a timing code after its special characters: the content bytes, and V H of each stream's XYZ with its wrong bit. Sound if
     /// its symbols are left.
     #[inline(always)]
-    unsafe fn timing<const S: usize>(&mut self, h: usize) -> ([u8; 2], [(usize, u32); S]) {
+    unsafe fn timing<const S: usize>(&mut self, h: usize) -> ([u8; 2], [(usize, u16); S]) {
         let content = [self.byte() as u8, self.byte() as u8];
         // What is left of FFF FFF 000 000, or of FFF FFF FFF FFF.
         (0..2).for_each(|_| self.bad |= self.byte() ^ if S == 2 { 0 } else { 255 });
@@ -186,15 +186,21 @@ unsafe fn span<const S: usize>(tables: &Tables, shape: Shape, depth: u32, symbol
     let crcc = [reader.each::<S>(), reader.each::<S>()];
     let next = named([ln0[0], ln1[0]])?;
     let line = line_before(next);
-    let mut repairs = 0;
     for t in 0..S {
-        let ((vh, distance), (next_vh, next_distance)) = (near[t], next_near[t]);
+        let ((vh, _), (next_vh, _)) = (near[t], next_near[t]);
         let after = [0xFFF, 0, 0, XYZ[next_vh % 4], ln0[t], ln1[t]];
         let worked_out = crcc_words(after.iter().fold(registers[t], |register, &word| step(register, word)));
         let right = [ln0[t], ln1[t]] == [ln0[0], ln1[0]] && worked_out == [crcc[0][t], crcc[1][t]];
         let v_fits = (vh / 2 == 0) == is_active(line) && (next_vh / 2 == 0) == is_active(next);
         reader.bad |= !(right && v_fits) as u32;
-        repairs += distance + next_distance;
+    }
+    let (mut repairs, mut repairs_of_bit) = (0, [0; 12]);
+    for (_, wrong) in near.into_iter().chain(next_near) {
+        // Mostly none is.
+        if wrong != 0 {
+            repairs += 1;
+            repairs_of_bit[wrong.trailing_zeros() as usize] += 1;
+        }
     }
     let ancillary = shape.ancillary * S / 2 * 3;
     if reader.are_blank(ancillary) {
@@ -204,7 +210,8 @@ unsafe fn span<const S: usize>(tables: &Tables, shape: Shape, depth: u32, symbol
     }
     let fine = reader.bad == 0 && reader.are_blank(symbols.len() - reader.at) && (!is_active(line) || all_allowed(depth, rows));
     let content = Content { sav1, sav2, eav1, eav2 };
-    fine.then_some(Delivery { line: StreamLine(line), content, positive_before, positive_after: reader.mask == POSITIVE, repairs })
+    let (line, positive_after) = (StreamLine(line), reader.mask == POSITIVE);
+    fine.then_some(Delivery { line, content, positive_before, positive_after, repairs, repairs_of_bit })
 }
 
 /// Gives what the span says about itself. Its words go into rows, or zeros if it is refused by 20 to 26.

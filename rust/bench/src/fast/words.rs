@@ -10,10 +10,10 @@ pub fn xyz(line: u32, eav: bool) -> u16 {
     XYZ[2 * !is_active(line) as usize + eav as usize]
 }
 
-/// V and H of the legal word that is at most one bit away, and how many bits that is.
+/// V and H of the legal word that is at most one bit away, and the bit that is wrong, in its place; 0 if none is.
 #[inline]
-pub fn repair(word: u16) -> Option<(usize, u32)> {
-    (0..4).map(|vh| (vh, (word ^ XYZ[vh]).count_ones())).find(|&(_, distance)| distance <= 1)
+pub fn repair(word: u16) -> Option<(usize, u16)> {
+    (0..4).map(|vh| (vh, word ^ XYZ[vh])).find(|&(_, wrong)| wrong.count_ones() <= 1)
 }
 
 /// b11 is the opposite of b10 (004, tables 8 and 9).

@@ -16,7 +16,7 @@ use Rattle.list_repairs.proofs.listing.put_listing.Tie as tie
 abbrev Inv-loop : tie.InvT-loop
 Inv-loop input out₀ count at₀ i₀ out at i =
     (count ≡ wordCount (length input))
-    × (622592 ≤ length out₀)
+    × (688128 ≤ length out₀)
     × (i ≤ count)
     × Put out₀ out 0 at (repairLines input i)
 

@@ -7,7 +7,7 @@ use Rattle.ground.proofs.Putting.{put-as}
 use Rattle.word.specs.Repair.{paperRepair, repairOf}
 use Rattle.text.proofs.Putting.{put-told}
 use Rattle.list_repairs.specs.Text.{refusedLine, outcome}
-use Rattle.list_repairs.proofs.Lines.{near-enough}
+use Rattle.list_repairs.proofs.Lines.{is-short}
 use Rattle.list_repairs.proofs.Pieces.{repaired-put}
 use Rattle.ground.specs.Answer.{given}
 use borrow.Author.Needs.{needs}
@@ -41,8 +41,8 @@ slice-aggregate-put-text-2 c = search needs
 put-text-requires-2 : tie.Need-put-text-requires-2
 put-text-requires-2 c κs = search needs
 
-enum-told : tie.Need-enum-told
-enum-told c = search needs
+put-bit-requires : tie.Need-put-bit-requires
+put-bit-requires c κs = search needs
 
 slice-aggregate-put-text-3 : tie.Need-slice-aggregate-put-text-3
 slice-aggregate-put-text-3 c = search needs
@@ -50,8 +50,8 @@ slice-aggregate-put-text-3 c = search needs
 put-text-requires-3 : tie.Need-put-text-requires-3
 put-text-requires-3 c κs = search needs
 
-enum-told-2 : tie.Need-enum-told-2
-enum-told-2 c = search needs
+enum-told : tie.Need-enum-told
+enum-told c = search needs
 
 slice-aggregate-put-text-4 : tie.Need-slice-aggregate-put-text-4
 slice-aggregate-put-text-4 c = search needs
@@ -59,12 +59,23 @@ slice-aggregate-put-text-4 c = search needs
 put-text-requires-4 : tie.Need-put-text-requires-4
 put-text-requires-4 c κs = search needs
 
+enum-told-2 : tie.Need-enum-told-2
+enum-told-2 c = search needs
+
+slice-aggregate-put-text-5 : tie.Need-slice-aggregate-put-text-5
+slice-aggregate-put-text-5 c = search needs
+
+put-text-requires-5 : tie.Need-put-text-requires-5
+put-text-requires-5 c κs = search needs
+
 same-length : tie.Need-same-length
 same-length c = search needs
 
 returns : tie.Need-returns
 returns c =
-    let s4 = c .before .before in
+    let s6 = c .before .before in
+    let s5 = s6 .before .before .before .before .before in
+    let s4 = s5 .before .before .before .before in
     let s3 = s4 .before .before .before .before .before in
     let s2 = s3 .before .before .before .before .before in
     let s1 = s2 .before .before .before .before .before in
@@ -73,11 +84,11 @@ returns c =
     let a = t .before .before .before .before .args in
     let v = t .r .given .0 .0 in
     let e : given v ≡ repairOf (a .w) = sym (ap paperRepair (t .r .given .1)) ∙ r .ensures in
-    let h : v .distance ≤ 1 = rw (← e) at (near-enough (a .w)) in
-    let room : a .at + 8 ≤ length (a .out .now) = search needs in
+    let room : a .at + 10 ≤ length (a .out .now) = search needs in
     let p =
     put-as (ap outcome e)
-    (repaired-put v h room (s1 .put-hexadecimal .ensures) (s2 .put-text .ensures) (s3 .put-decimal .ensures) (s4 .put-text2 .ensures)) in
+    (repaired-put v (is-short (a .w) v (sym e)) room (s1 .put-hexadecimal .ensures) (s2 .put-text .ensures) (s3 .put-decimal .ensures)
+    (s4 .put-text2 .ensures) (s5 .put-bit .ensures) (s6 .put-text3 .ensures)) in
     (p .ends, p .written)
 
 same-length-2 : tie.Need-same-length-2
@@ -90,7 +101,7 @@ returns-2 c =
     let e = ap outcome (sym (ap paperRepair (s .before .before .before .enum-told .given .1)) ∙ r .ensures) in
     let a = s .before .before .before .before .before .before .before .args in
     let room : a .at + 8 ≤ length (a .out .now) = search needs in
-    let p = put-as e (put-told refusedLine room (s .put-text3 .ensures .0) (s .put-text3 .ensures .1)) in
+    let p = put-as e (put-told refusedLine room (s .put-text4 .ensures .0) (s .put-text4 .ensures .1)) in
     (p .ends, p .written)
 
 same-length-3 : tie.Need-same-length-3
@@ -103,7 +114,7 @@ returns-3 c =
     let e = ap outcome (sym (ap paperRepair (s .before .before .before .enum-told2 .given .1)) ∙ r .ensures) in
     let a = s .before .before .before .before .before .before .before .args in
     let room : a .at + 8 ≤ length (a .out .now) = search needs in
-    let p = put-as e (put-told refusedLine room (s .put-text4 .ensures .0) (s .put-text4 .ensures .1)) in
+    let p = put-as e (put-told refusedLine room (s .put-text5 .ensures .0) (s .put-text5 .ensures .1)) in
     (p .ends, p .written)
 
 pub put-outcome-spec : {M : Type 1} → statement M
@@ -119,12 +130,15 @@ put-outcome-spec =
     put-decimal-requires
     slice-aggregate-put-text-2
     put-text-requires-2
-    enum-told
+    put-bit-requires
     slice-aggregate-put-text-3
     put-text-requires-3
-    enum-told-2
+    enum-told
     slice-aggregate-put-text-4
     put-text-requires-4
+    enum-told-2
+    slice-aggregate-put-text-5
+    put-text-requires-5
     same-length
     returns
     same-length-2

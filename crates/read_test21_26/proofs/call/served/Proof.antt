@@ -26,8 +26,8 @@ content-in-requires c κs = c .before .before .before .before .pre .0 .given
 line-before-requires : tie.Need-line-before-requires
 line-before-requires c κs = search needs
 
-wrong-in-all-requires : tie.Need-wrong-in-all-requires
-wrong-in-all-requires c κs = c .before .before .before .before .before .before .pre .0 .given
+repairs-in-requires : tie.Need-repairs-in-requires
+repairs-in-requires c κs = c .before .before .before .before .before .before .pre .0 .given
 
 enum-told : tie.Need-enum-told
 enum-told c = search needs
@@ -41,7 +41,7 @@ returns c =
     let a = s .args in
     ap Serves
     (service-is (a .p) (a .symbols .now) (sym (ap lineIn (c .before .before .before .before .next .given .1)) ∙ s .pre .0 .line) (c .before .line-before .ensures)
-    (c .before .before .content-in .ensures) (c .wrong-in-all .ensures))
+    (c .before .before .content-in .ensures) (c .repairs-in .ensures))
 
 returns-2 : tie.Need-returns-2
 returns-2 c =
@@ -60,7 +60,7 @@ served-spec =
     enum-known-next
     content-in-requires
     line-before-requires
-    wrong-in-all-requires
+    repairs-in-requires
     enum-told
     enum-told-2
     returns

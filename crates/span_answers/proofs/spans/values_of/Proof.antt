@@ -13,15 +13,20 @@ is-positive-requires c κs = search needs
 is-positive-requires-2 : tie.Need-is-positive-requires-2
 is-positive-requires-2 c κs = search needs
 
-cast-t8 : tie.Need-cast-t8
-cast-t8 c = search needs
+cast-t9 : tie.Need-cast-t9
+cast-t9 c = search needs
+
+bit-counts-requires : tie.Need-bit-counts-requires
+bit-counts-requires c κs = search needs
 
 returns : tie.Need-returns
 returns c =
+    let s = c .before .before in
     rw (
-      c .before .before .before .stream-line-number .ensures,
-      c .before .before .is-positive .ensures,
-      c .before .is-positive2 .ensures,
+      s .before .before .stream-line-number .ensures,
+      s .before .is-positive .ensures,
+      s .is-positive2 .ensures,
+      c .bit-counts .ensures,
     )
 
 pub values-of-spec : {M : Type 1} → statement M
@@ -31,5 +36,6 @@ values-of-spec =
     stream-line-number-requires
     is-positive-requires
     is-positive-requires-2
-    cast-t8
+    cast-t9
+    bit-counts-requires
     returns)

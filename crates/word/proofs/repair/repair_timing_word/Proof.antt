@@ -1,15 +1,15 @@
 -- `word::repair::repair_timing_word` meets its contract: below vh no legal word is near.
 -- Assumes nothing.
-use mathlib.Core.Path.{_≡_, sym, ap, ap₂, _∙_}
-use Prim.Native.Nat.{ℕ, _-_, _≤_, _<_, min}
+use mathlib.Core.Path.{_≡_, sym, ap, _∙_}
+use Prim.Native.Nat.{ℕ, _-_, _/_, _%_, _≤_, _<_, min}
 use native.Mathlib.Omega.{arith}
 use borrow.Author.Needs.{needs}
 use borrow.Author.Tests.{le-ltb}
-use Rattle.ground.specs.Answer.{Answer, given}
 use Rattle.ground.proofs.Searches.{Nowhere}
-use Rattle.word.specs.declared.repair.Repaired.{Repaired}
-use Rattle.word.specs.Repair.{distance, legalWord, near}
-use Rattle.word.proofs.Repairs.{found, lost, one-more}
+use lib.Dec.{eqb}
+use Rattle.word.specs.Repair.{distance, bitOf, legalWord, near}
+use Rattle.word.proofs.Repairs.{is-repaired, found, lost, one-more}
+use Rattle.word.proofs.Timings.{timing-below}
 use Rattle.word.proofs.repair.repair_timing_word.Statement.{statement}
 use Rattle.word.proofs.repair.repair_timing_word.Tie as tie
 
@@ -31,21 +31,25 @@ timing-word-requires c κs = search needs
 difference-requires : tie.Need-difference-requires Inv-loop μ-loop
 difference-requires c κs = search needs
 
-abbrev asked : ℕ → ℕ → Answer Repaired
-asked word distance = given (record { word = word; distance = distance })
+wrong-bit-requires : tie.Need-wrong-bit-requires Inv-loop μ-loop
+wrong-bit-requires c κs =
+    let v = c .before .before .before .before .loop in
+    let l = timing-below (eqb (v .vh / 2) 1) (eqb (v .vh % 2) 1) in
+    (v .inv .0, omega (arith, c .before .before .timing-word .ensures, l))
 
 returns-2 : tie.Need-returns-2 Inv-loop μ-loop
 returns-2 c =
-    let w = c .before .before .before .before .before .before .args .w in
-    let v = c .before .before .before .before .loop in
-    let t = c .before .before .timing-word .ensures in
-    let e : c .before .difference .result ≡ min 2 (distance w (legalWord (v .vh))) =
-    c .before .difference .ensures ∙ ap (λ (x : ℕ). min 2 (distance w x)) t in
-    let d : distance w (legalWord (v .vh)) ≤ 1 = omega (arith, e, c .if2 .taken) in
-    let m : c .before .difference .result ≡ distance w (legalWord (v .vh)) = omega (arith, e, d) in
+    let s = c .before .before in
+    let w = s .before .before .before .before .before .args .w in
+    let v = s .before .before .before .loop in
+    let t = s .before .timing-word .ensures in
+    let e : s .difference .result ≡ min 2 (distance w (legalWord (v .vh))) =
+    s .difference .ensures ∙ ap (λ (x : ℕ). min 2 (distance w x)) t in
+    let d : distance w (legalWord (v .vh)) ≤ 1 = omega (arith, e, c .before .if2 .taken) in
+    let m : s .difference .result ≡ distance w (legalWord (v .vh)) = omega (arith, e, d) in
+    let b = c .wrong-bit .ensures ∙ ap (bitOf w) t in
     let l : v .vh < 4 = omega arith in
-    ap₂ asked t m
-    ∙ sym (found w (v .inv .0) (v .vh) l (v .inv .2) d)
+    is-repaired w t m b ∙ sym (found w (v .inv .0) (v .vh) l (v .inv .2) d)
 
 add-vh : tie.Need-add-vh Inv-loop μ-loop
 add-vh c = search needs
@@ -79,6 +83,7 @@ repair-timing-word-spec =
     loop-holds
     timing-word-requires
     difference-requires
+    wrong-bit-requires
     returns-2
     add-vh
     loop-less
