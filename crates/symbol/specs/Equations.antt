@@ -1,8 +1,9 @@
 -- A second definition of the code, against which the first is held: the logic equations that its authors published (Widmer and Franaszek, "A
 -- DC-balanced, partitioned-block, 8B/10B transmission code", IBM Journal of Research and Development 27, 1983; US patent 4,486,739). It has no
 -- table and no rule of `Blocks`, `Disparity` and `Code`; that both are one code is the field `equations` of `Paper`.
--- The names are the authors': A to H are the bits of a byte, A the lowest, and K is set in a special character; a, b, c, d, e, i, f, g, h, j are
--- the bits of a symbol in the order in which they are sent. Their product is `&&` here, their sum `||`, and their prime `not`.
+-- The names are meant as the authors', whose publication is not among our papers: A to H are the bits of a byte, A the lowest, and K is set in a
+-- special character; a, b, c, d, e, i, f, g, h, j are the bits of a symbol in the order in which they are sent. Their product is `&&` here,
+-- their sum `||`, and their prime `not`.
 -- Assumes nothing.
 use Prim.Native.Nat.{ℕ, _+_, _*_, _/_, _%_, _^_}
 use mathlib.Core.Bool.{Bool, true, false, not, _&&_, _||_, cond}
