@@ -30,7 +30,6 @@ use Rattle.window.proofs.Accepting.{delivers, none-fails}
 use Rattle.window.proofs.RoundTrip.{round-trip}
 use Rattle.request.specs.Send.{firstForbidden, sendOf}
 use Rattle.demands.specs.Form.{readingOf}
-use Rattle.demands.proofs.Delivering.{nothing}
 use Rattle.demands.proofs.Refusing.{known-says, symbols-say}
 
 -- what might be sent, in the terms of the reader's laws, is sent

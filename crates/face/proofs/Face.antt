@@ -45,7 +45,7 @@ use Rattle.window.specs.declared.delivery.Delivery.{Delivery}
 use Rattle.recording.specs.declared.answer.Spanned.{Spanned}
 use Rattle.boundary.specs.Laws.{Says}
 use Rattle.boundary.proofs.Laws.{boundary-laws}
-use Rattle.span_answers.specs.Laws.{AreValues}
+use Rattle.span_answers.specs.Laws.{AreValues, SaysNothing}
 use Rattle.span_answers.proofs.Laws.{span-answers-laws}
 use Rattle.boundary.specs.Numbers.{disparityFrom, formatGiven, numberIn}
 use Rattle.character_answers.specs.Characters.{decodeAnswerOf}
@@ -61,6 +61,7 @@ use Rattle.demands.proofs.Demands.{demand-1, demand-2, demand-3}
 use Rattle.demands.proofs.Sendings.{row-holds}
 use Rattle.window.proofs.Accepting.{row-passed}
 use Rattle.demands.proofs.Refusing.{known-says, symbols-say, samples-say}
+use Rattle.recording_answers.proofs.Laws.{recording-answers-laws}
 use Rattle.face.specs.Face.{Told, SentFrom, AddUp, Stands, Face}
 use Rattle.face.proofs.Repaired.{bit-told, no-bit-told, refused-bit}
 use Rattle.face.proofs.Telling.{Numbered, crosses, crosses-placed, good-by-number}
@@ -85,6 +86,16 @@ module _ (f : Format) (w : List ℕ) (d : Delivery) where
 
   read-adds-up : (room : ℕ) → readOf f w room ≡ given d → AddUp (valuesOf d)
   read-adds-up room e = add-up (given-is (before20 ++ (unless 4 (eqb room (samplesIn (shapeOf f))) ∷ spanTests f w)) (deliveryOf f w) d e)
+
+-- what is not delivered says nothing of a span
+read-nothing : (a : Answer Delivery) → (readAnswerOf a .number ≡ 0 → ⊥) → SaysNothing (readAnswerOf a .delivery)
+read-nothing (refused number place) n = span-answers-laws .readRefused number place
+read-nothing (given d) n = absurd (n refl)
+
+next-nothing : (a : Answer (Option Spanned)) (resume : ℕ) → nextAnswerOf a resume .found ≡ false → SaysNothing (nextAnswerOf a resume .delivery)
+next-nothing (refused number place) resume e = recording-answers-laws .nextRefused number place resume
+next-nothing (given none) resume e = recording-answers-laws .nextNone resume
+next-nothing (given (some s)) resume e = absurd (true≢false e)
 
 -- a span that is found, or none, is no refusal
 found-good : (o : Option ℕ) → findAnswerOf (given o) .number ≡ 0
@@ -309,6 +320,8 @@ face = record {
       (readRules (formatGiven format) symbols (length rows))
       (demand-1 .read (formatGiven format) symbols rows .0);
   read = λ format symbols rows d e. rw e (values d, read-adds-up (formatGiven format) symbols d (length rows) e);
+  readNothing = λ format symbols rows. read-nothing (readOf (formatGiven format) symbols (length rows));
+  judgeNothing = λ format symbols. read-nothing (judgeOf (formatGiven format) symbols);
   judgeTold = λ format symbols.
       crosses-placed readAnswerOf (λ a. a .number) (λ n p. refl) (λ a. refl) (λ a. a .place) (λ n p. refl) (λ a. refl) (judgeOf (formatGiven format) symbols)
       (judgeRules (formatGiven format) symbols)
@@ -331,6 +344,7 @@ face = record {
       let (_, read, _) = demand-3 .nextIs f symbols start rows s e in
       rw e (refl, refl, values (s .delivery), read-adds-up f w (s .delivery) (length rows) read);
   nextNone = λ format symbols start rows e. rw e refl;
+  nextNothing = λ format symbols start rows. next-nothing (nextOf (formatGiven format) symbols start (length rows)) _;
   nextKept = λ format symbols start rows n e long. kept-told (formatGiven format) symbols start rows e n long;
   nextRows = λ format symbols start rows. rows-after (formatGiven format) symbols start rows _ refl;
   nextResume = λ format symbols start rows. resume-is (nextOf (formatGiven format) symbols start (length rows)) _;

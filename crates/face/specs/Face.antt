@@ -16,7 +16,7 @@ use Rattle.boundary.specs.declared.numbers.SendRequest.{SendRequest}
 use Rattle.boundary.specs.declared.numbers.StreamLineNumber.{StreamLineNumber}
 use Rattle.boundary.specs.Numbers.{formatGiven}
 use Rattle.boundary.specs.Laws.{Says, BoundaryLaws}
-use Rattle.span_answers.specs.Laws.{AreValues}
+use Rattle.span_answers.specs.Laws.{AreValues, SaysNothing}
 use Rattle.symbol.specs.declared.disparity.Disparity.{Disparity}
 use Rattle.symbol.specs.declared.disparity.Disparity.the-variants.{Negative, Positive}
 use Rattle.symbol.specs.Code.{symbolOf, afterOf}
@@ -237,6 +237,15 @@ pub record Face : Type 1 where
       (format : FormatNumbers) (symbols rows : List ℕ) (d : Delivery)
       → readOf (formatGiven format) symbols (length rows) ≡ given d
       → AreValues (read·answer format symbols rows .delivery) d × AddUp (read·answer format symbols rows .delivery)
+  -- a refusal says nothing of a span, and no repair of any bit
+  pub readNothing :
+      (format : FormatNumbers) (symbols rows : List ℕ)
+      → (read·answer format symbols rows .number ≡ 0 → ⊥)
+      → SaysNothing (read·answer format symbols rows .delivery)
+  pub judgeNothing :
+      (format : FormatNumbers) (symbols : List ℕ)
+      → (judge·answer format symbols .number ≡ 0 → ⊥)
+      → SaysNothing (judge·answer format symbols .delivery)
   pub judgeTold :
       (format : FormatNumbers) (symbols : List ℕ)
       → let a = judge·answer format symbols in
@@ -270,6 +279,10 @@ pub record Face : Type 1 where
       (format : FormatNumbers) (symbols : List ℕ) (start : ℕ) (rows : List ℕ)
       → nextOf (formatGiven format) symbols start (length rows) ≡ given none
       → next·answer format symbols start rows .found ≡ false
+  pub nextNothing :
+      (format : FormatNumbers) (symbols : List ℕ) (start : ℕ) (rows : List ℕ)
+      → next·answer format symbols start rows .found ≡ false
+      → SaysNothing (next·answer format symbols start rows .delivery)
   -- with what to keep of a link that goes on: everything from the start on, or the last symbols, one fewer than a span has, if they are fewer
   pub nextKept :
       (format : FormatNumbers) (symbols : List ℕ) (start : ℕ) (rows : List ℕ) (n : ℕ)

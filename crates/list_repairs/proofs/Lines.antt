@@ -1,19 +1,14 @@
 -- How long the lines are, and one line after the other.
 -- Assumes nothing.
 use mathlib.Core.Path.{_≡_, refl, sym, ap₂}
-use mathlib.Core.Bool.{Bool, true, false}
 use mathlib.Core.List.{List, [], _∷_, _++_}
-use mathlib.Core.Option.{Option, none, some, Option·getD}
 use Prim.Native.Nat.{ℕ, zero, suc, _+_, _*_, _≤_, _<_}
 use native.Mathlib.Omega.{arith}
 use lib.ListN.{length, length-append}
 use lib.Seq.{sets}
-use borrow.Author.Tests.{leb-true}
-use Rattle.ground.specs.Answer.{Answer, refused, given, unless, checked}
-use Rattle.ground.specs.Search.{isSome}
+use Rattle.ground.specs.Answer.{Answer, refused, given}
 use Rattle.ground.specs.Written.{upto}
 use Rattle.ground.proofs.Putting.{Put, then, put-as}
-use Rattle.ground.proofs.Searches.{hit}
 use Rattle.ground.proofs.Writing.{upto-more}
 use Rattle.text.specs.Number.{decimal, hexadecimal}
 use Rattle.text.specs.Words.{wordInBytes}
@@ -21,26 +16,9 @@ use Rattle.text.proofs.Numbers.{length-digits, places-below, places-most-16}
 use Rattle.word.specs.declared.repair.WrongBit.{WrongBit}
 use Rattle.word.specs.declared.repair.WrongBit.the-variants.{Nothing, Bit}
 use Rattle.word.specs.declared.repair.Repaired.{Repaired}
-use Rattle.word.specs.Repair.{distance, legalWord, near, nearest, repairedTo, repairOf}
-use Rattle.word.specs.Word.{isWord}
-use Rattle.word.proofs.WrongWords.{bit-answered}
+use Rattle.word.specs.Repair.{repairOf}
+use Rattle.word.proofs.WrongWords.{near-answered, bit-answered}
 use Rattle.list_repairs.specs.Text.{bitText, outcome, repairLine, repairLines}
-
--- how far a word was from the one it is repaired to
-abbrev distanceIn : Answer Repaired → ℕ
-distanceIn (given r) = r .distance
-distanceIn (refused number place) = 0
-
--- at most one bit
-near-if : (w : ℕ) (b : Bool) (o : Option ℕ) → ((k : ℕ) → o ≡ some k → distance w (legalWord k) ≤ 1)
-    → distanceIn (checked (unless 7 b ∷ unless 8 (isSome o) ∷ []) (repairedTo w (legalWord (Option·getD o 0)))) ≤ 1
-near-if w false o h = omega arith
-near-if w true none h = omega arith
-near-if w true (some k) h = h k refl
-
-near-enough : (w : ℕ) → distanceIn (repairOf w) ≤ 1
-unfolding nearest
-near-enough w = near-if w (isWord w) (nearest w) (λ k e. leb-true (distance w (legalWord k)) 1 (hit (near w) 4 k e .holds))
 
 pub index-most : (n : ℕ) → n < 65536 → length (decimal n) ≤ 5
 index-most n h = rw length-digits (places-most-16 n h)
@@ -61,7 +39,7 @@ pub record Short (r : Repaired) : Type 0 where
 pub is-short : (w : ℕ) (r : Repaired) → repairOf w ≡ given r → Short r
 is-short w r e =
     record {
-      distance = one-digit (r .distance) (rw e at (near-enough w));
+      distance = one-digit (r .distance) (near-answered w r e);
       bit = bit-most (r .bit) (λ k q. bit-answered w r e k q .0);
     }
 

@@ -2,8 +2,22 @@
 -- Assumes nothing.
 use mathlib.Core.Path.{refl}
 use Rattle.boundary.proofs.Laws.{boundary-laws}
-use Rattle.span_answers.specs.Laws.{SpanAnswersLaws}
+use Rattle.span_answers.specs.Laws.{SaysNothing, SpanAnswersLaws}
+use Rattle.span_answers.specs.Spans.{noValues}
 use Rattle.span_answers.proofs.Told.{lengths-told, send-told, read-told}
+
+says-nothing : SaysNothing noValues
+says-nothing = record {
+  line = refl;
+  sav1 = refl;
+  sav2 = refl;
+  eav1 = refl;
+  eav2 = refl;
+  before = refl;
+  after = refl;
+  repairs = refl;
+  repairsOfBit = refl;
+}
 
 pub span-answers-laws : SpanAnswersLaws
 span-answers-laws = record {
@@ -18,6 +32,8 @@ span-answers-laws = record {
     repairs = refl;
     repairsOfBit = refl;
   };
+  nothing = says-nothing;
+  readRefused = λ number place. says-nothing;
   readNumber = λ number place. (refl, refl);
   sendNumber = λ number place. (refl, refl);
   lengthsTold = lengths-told;

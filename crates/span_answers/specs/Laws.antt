@@ -3,6 +3,7 @@
 -- Assumes nothing.
 use Prim.Native.Nat.{ℕ}
 use mathlib.Core.Path.{_≡_}
+use mathlib.Core.Bool.{false}
 use mathlib.Core.List.{List, [], _∷_}
 use Rattle.ground.specs.Answer.{refused}
 use Rattle.ground.specs.Inside.Answer.{Injective}
@@ -17,7 +18,7 @@ use Rattle.request.specs.declared.sent.Sent.{Sent}
 use Rattle.request.specs.Send.{paperSent}
 use Rattle.read.specs.declared.answer.Read.{Read}
 use Rattle.read.specs.Call.{paperRead}
-use Rattle.span_answers.specs.Spans.{valuesOf, lengthsAnswerOf, sendAnswerOf, readAnswerOf}
+use Rattle.span_answers.specs.Spans.{valuesOf, noValues, lengthsAnswerOf, sendAnswerOf, readAnswerOf}
 
 -- the counts of the twelve bits from the lowest up: in C as they are laid out, and as they are answered
 abbrev pub inC : BitCounts → List ℕ
@@ -38,8 +39,23 @@ pub record AreValues (v : Values) (d : Delivery) : Type 0 where
   pub repairs : v .repairs ≡ d .repairs .count
   pub repairsOfBit : inC (v .«repairs_of_bit») ≡ inOrder (d .repairs .«of_bit»)
 
+-- no span: nothing is said of a line, of content bytes, of disparities or of a repair
+pub record SaysNothing (v : Values) : Type 0 where
+  pub line : v .line .number ≡ 0
+  pub sav1 : v .content .sav1 ≡ 0
+  pub sav2 : v .content .sav2 ≡ 0
+  pub eav1 : v .content .eav1 ≡ 0
+  pub eav2 : v .content .eav2 ≡ 0
+  pub before : v .«positive_before» ≡ false
+  pub after : v .«positive_after» ≡ false
+  pub repairs : v .repairs ≡ 0
+  pub repairsOfBit : inC (v .«repairs_of_bit») ≡ 0 ∷ 0 ∷ 0 ∷ 0 ∷ 0 ∷ 0 ∷ 0 ∷ 0 ∷ 0 ∷ 0 ∷ 0 ∷ 0 ∷ []
+
 pub record SpanAnswersLaws : Type 0 where
   pub values : (d : Delivery) → AreValues (valuesOf d) d
+  -- where there is no span
+  pub nothing : SaysNothing noValues
+  pub readRefused : (number place : ℕ) → SaysNothing (readAnswerOf (refused number place) .delivery)
   pub readNumber :
       (number place : ℕ)
       → (readAnswerOf (refused number place) .number ≡ number) × (readAnswerOf (refused number place) .place ≡ place)

@@ -1,6 +1,6 @@
 -- Reading a span in document 01's own numbers, proved: each field cites the law that says it.
 -- Assumes nothing.
-use mathlib.Core.Path.{_≡_, sym, ap, _∙_, subst}
+use mathlib.Core.Path.{_≡_, refl, sym, ap, _∙_, subst}
 use mathlib.Core.List.{List}
 use Prim.Native.Nat.{ℕ, _+_}
 use Rattle.line.specs.Stream.{lineBefore}
@@ -69,6 +69,7 @@ window-paper = record {
   wordsEncoded = λ f w d c words k. exact-word f w (is-format f k) d c words;
   beyondRepair = λ f a w d c words k known e h x before. two-wrong f a (is-format f known) words w d c e k x before h;
   nearLegal = near-legal;
+  bitsInOrder = λ at. (refl, refl, refl, refl, refl, refl, refl, refl, refl, refl, refl, refl);
   addUp = add-up;
   strict = λ f w r k e. strict f w (is-format f k) r e;
 }

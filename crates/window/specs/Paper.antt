@@ -21,7 +21,7 @@ use Rattle.span.specs.Span.{interleaved, bytes, spanWords}
 use Rattle.span.specs.Stream.{Request}
 use Rattle.window.specs.declared.delivery.Delivery.{Delivery}
 use Rattle.window.specs.Encoded.{charsOf, Encodes, wordIn, wordsOf, Meets, IsXyz, Disturbed, wrongAt, DisturbedBefore, requestOf, SentBut}
-use Rattle.window.specs.Read.{repairsOf, deliveryOf, pictureOf, readSpan}
+use Rattle.window.specs.Read.{eachBit, repairsOf, deliveryOf, pictureOf, readSpan}
 use Rattle.window.specs.Rules.{Names, Follows}
 use Rattle.window.specs.Tests.{sumOf}
 use Rattle.word.specs.Received.{repaired, wrongBits, bitWrong}
@@ -93,6 +93,22 @@ pub record WindowPaper : Type 0 where
       → (x ≡ 0x800) ⊎ ((x ≡ 0x9D0) ⊎ ((x ≡ 0xAB0) ⊎ (x ≡ 0xB60)))
       → distance w x ≤ 1
       → (repaired w ≡ x) × (wrongBits w ≡ distance w x) × ((b : ℕ) → bitWrong b w ≡ differsAt b w x)
+  -- the counts of a delivery are those of bits 0 to 11, in this order (b0 to b11 of 004, table 6)
+  pub bitsInOrder :
+      (at : ℕ → ℕ)
+      → let c = eachBit at in
+      (c .b0 ≡ at 0)
+      × (c .b1 ≡ at 1)
+      × (c .b2 ≡ at 2)
+      × (c .b3 ≡ at 3)
+      × (c .b4 ≡ at 4)
+      × (c .b5 ≡ at 5)
+      × (c .b6 ≡ at 6)
+      × (c .b7 ≡ at 7)
+      × (c .b8 ≡ at 8)
+      × (c .b9 ≡ at 9)
+      × (c .b10 ≡ at 10)
+      × (c .b11 ≡ at 11)
   -- the counts of the twelve bits add up to the count of wrong bits, whatever the words
   pub addUp :
       (f : Format) (w : List ℕ)

@@ -118,6 +118,9 @@ module _ (w : ℕ) (r : Repaired) (e : repairOf w ≡ given r) where
   below : legalWord (n .vh) < 4096
   below = legal-below (n .vh) (n .legal)
 
+  pub near-answered : r .distance ≤ 1
+  near-answered = omega (arith, n .near, ap (λ (x : Repaired). x .distance) (n .is))
+
   pub bit-answered : (k : ℕ) → r .bit ≡ Bit k → (k < 12) × (inverted k w ≡ r .word)
   bit-answered k q =
       let x = other-word w (legalWord (n .vh)) (n .small) below k (n .near) (ap (λ (x : Repaired). x .bit) (sym (n .is)) ∙ q) in
