@@ -20,17 +20,21 @@
  *   during the call. If the number is 0 the pointer may be null.
  * - A buffer that a call writes (one that is not const) overlaps no other buffer of the same call. Those that it only reads may overlap.
  *
- * FORMATS AND DEPTHS
+ * FORMATS
  *
- *   format   rate     streams s   samples in a span   symbols in a span   images in streams 1 to s
+ *   number   rate     streams s   samples in a span   symbols in a span   images in streams 1 to s
  *        1   120 Hz           2                3840                7920   1 and 2, or 3 and 4
  *        2   100 Hz           2                3840                9504   1 and 2, or 3 and 4
  *        3    50 Hz           4                7680               19008   1, 2, 3, 4
  *
  * Symbols have ten bits each in a uint16_t, the bit sent first lowest. Samples and rows are stored stream by stream: 1920 of stream 1, then
- * 1920 of stream 2, and so on. A link carries one component of the picture. So a picture of three components (4:4:4) takes six links in
- * formats 1 and 2, two for each component, and three links in format 3. Of a span only the content bytes can say which component and which
- * images it carries; they are sent as they are named, and judged by no call.
+ * 1920 of stream 2, and so on. A link carries one component of the picture, and the format says which: BRAZULINT_G, BRAZULINT_B or
+ * BRAZULINT_R. So a picture of three components (4:4:4) takes six links in formats 1 and 2, two for each component, and three links in
+ * format 3. Of a span only the content bytes can say which component and which images it carries; they are sent as they are named, and
+ * judged by no call.
+ *
+ * The sampling structure is BRAZULINT_444 and the size of the picture BRAZULINT_4K; no other is known yet. A format of which any field is
+ * unknown is refused with 1 by every call that takes one, and 0 is unknown in each: a field that was forgotten is never guessed.
  *
  * The depth is 10 or 12 bits. At depth 10 a sample is sent shifted left by two, and what comes back is the shifted word of twelve bits: 4
  * is delivered as 16 and 1019 as 4076. So the rows of lines 42 to 1121 are shifted right by two to have the samples again. Blanking is not
@@ -73,7 +77,7 @@
  *
  * INTERFACES
  *
- * The names that are linked carry the number of the interface: brazulint_send is brazulint3_send in libbrazulint.a. An object that was
+ * The names that are linked carry the number of the interface: brazulint_send is brazulint4_send in libbrazulint.a. An object that was
  * compiled with the header of another interface does not link. Structs may grow with the interface, so fill them by the names of their
  * fields: a new field of a format that is left 0 is refused.
  *
@@ -82,7 +86,8 @@
  *   static uint16_t samples[3840], symbols[7920], rows[3840];
  *
  *   static uint32_t send_and_deliver(void) {
- *       const brazulint_format format = {.number = BRAZULINT_120_HZ, .depth = 12};
+ *       const brazulint_format format = {.number = BRAZULINT_120_HZ, .depth = 12, .component = BRAZULINT_G,
+ *                                        .structure = BRAZULINT_444, .size = BRAZULINT_4K};
  *       const brazulint_request request = {.line = {42}, .positive = false};  // no content bytes are named
  *       for (size_t i = 0; i < 3840; i++) samples[i] = 1024;                  // at 12 bits 16 to 4079 may be sent
  *
@@ -106,8 +111,8 @@
 #include <stdint.h>
 
 /* The interface, and the version of the library that this header belongs to: 65536 times the interface, and the release in it. */
-#define BRAZULINT_INTERFACE 3
-#define BRAZULINT_VERSION 196608
+#define BRAZULINT_INTERFACE 4
+#define BRAZULINT_VERSION 262144
 
 #define BRAZULINT_PASTE(interface, call) brazulint##interface##call
 #define BRAZULINT_LINK_NAME(interface, call) BRAZULINT_PASTE(interface, call)
@@ -153,7 +158,7 @@ BRAZULINT_MUST_USE uint32_t brazulint_version(void);
 
 enum {
     BRAZULINT_DONE = 0,
-    BRAZULINT_UNKNOWN_FORMAT = 1, /* unknown format or depth */
+    BRAZULINT_UNKNOWN_FORMAT = 1, /* unknown format: its number, depth, component, structure or size */
     BRAZULINT_NO_LINE = 2,        /* no such stream line (1 to 1125), picture line (1 to 2160) or sample (0 to 3839); no such link or stream */
     BRAZULINT_WRONG_INPUT = 3,    /* an input of the wrong length; a recording that is too long */
     BRAZULINT_WRONG_OUTPUT = 4,   /* an output of the wrong length */
@@ -176,7 +181,7 @@ enum {
 static inline const char *brazulint_refusal_text(uint32_t number) {
     switch (number) {
     case BRAZULINT_DONE: return "done";
-    case BRAZULINT_UNKNOWN_FORMAT: return "unknown format or depth";
+    case BRAZULINT_UNKNOWN_FORMAT: return "unknown format";
     case BRAZULINT_NO_LINE: return "no such line, sample, link or stream";
     case BRAZULINT_WRONG_INPUT: return "an input of the wrong length, or a recording that is too long";
     case BRAZULINT_WRONG_OUTPUT: return "an output of the wrong length";
@@ -198,11 +203,17 @@ static inline const char *brazulint_refusal_text(uint32_t number) {
 /* ---- Formats and lines */
 
 enum { BRAZULINT_120_HZ = 1, BRAZULINT_100_HZ = 2, BRAZULINT_50_HZ = 3 };
+enum { BRAZULINT_G = 1, BRAZULINT_B = 2, BRAZULINT_R = 3 };
+enum { BRAZULINT_444 = 1 };
+enum { BRAZULINT_4K = 1 };
 
 /* A format, by value, first in each call that takes one. 0 in any field is refused. */
 typedef struct {
-    uint32_t number; /* BRAZULINT_120_HZ, BRAZULINT_100_HZ, BRAZULINT_50_HZ */
-    uint32_t depth;  /* 10, 12 */
+    uint32_t number;    /* BRAZULINT_120_HZ, BRAZULINT_100_HZ, BRAZULINT_50_HZ */
+    uint32_t depth;     /* 10, 12 */
+    uint32_t component; /* what the link carries: BRAZULINT_G, BRAZULINT_B, BRAZULINT_R */
+    uint32_t structure; /* BRAZULINT_444 */
+    uint32_t size;      /* BRAZULINT_4K */
 } brazulint_format;
 
 /* The samples and the symbols of a span of the largest format, and the symbols of the longest recording. */

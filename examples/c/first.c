@@ -18,7 +18,8 @@ static void show(brazulint_stream_line line, const uint16_t *rows) {
 static uint16_t samples[3840], symbols[7920], rows[3840];
 
 static uint32_t send_and_deliver(void) {
-    const brazulint_format format = {.number = BRAZULINT_120_HZ, .depth = 12};
+    const brazulint_format format = {.number = BRAZULINT_120_HZ, .depth = 12, .component = BRAZULINT_G,
+                                     .structure = BRAZULINT_444, .size = BRAZULINT_4K};
     const brazulint_request request = {.line = {42}, .positive = false};  // no content bytes are named
     for (size_t i = 0; i < 3840; i++) samples[i] = 1024;                  // at 12 bits 16 to 4079 may be sent
 

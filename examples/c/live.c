@@ -34,6 +34,12 @@ typedef struct {
     uint16_t *shown;           /* and of each line, as it is shown */
 } live_link;
 
+/* What `generate` sends: G' of a 4K picture in 4:4:4. */
+static brazulint_format plain(uint32_t number, uint32_t depth) {
+    return (brazulint_format){
+        .number = number, .depth = depth, .component = BRAZULINT_G, .structure = BRAZULINT_444, .size = BRAZULINT_4K};
+}
+
 /* The part of the picture that a stream line brings; this link is the first of its component, and stream 1 stands for all. */
 static void show(live_link *link, uint64_t place, brazulint_stream_line line) {
     memcpy(link->shown + line.number * link->samples, link->rows, link->samples * sizeof *link->rows);
@@ -131,7 +137,7 @@ static void *run(void *argument) {
     live_link link = {0};
     for (size_t i = 0; i < 2; i++)
         if (read(STDIN_FILENO, head + i, 1) != 1) break;
-    link.format = (brazulint_format){.number = head[0], .depth = head[1]};
+    link.format = plain(head[0], head[1]);
     brazulint_lengths_answer lengths = brazulint_lengths(link.format);
     t->number = lengths.number;
     if (lengths.number != 0) return NULL;

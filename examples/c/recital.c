@@ -11,7 +11,8 @@
 
 enum { SAMPLES = 3840, SYMBOLS = 7920, FIRST = 41, LINES = 4 };
 
-static const brazulint_format FORMAT = {.number = BRAZULINT_120_HZ, .depth = 12};
+static const brazulint_format FORMAT = {
+    .number = BRAZULINT_120_HZ, .depth = 12, .component = BRAZULINT_G, .structure = BRAZULINT_444, .size = BRAZULINT_4K};
 
 static uint16_t picture[SAMPLES], blanking[SAMPLES], rows[SAMPLES], recording[LINES * SYMBOLS];
 

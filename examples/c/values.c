@@ -10,7 +10,8 @@
 
 /* The layouts that the calls were compiled with: each struct's size, and the places of its fields where padding could move them. */
 #define LAID_OUT(holds) _Static_assert(holds, #holds)
-LAID_OUT(sizeof(brazulint_format) == 8 && offsetof(brazulint_format, depth) == 4);
+LAID_OUT(sizeof(brazulint_format) == 20 && offsetof(brazulint_format, depth) == 4 && offsetof(brazulint_format, component) == 8);
+LAID_OUT(offsetof(brazulint_format, structure) == 12 && offsetof(brazulint_format, size) == 16);
 LAID_OUT(sizeof(brazulint_stream_line) == 4 && sizeof(brazulint_picture_line) == 4 && sizeof(brazulint_content) == 4);
 LAID_OUT(sizeof(brazulint_request) == 12 && offsetof(brazulint_request, positive) == 4);
 LAID_OUT(offsetof(brazulint_request, named) == 5 && offsetof(brazulint_request, content) == 6);
@@ -40,7 +41,8 @@ static void is(bool holds, const char *text, int at) {
 #define IS(holds) is((holds), #holds, __LINE__)
 
 enum { SAMPLES = 3840, SYMBOLS = 7920 };
-static const brazulint_format HZ_120 = {.number = BRAZULINT_120_HZ, .depth = 12};
+static const brazulint_format HZ_120 = {
+    .number = BRAZULINT_120_HZ, .depth = 12, .component = BRAZULINT_G, .structure = BRAZULINT_444, .size = BRAZULINT_4K};
 static const brazulint_content CONTENT = {1, 2, 3, 4};
 static uint16_t samples[SAMPLES], symbols[SYMBOLS], rows[SAMPLES];
 
@@ -57,9 +59,15 @@ static bool zero(const uint16_t *buffer, size_t count) {
     return true;
 }
 
-static brazulint_lengths_answer lengths(uint32_t number, uint32_t depth) {
-    return brazulint_lengths((brazulint_format){.number = number, .depth = depth});
+/* The same format with another number and depth. */
+static brazulint_format plain(uint32_t number, uint32_t depth) {
+    brazulint_format format = HZ_120;
+    format.number = number;
+    format.depth = depth;
+    return format;
 }
+
+static brazulint_lengths_answer lengths(uint32_t number, uint32_t depth) { return brazulint_lengths(plain(number, depth)); }
 
 static void formats(void) {
     IS(brazulint_version() == BRAZULINT_VERSION);
@@ -72,7 +80,8 @@ static void formats(void) {
     l = lengths(257, 12);
     IS(l.number == BRAZULINT_UNKNOWN_FORMAT && l.samples == 0 && l.symbols == 0);
     IS(lengths(1, 268).number == 1 && lengths(0, 12).number == 1 && lengths(1, 0).number == 1);
-    IS(lengths(12, 1).number == 1); /* format and depth changed round */
+    IS(lengths(12, 1).number == 1); /* number and depth changed round */
+    IS(brazulint_lengths((brazulint_format){.number = BRAZULINT_120_HZ, .depth = 12}).number == 1); /* three fields forgotten */
 }
 
 /* Each refusal has words of its own, and no other number has those. */
@@ -145,11 +154,11 @@ static void pictures(void) {
     IS(p.number == 2 && p.image == 0 && p.image_line == 0 && p.stream_line.number == 0 && p.sample == 0);
     brazulint_way_back_answer w = brazulint_way_back(HZ_120, 2, 1, (brazulint_stream_line){128});
     IS(w.number == 0 && w.image == 3 && w.line.number == 174); /* l is 87: lines 173 and 174 of the picture */
-    w = brazulint_way_back((brazulint_format){BRAZULINT_50_HZ, 10}, 1, 4, (brazulint_stream_line){1121});
+    w = brazulint_way_back(plain(BRAZULINT_50_HZ, 10), 1, 4, (brazulint_stream_line){1121});
     IS(w.number == 0 && w.image == 4 && w.line.number == 2160);
     w = brazulint_way_back(HZ_120, 3, 1, (brazulint_stream_line){128});
     IS(w.number == 2 && w.image == 0 && w.line.number == 0);
-    IS(brazulint_way_back((brazulint_format){0, 12}, 1, 1, (brazulint_stream_line){42}).number == 1);
+    IS(brazulint_way_back(plain(0, 12), 1, 1, (brazulint_stream_line){42}).number == 1);
     IS(brazulint_way_back(HZ_120, 1, 65537, (brazulint_stream_line){42}).number == 2);
     for (size_t i = 0; i < 3840; i++) row[i] = (uint16_t)(40000 + i);
     IS(brazulint_split(row, 3840, first, 1920, second, 1920) == 0);
@@ -186,15 +195,42 @@ static void sending(void) {
     brazulint_send_answer s = brazulint_send(HZ_120, unnamed(42), samples, SAMPLES, symbols, SYMBOLS);
     IS(s.number == BRAZULINT_NOT_ALLOWED && s.place == 7 && !s.positive_after && untouched(symbols, SYMBOLS));
     samples[7] = 16;
-    IS(refused((brazulint_format){.number = 12, .depth = 1}, unnamed(42), SAMPLES, SYMBOLS) == 1);
+    IS(refused(plain(12, 1), unnamed(42), SAMPLES, SYMBOLS) == 1);
     IS(refused(HZ_120, unnamed(65578), SAMPLES, SYMBOLS) == 2);
     IS(refused(HZ_120, unnamed(42), 3839, SYMBOLS) == BRAZULINT_WRONG_INPUT);
     IS(refused(HZ_120, unnamed(42), SAMPLES, 7919) == BRAZULINT_WRONG_OUTPUT);
     IS(brazulint_send(HZ_120, unnamed(42), NULL, 0, NULL, 0).number == 3 && untouched(symbols, SYMBOLS));
     lend(rows, SAMPLES);
     IS(brazulint_fill_blanking(HZ_120, rows, 3839) == 4 && brazulint_fill_blanking(HZ_120, NULL, 0) == 4);
-    IS(brazulint_fill_blanking((brazulint_format){1, 11}, rows, SAMPLES) == 1 && untouched(rows, SAMPLES));
+    IS(brazulint_fill_blanking(plain(1, 11), rows, SAMPLES) == 1 && untouched(rows, SAMPLES));
     IS(brazulint_fill_blanking(HZ_120, rows, SAMPLES) == 0 && rows[0] == 0x100 && rows[SAMPLES - 1] == 0x100);
+}
+
+/* Whether every call that takes a format refuses this one with 1, and leaves what it was lent. */
+static bool is_refused(brazulint_format format) {
+    lend(symbols, SYMBOLS);
+    lend(rows, SAMPLES);
+    return brazulint_lengths(format).number == 1 && refused(format, unnamed(42), SAMPLES, SYMBOLS) == 1 && untouched(symbols, SYMBOLS) &&
+           brazulint_fill_blanking(format, rows, SAMPLES) == 1 && brazulint_judge(format, symbols, SYMBOLS).number == 1 &&
+           brazulint_read(format, symbols, SYMBOLS, rows, SAMPLES).number == 1 && brazulint_find(format, symbols, SYMBOLS, 0).number == 1 &&
+           brazulint_next(format, symbols, SYMBOLS, 0, rows, SAMPLES).number == 1 && untouched(rows, SAMPLES) &&
+           brazulint_way_back(format, 1, 1, (brazulint_stream_line){42}).number == 1;
+}
+
+/* One field of a format unknown: 0, one above the known, and the known one if it were cut to eight bits or to sixteen. */
+static void unknown_fields(void) {
+    const uint32_t above[5] = {4, 13, 4, 2, 2};
+    for (size_t field = 0; field < 5; field++) {
+        uint32_t fields[5];
+        memcpy(fields, &HZ_120, sizeof fields);
+        const uint32_t tries[4] = {0, above[field], fields[field] + 256, fields[field] + 65536};
+        for (size_t k = 0; k < 4; k++) {
+            brazulint_format format;
+            fields[field] = tries[k];
+            memcpy(&format, fields, sizeof format);
+            IS(is_refused(format));
+        }
+    }
 }
 
 static bool has_content(brazulint_delivery d, brazulint_content c) {
@@ -256,7 +292,7 @@ static void repairs(void) {
 
 /* At depth 10 what comes back is shifted, and blanking is not. */
 static void ten_bits(void) {
-    const brazulint_format ten = {.number = BRAZULINT_120_HZ, .depth = 10};
+    const brazulint_format ten = plain(BRAZULINT_120_HZ, 10);
     for (size_t i = 0; i < SAMPLES; i++) samples[i] = (uint16_t)(i % 2 == 0 ? 4 : 1019);
     IS(brazulint_send(ten, unnamed(42), samples, SAMPLES, symbols, SYMBOLS).number == 0);
     IS(brazulint_read(ten, symbols, SYMBOLS, rows, SAMPLES).number == 0 && rows[0] == 16 && rows[1] == 4076);
@@ -308,6 +344,7 @@ static void *all(void *unused) {
     code();
     pictures();
     sending();
+    unknown_fields();
     receiving();
     repairs();
     ten_bits();

@@ -11,6 +11,9 @@ boundary-laws = record {
   back = λ d. record { ifNegative = λ e. ap isPositive e; ifPositive = λ e. ap isPositive e };
   formatNumber = λ f. refl;
   formatDepth = λ f. refl;
+  formatComponent = λ f. refl;
+  formatStructure = λ f. refl;
+  formatSize = λ f. refl;
   streamLine = λ l. refl;
   pictureLine = λ l. refl;
   named = λ content. refl;

@@ -24,9 +24,12 @@ pub record BoundaryLaws : Type 1 where
   pub trueIsPositive : disparityFrom true ≡ Positive
   pub falseIsNegative : disparityFrom false ≡ Negative
   pub back : (d : Disparity) → Says (isPositive d) d
-  -- a format is its number and its depth
+  -- a format is its numbers, each in its place
   pub formatNumber : (f : FormatNumbers) → formatGiven f .number ≡ f .number
   pub formatDepth : (f : FormatNumbers) → formatGiven f .depth ≡ f .depth
+  pub formatComponent : (f : FormatNumbers) → formatGiven f .component ≡ f .component
+  pub formatStructure : (f : FormatNumbers) → formatGiven f .structure ≡ f .structure
+  pub formatSize : (f : FormatNumbers) → formatGiven f .size ≡ f .size
   -- a stream line is its number, and a picture line its own
   pub streamLine : (l : StreamLine) → streamLineNumber l .number ≡ l .0
   pub pictureLine : (l : PictureLine) → pictureLineNumber l .number ≡ l .0

@@ -24,7 +24,7 @@ disparityFrom false = Negative
 
 -- a format is its numbers
 abbrev pub formatGiven : FormatNumbers → Format
-formatGiven f = formatFrom (f .number) (f .depth)
+formatGiven f = formatFrom (f .number) (f .depth) (f .component) (f .structure) (f .size)
 
 -- a stream line crosses as its number
 abbrev pub streamLineNumber : StreamLine → StreamLineNumber

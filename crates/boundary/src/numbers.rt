@@ -1,5 +1,5 @@
 // Numbers as callers from C give them. None is truncated: a number too large for the library's type becomes the largest of that type, and
-// no format, depth, line, sample, word or symbol has that number, so that it is refused as the number itself would be.
+// no field of a known format, no line, sample, word or symbol has that number, so that it is refused as the number itself would be.
 use line::picture::PictureLine;
 use line::stream::StreamLine;
 use span::content::Content;
@@ -12,11 +12,14 @@ ghost use Rattle.boundary.specs.Numbers.{contentFrom, disparityFrom, pic
 ghost use Rattle.symbol.specs.Disparity.{isPositive};
 ghost use Rattle.span.specs.Format.{formatFrom};
 
-// A format by its number and its depth. It crosses whole, so that a field more leaves every call's parameters as they are.
+// A format by its numbers. It crosses whole, so that a field more leaves every call's parameters as they are.
 #[repr(C)]
 pub struct FormatNumbers {
     pub number: u32,
     pub depth: u32,
+    pub component: u32,
+    pub structure: u32,
+    pub size: u32,
 }
 
 // A line of a stream, 1 to 1125, and a line of a picture, 1 to 2160: one is not taken for the other.
@@ -61,9 +64,15 @@ pub fn at_most_65535(n: u32) -> u16
 }
 
 pub fn format_from(format: FormatNumbers) -> Format
-    ensures { λ r. ⌜ r ≡ formatFrom (min (format .number) 255) (min (format .depth) 255) ⌝ }
+    ensures { λ r. ⌜ r ≡ formatFrom (min (format .number) 255) (min (format .depth) 255) (min (format .component) 255) (min (format .structure) 255) (min (format .size) 255) ⌝ }
 {
-    span::format::format_of(at_most_255(format.number), at_most_255(format.depth))
+    span::format::format_of(
+        at_most_255(format.number),
+        at_most_255(format.depth),
+        at_most_255(format.component),
+        at_most_255(format.structure),
+        at_most_255(format.size),
+    )
 }
 
 pub fn stream_line_from(line: StreamLineNumber) -> StreamLine

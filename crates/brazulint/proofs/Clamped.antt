@@ -4,11 +4,12 @@
 use mathlib.Core.Path.{_≡_, refl, sym, ap, _∙_}
 use mathlib.Core.Bool.{Bool, true, false, cond, _&&_, and-false}
 use mathlib.Core.List.{List}
+use mathlib.Core.Logic.{⊎-elim}
 use Prim.Native.Nat.{ℕ, _≤_, min}
 use native.Mathlib.Nat.{min-eq-left, min-eq-right}
 use native.Mathlib.Omega.{arith}
-use lib.Dec.{leb, eqb}
-use borrow.Author.Tests.{leb-true, leb-false, le-ltb, lt-leb, ne-eqb}
+use lib.Dec.{leb}
+use borrow.Author.Tests.{leb-true, leb-false, le-ltb, lt-leb}
 use Rattle.ground.specs.Answer.{Answer, refused}
 use Rattle.ground.specs.Range.{within}
 use Rattle.ground.proofs.Cases.{on-test}
@@ -25,6 +26,8 @@ use Rattle.span.specs.declared.content.Content.{Content}
 use Rattle.span.specs.declared.format.Format.{Format}
 use Rattle.span.specs.Format.{isKnown, formatFrom}
 use Rattle.span.specs.Length.{lengthsOf}
+use Rattle.span.specs.Numbers.{IsFormat}
+use Rattle.span.proofs.Formats.{unknown}
 use Rattle.span.specs.Blanking.{fillOf, filledRow}
 use Rattle.request.specs.Send.{request, sendOf, sentBuffer}
 use Rattle.way_back.specs.declared.back.ImageLine.{ImageLine}
@@ -91,31 +94,30 @@ row-clamped n = clamped-to isActive 65535 n false (λ m h. is-above 42 1121 m (o
 
 -- ---- formats
 
-unknown-number : (m depth : ℕ) → 255 ≤ m → isKnown (formatFrom m depth) ≡ false
-unknown-number m depth h = simp (is-above 1 3 m (omega arith) (omega arith))
-
-unknown-depth : (number m : ℕ) → 255 ≤ m → isKnown (formatFrom number m) ≡ false
-unknown-depth number m h = on-test (within 1 3 number) (λ t. simp (t, ten, twelve)) (λ t. simp t)
-  where
-    ten : eqb m 10 ≡ false
-    ten = ne-eqb m 10 (λ e. omega arith)
-
-    twelve : eqb m 12 ≡ false
-    twelve = ne-eqb m 12 (λ e. omega arith)
-
 -- a format whose numbers are clamped
 abbrev pub clipped : FormatNumbers → Format
-clipped given = formatFrom (min (given .number) 255) (min (given .depth) 255)
+clipped given =
+    formatFrom (min (given .number) 255) (min (given .depth) 255) (min (given .component) 255) (min (given .structure) 255) (min (given .size) 255)
 
--- what is the same for all unknown formats
+-- what is the same for all unknown formats: a number from 255 on is unknown in every field
 pub format-clamped : {A : Type 0} (g : Format → A) (x : A) → ((f : Format) → isKnown f ≡ false → g f ≡ x) → (given : FormatNumbers)
     → g (clipped given) ≡ g (formatGiven given)
 format-clamped g x is given =
     let number = given .number in
     let depth = given .depth in
-    let deep = min depth 255 in
-    clamped-to (λ m. g (formatFrom m deep)) 255 number x (λ m h. is (formatFrom m deep) (unknown-number m deep h))
-    ∙ clamped-to (λ m. g (formatFrom number m)) 255 depth x (λ m h. is (formatFrom number m) (unknown-depth number m h))
+    let component = given .component in
+    let structure = given .structure in
+    let other : (f : Format) → (IsFormat f → ⊥) → g f ≡ x = λ f never. is f (unknown f never) in
+    clamped-to (λ m. g (formatFrom m (min depth 255) (min component 255) (min structure 255) (min (given .size) 255))) 255 number x
+    (λ m h. other _ (λ k. omega (arith, k .to)))
+    ∙ clamped-to (λ m. g (formatFrom number m (min component 255) (min structure 255) (min (given .size) 255))) 255 depth x
+    (λ m h. other _ (λ k. ⊎-elim (λ e. omega (arith, e)) (λ e. omega (arith, e)) (k .bits)))
+    ∙ clamped-to (λ m. g (formatFrom number depth m (min structure 255) (min (given .size) 255))) 255 component x
+    (λ m h. other _ (λ k. omega (arith, k .component .1)))
+    ∙ clamped-to (λ m. g (formatFrom number depth component m (min (given .size) 255))) 255 structure x
+    (λ m h. other _ (λ k. omega (arith, k .structure)))
+    ∙ clamped-to (λ m. g (formatFrom number depth component structure m)) 255 (given .size) x
+    (λ m h. other _ (λ k. omega (arith, k .size)))
 
 module _ (given : FormatNumbers) where
   pub lengths-clamped : lengthsOf (clipped given) ≡ lengthsOf (formatGiven given)

@@ -6,7 +6,7 @@ ghost use Rattle.face.specs.Calls.{decode·answer, encode·answer};
 
 // A symbol at the running disparity before it: 7, 20.
 #[no_mangle]
-pub extern "C" fn brazulint3_decode(positive: bool, symbol: u32) -> DecodeAnswer
+pub extern "C" fn brazulint4_decode(positive: bool, symbol: u32) -> DecodeAnswer
     ensures { λ r. ⌜ r ≡ decode·answer positive symbol ⌝ }
 {
     let d = boundary::numbers::disparity_from(positive);
@@ -16,7 +16,7 @@ pub extern "C" fn brazulint3_decode(positive: bool, symbol: u32) -> DecodeAnswer
 
 // A character by its number at the running disparity before it. It refuses nothing.
 #[no_mangle]
-pub extern "C" fn brazulint3_encode(positive: bool, character: u32) -> EncodeAnswer
+pub extern "C" fn brazulint4_encode(positive: bool, character: u32) -> EncodeAnswer
     ensures { λ r. ⌜ r ≡ encode·answer positive character ⌝ }
 {
     character_answers::characters::encode_answer(

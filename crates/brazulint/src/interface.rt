@@ -4,8 +4,8 @@ ghost use Rattle.face.specs.Calls.{version·answer};
 
 // The number of the interface times 65536, and the number of the release in it. It refuses nothing.
 #[no_mangle]
-pub extern "C" fn brazulint3_version() -> u32
+pub extern "C" fn brazulint4_version() -> u32
     ensures { λ r. ⌜ r ≡ version·answer ⌝ }
 {
-    196608
+    262144
 }

@@ -9,7 +9,7 @@ ghost use Rattle.face.specs.Calls.{carriesPicture·answer, join·answer, join·
 
 // The place of a sample of a picture line: 2.
 #[no_mangle]
-pub extern "C" fn brazulint3_place(line: PictureLineNumber, sample: u32) -> PlaceAnswer
+pub extern "C" fn brazulint4_place(line: PictureLineNumber, sample: u32) -> PlaceAnswer
     ensures { λ r. ⌜ r ≡ place·answer line sample ⌝ }
 {
     let l = boundary::numbers::picture_line_from(line);
@@ -19,7 +19,7 @@ pub extern "C" fn brazulint3_place(line: PictureLineNumber, sample: u32) -> Plac
 
 // The line of the picture on a stream line of a link: 1, 2.
 #[no_mangle]
-pub extern "C" fn brazulint3_way_back(
+pub extern "C" fn brazulint4_way_back(
     format: FormatNumbers,
     link: u32,
     stream: u32,
@@ -36,7 +36,7 @@ pub extern "C" fn brazulint3_way_back(
 
 // The row of a picture into those of two images: 3, 4.
 #[no_mangle]
-pub extern "C" fn brazulint3_split(row: &[u16], first: &mut [u16], second: &mut [u16]) -> u32
+pub extern "C" fn brazulint4_split(row: &[u16], first: &mut [u16], second: &mut [u16]) -> u32
     ensures answer { λ r. ⌜ r ≡ split·answer (now (row .entry)) (now (first .entry)) (now (second .entry)) ⌝ }
     ensures first { λ _. ⌜ now (first .exit) ≡ split·first (now (row .entry)) (now (first .entry)) (now (second .entry)) ⌝ }
     ensures second { λ _. ⌜ now (second .exit) ≡ split·second (now (row .entry)) (now (first .entry)) (now (second .entry)) ⌝ }
@@ -46,7 +46,7 @@ pub extern "C" fn brazulint3_split(row: &[u16], first: &mut [u16], second: &mut 
 
 // The rows of two images into that of their picture: 3, 4.
 #[no_mangle]
-pub extern "C" fn brazulint3_join(first: &[u16], second: &[u16], row: &mut [u16]) -> u32
+pub extern "C" fn brazulint4_join(first: &[u16], second: &[u16], row: &mut [u16]) -> u32
     ensures answer { λ r. ⌜ r ≡ join·answer (now (first .entry)) (now (second .entry)) (now (row .entry)) ⌝ }
     ensures row { λ _. ⌜ now (row .exit) ≡ join·row (now (first .entry)) (now (second .entry)) (now (row .entry)) ⌝ }
 {
@@ -55,7 +55,7 @@ pub extern "C" fn brazulint3_join(first: &[u16], second: &[u16], row: &mut [u16]
 
 // The choice of row: whether it is the picture.
 #[no_mangle]
-pub extern "C" fn brazulint3_carries_picture(line: StreamLineNumber) -> bool
+pub extern "C" fn brazulint4_carries_picture(line: StreamLineNumber) -> bool
     ensures { λ r. ⌜ r ≡ carriesPicture·answer line ⌝ }
 {
     line::stream::is_active(boundary::numbers::stream_line_from(line))

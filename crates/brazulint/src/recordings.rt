@@ -7,7 +7,7 @@ ghost use Rattle.face.specs.Calls.{find·answer, next·answer, next·rows};
 
 // The first span at or after a start: 1, 3, 5.
 #[no_mangle]
-pub extern "C" fn brazulint3_find(format: FormatNumbers, symbols: &[u16], start: u64) -> FindAnswer
+pub extern "C" fn brazulint4_find(format: FormatNumbers, symbols: &[u16], start: u64) -> FindAnswer
     ensures { λ r. ⌜ r ≡ find·answer format (now (symbols .entry)) start ⌝ }
 {
     let f = boundary::numbers::format_from(format);
@@ -16,7 +16,7 @@ pub extern "C" fn brazulint3_find(format: FormatNumbers, symbols: &[u16], start:
 
 // The same span, into rows: 1, 3, 4, 5.
 #[no_mangle]
-pub extern "C" fn brazulint3_next(
+pub extern "C" fn brazulint4_next(
     format: FormatNumbers,
     symbols: &[u16],
     start: u64,

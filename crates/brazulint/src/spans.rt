@@ -10,7 +10,7 @@ ghost use Rattle.face.specs.Calls.{fillBlanking·answer, fillBlanking·row, jud
 
 // The lengths of a format: 1.
 #[no_mangle]
-pub extern "C" fn brazulint3_lengths(format: FormatNumbers) -> LengthsAnswer
+pub extern "C" fn brazulint4_lengths(format: FormatNumbers) -> LengthsAnswer
     ensures { λ r. ⌜ r ≡ lengths·answer format ⌝ }
 {
     span_answers::spans::lengths_answer(span::length::lengths_of(format_from(format)))
@@ -18,7 +18,7 @@ pub extern "C" fn brazulint3_lengths(format: FormatNumbers) -> LengthsAnswer
 
 // A span, from what is asked for and the samples: 1, 2, 3, 4, 6.
 #[no_mangle]
-pub extern "C" fn brazulint3_send(
+pub extern "C" fn brazulint4_send(
     format: FormatNumbers,
     asked: SendRequest,
     samples: &[u16],
@@ -38,7 +38,7 @@ pub extern "C" fn brazulint3_send(
 
 // A blanking row of all streams: 1, 4.
 #[no_mangle]
-pub extern "C" fn brazulint3_fill_blanking(format: FormatNumbers, row: &mut [u16]) -> u32
+pub extern "C" fn brazulint4_fill_blanking(format: FormatNumbers, row: &mut [u16]) -> u32
     ensures answer { λ r. ⌜ r ≡ fillBlanking·answer format (now (row .entry)) ⌝ }
     ensures row { λ _. ⌜ now (row .exit) ≡ fillBlanking·row format (now (row .entry)) ⌝ }
 {
@@ -50,7 +50,7 @@ pub extern "C" fn brazulint3_fill_blanking(format: FormatNumbers, row: &mut [u16
 
 // A span into rows: 1, 3, 4, 20 to 26.
 #[no_mangle]
-pub extern "C" fn brazulint3_read(
+pub extern "C" fn brazulint4_read(
     format: FormatNumbers,
     symbols: &[u16],
     rows: &mut [u16],
@@ -63,7 +63,7 @@ pub extern "C" fn brazulint3_read(
 
 // A span without rows: 1, 3, 20 to 26.
 #[no_mangle]
-pub extern "C" fn brazulint3_judge(format: FormatNumbers, symbols: &[u16]) -> ReadAnswer
+pub extern "C" fn brazulint4_judge(format: FormatNumbers, symbols: &[u16]) -> ReadAnswer
     ensures { λ r. ⌜ r ≡ judge·answer format (now (symbols .entry)) ⌝ }
 {
     span_answers::spans::read_answer(read::read::judge(format_from(format), symbols))

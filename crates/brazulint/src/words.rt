@@ -9,7 +9,7 @@ ghost use Rattle.face.specs.Calls.{crcc·answer, lineWords·answer, readLineWor
 
 // The words of a stream line: 2.
 #[no_mangle]
-pub extern "C" fn brazulint3_line_words(line: StreamLineNumber) -> LineWordsAnswer
+pub extern "C" fn brazulint4_line_words(line: StreamLineNumber) -> LineWordsAnswer
     ensures { λ r. ⌜ r ≡ lineWords·answer line ⌝ }
 {
     let l = boundary::numbers::stream_line_from(line);
@@ -18,7 +18,7 @@ pub extern "C" fn brazulint3_line_words(line: StreamLineNumber) -> LineWordsAnsw
 
 // The line that two words name: 7, 22.
 #[no_mangle]
-pub extern "C" fn brazulint3_read_line_words(ln0: u32, ln1: u32) -> ReadLineWordsAnswer
+pub extern "C" fn brazulint4_read_line_words(ln0: u32, ln1: u32) -> ReadLineWordsAnswer
     ensures { λ r. ⌜ r ≡ readLineWords·answer ln0 ln1 ⌝ }
 {
     let a = boundary::numbers::at_most_65535(ln0);
@@ -28,7 +28,7 @@ pub extern "C" fn brazulint3_read_line_words(ln0: u32, ln1: u32) -> ReadLineWord
 
 // The repair of a timing word: 7, 8.
 #[no_mangle]
-pub extern "C" fn brazulint3_repair(word: u32) -> RepairAnswer
+pub extern "C" fn brazulint4_repair(word: u32) -> RepairAnswer
     ensures { λ r. ⌜ r ≡ repair·answer word ⌝ }
 {
     let w = boundary::numbers::at_most_65535(word);
@@ -37,7 +37,7 @@ pub extern "C" fn brazulint3_repair(word: u32) -> RepairAnswer
 
 // The CRCC of a run of words: 7.
 #[no_mangle]
-pub extern "C" fn brazulint3_crcc(words: &[u16]) -> CrccAnswer
+pub extern "C" fn brazulint4_crcc(words: &[u16]) -> CrccAnswer
     ensures { λ r. ⌜ r ≡ crcc·answer (now (words .entry)) ⌝ }
 {
     word_answers::words::crcc_answer(crcc::crcc::crcc_of(words))

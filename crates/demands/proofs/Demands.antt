@@ -139,7 +139,7 @@ by-calls f known r short list e = from-place f known r short 0 (omega arith) lis
 
 -- a good call of a line of the picture: it is sent, and delivered wherever it stands
 module _ (f : Format) (known : IsFormat f) (l : ℕ) (content : Content) (samples : List ℕ) (bytes : AreContent (contentOf f content))
-    (good : (room : ℕ) → Symbols f room → GoodCall (f .number) (f .depth) (l + 41) samples room) where
+    (good : (room : ℕ) → Symbols f room → GoodCall f (l + 41) samples room) where
   abbrev a : Request
   a = request (l + 41) content samples
 

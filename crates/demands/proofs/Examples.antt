@@ -32,6 +32,7 @@ use Rattle.recording.specs.Recording.{limit, Reading, reading, deliveryFrom}
 use Rattle.recording.proofs.Readings.{span-whole}
 use Rattle.delivery.proofs.Steps.{too-few}
 use Rattle.recording.specs.Steps.{runFrom}
+use Rattle.span.specs.Length.{lengthsOf}
 use Rattle.span.specs.Numbers.{IsFormat, Symbols, Samples}
 use Rattle.request.specs.Send.{request, sendOf, sentBuffer}
 use Rattle.demands.specs.Demands.{IsRow}
@@ -193,7 +194,7 @@ module _ (f : Format) (n m : ℕ) (known : IsFormat f) (symbols : Symbols f n) (
       ⊎-elim
       (λ e. ap (sampleWord f 42 t) (at-ten e) ∙ simp (eq-eqb (f .depth) 10 e))
       (λ e. ap (sampleWord f 42 t) (at-twelve e) ∙ simp (ne-eqb (f .depth) 10 (λ z. omega arith)))
-      (known .2)
+      (known .bits)
 
   dark-word : (t j : ℕ) → j < 1920 → 1920 * t + j < m → getD (picture f (request 42 NoneNamed (replicate m (lowestSample f))) t) j 0 ≡ 16
   unfolding picture
@@ -364,7 +365,7 @@ module _ (f : Format) (n m : ℕ) (known : IsFormat f) (symbols : Symbols f n) (
         ⊎-elim
         (λ e. absurd (omega (arith, may .ten e (omega arith) (omega arith) .0, three)))
         (λ e. absurd (omega (arith, may .twelve e (omega arith) (omega arith) .0, three)))
-        (known .2)
+        (known .bits)
 
     elsewhere : (k : ℕ) → k < m → (k ≡ i → ⊥) → MaySend f 42 (given-there k)
     elsewhere k b other =
@@ -399,13 +400,18 @@ module _ (f : Format) (n m : ℕ) (known : IsFormat f) (symbols : Symbols f n) (
     refused21 = λ d b c h l. two-wrong f m known d (sent-42 d) b c h l;
   }
 
+-- what is no format is refused with 1
+no-format : (f : Format) → (IsFormat f → ⊥) → lengthsOf f ≡ refused 1 0
+no-format f never = let (k, p, e) = demand-1 .lengths f .0 never in e ∙ ap (λ (j : ℕ). refused 1 j) p
+
 pub examples : Examples
 examples = record {
   everyFormat = at-format;
-  noFormat4 = let (k, p, e) = demand-1 .lengths (formatFrom 4 12) .0 (λ known. absurd (omega (arith, known .1))) in e ∙ ap (λ (j : ℕ). refused 1 j) p;
-  noDepth11 =
-      let (k, p, e) =
-      demand-1 .lengths (formatFrom 1 11) .0 (λ known. ⊎-elim (λ x. absurd (omega (arith, x))) (λ x. absurd (omega (arith, x))) (known .2)) in
-      e ∙ ap (λ (j : ℕ). refused 1 j) p;
+  noFormat4 = no-format (formatFrom 4 12 1 1 1) (λ k. omega (arith, k .to));
+  noDepth11 = no-format (formatFrom 1 11 1 1 1) (λ k. ⊎-elim (λ x. omega (arith, x)) (λ x. omega (arith, x)) (k .bits));
+  noComponent0 = no-format (formatFrom 1 12 0 1 1) (λ k. omega (arith, k .component .0));
+  noComponent4 = no-format (formatFrom 1 12 4 1 1) (λ k. omega (arith, k .component .1));
+  noStructure0 = no-format (formatFrom 1 12 1 0 1) (λ k. omega (arith, k .structure));
+  noSize0 = no-format (formatFrom 1 12 1 1 0) (λ k. omega (arith, k .size));
   divides = divides;
 }

@@ -26,6 +26,7 @@ use Rattle.dividing.proofs.Rows.{length-divided, sample-divided, length-joined,
 use Rattle.span.specs.declared.content.Content.{Content}
 use Rattle.span.specs.declared.format.Format.{Format}
 use Rattle.span.proofs.Formats.{two-streams, four-streams}
+use Rattle.span.proofs.Numbers.{samples-told}
 use Rattle.span.specs.Format.{shapeOf, streams, samplesIn}
 use Rattle.span.specs.Image.{imageOf}
 use Rattle.span.specs.Sample.{sampleWord}
@@ -75,7 +76,7 @@ module _ (f : Format) (a : Request) (whole : List ℕ) (t : ℕ) (known : IsForm
       let b = r .twelve e i h in
       let other : f .depth ≡ 10 → ⊥ = λ ten. omega arith in
       simp (active, ne-eqb (f .depth) 10 other) (omega arith))
-      (known .2)
+      (known .bits)
 
   -- and it stands where the sample was asked to be sent
   carried : (s j i : ℕ) → j < 1920 → i < 3840 → getD (a .samples) (1920 * s + j) 0 ≡ getD whole i 0 → getD (picture f a s) j 0 ≡ wordOf i
@@ -158,17 +159,13 @@ module _ {f : Format} {h : ℕ} {rows : ℕ → List ℕ} {samples : List ℕ} (
       subst P (sym s ∙ ap (λ (k : ℕ). getD samples k 0) e) (holds (t / 2) (omega arith) (2 * j + t % 2) (omega arith))
 
   -- the call that asks for these samples on stream line l + 41 is a good one
-  good : (l room : ℕ) → IsFormat f → 1 ≤ l → l ≤ 1080 → Symbols f room → GoodCall (f .number) (f .depth) (l + 41) samples room
-  unfolding shapeOf
+  good : (l room : ℕ) → IsFormat f → 1 ≤ l → l ≤ 1080 → Symbols f room → GoodCall f (l + 41) samples room
   good l room known p q symbols =
       let size : length samples ≡ samplesIn (shapeOf f) = long ∙ ap (λ (k : ℕ). 1920 * (2 * k)) (sym (c .half)) in
       record {
-        format =
-            ⊎-elim
-            (λ e. inl (e .0, size ∙ rw (e .0), e .1))
-            (⊎-elim (λ e. inr (inl (e .0, size ∙ rw (e .0), e .1))) (λ e. inr (inr (e .0, size ∙ rw (e .0), e .1))))
-            symbols;
-        bits = known .2;
+        format = known;
+        samples = samples-told f (length samples) known size;
+        symbols = symbols;
         first = omega arith;
         last = omega arith;
         ten = λ e a b. each (λ x. (4 ≤ x) × (x ≤ 1019)) (λ u v. c .are u v .ten e);
@@ -251,7 +248,7 @@ module _ (f : Format) (whole : List ℕ) (l : ℕ) (known : IsFormat f) (n : f .
   unfolding upto
   carries-two = record { half = two-streams f known n; made = refl; are = λ u b. r }
 
-  pub two-good : (room : ℕ) → Symbols f room → GoodCall (f .number) (f .depth) (l + 41) ofTwo room
+  pub two-good : (room : ℕ) → Symbols f room → GoodCall f (l + 41) ofTwo room
   two-good room symbols = good carries-two l room known p q symbols
 
   pub two-back :
@@ -274,7 +271,7 @@ module _ (f : Format) (odd even : List ℕ) (l : ℕ) (known : IsFormat f) (n : 
   unfolding upto
   carries-four = record { half = four-streams f n; made = simp append-assoc; are = are-rows }
 
-  pub four-good : (room : ℕ) → Symbols f room → GoodCall (f .number) (f .depth) (l + 41) ofFour room
+  pub four-good : (room : ℕ) → Symbols f room → GoodCall f (l + 41) ofFour room
   four-good room symbols = good carries-four l room known p q symbols
 
   pub four-back :

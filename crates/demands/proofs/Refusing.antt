@@ -37,7 +37,8 @@ use Rattle.span.specs.Length.{lengthsOf}
 use Rattle.span.specs.Sample.{allowed}
 use Rattle.span.specs.Stream.{Request}
 use Rattle.span.specs.Numbers.{IsFormat, Symbols, Samples}
-use Rattle.span.proofs.Formats.{is-format, known-told}
+use Rattle.span.proofs.Formats.{is-known, known-told}
+use Rattle.span.proofs.Numbers.{symbols-are, samples-are, symbols-told, samples-told}
 use Rattle.span.specs.Blanking.{fillOf}
 use Rattle.request.specs.Send.{firstForbidden, sendOf}
 use Rattle.window.specs.Read.{placed, spanTests as testsOf, pictureOf, judgeOf, readOf, rowsLeft}
@@ -49,7 +50,6 @@ use Rattle.span.proofs.Lengths.{known-has-streams}
 use Rattle.window.proofs.Rules.{says-21, says-22, says-23, says-24, says-25, says-26}
 use Rattle.window.proofs.Scanning.{says-20, holds-before}
 use Rattle.window.proofs.Accepting.{all-hold, none-fails}
-use Rattle.window.proofs.Calls.{is-of, of-is}
 use Rattle.delivery.specs.Delivery.{nextBy as nextBy, findBy as findBy, readFrom, foundAt}
 use Rattle.recording.specs.declared.answer.Spanned.{Spanned}
 use Rattle.way_back.specs.Back.{backOf}
@@ -273,23 +273,15 @@ join-tried first second whole =
 
 -- formats 1 to 3 at 10 or 12 bits
 pub known-says : (f : Format) → Reflects (isKnown f) (IsFormat f)
-known-says f = record { told = λ t. let k = known-told f t in (k .from, k .to, k .bits); holds = is-format f }
+known-says f = record { told = known-told f; holds = is-known f }
 
 module _ (f : Format) (known : IsFormat f) (x : ℕ) where
   -- a known format has so many symbols, and so many samples
   pub symbols-say : Reflects (eqb x (symbolsIn (shapeOf f))) (Symbols f x)
-  unfolding shapeOf
-  symbols-say =
-      or-so (equal x (symbolsIn (shapeOf f)))
-      (of-is (λ n. symbolsIn (numbered n)) (f .number) x (known .0) (known .1))
-      (is-of (λ n. symbolsIn (numbered n)) (f .number) x)
+  symbols-say = or-so (equal x (symbolsIn (shapeOf f))) (symbols-told f x known) (symbols-are f x)
 
   pub samples-say : Reflects (eqb x (samplesIn (shapeOf f))) (Samples f x)
-  unfolding shapeOf
-  samples-say =
-      or-so (equal x (samplesIn (shapeOf f)))
-      (of-is (λ n. samplesIn (numbered n)) (f .number) x (known .0) (known .1))
-      (is-of (λ n. samplesIn (numbered n)) (f .number) x)
+  samples-say = or-so (equal x (samplesIn (shapeOf f))) (samples-told f x known) (samples-are f x)
 
   -- what may be sent, of any stream t
   may-send : (n t : ℕ) → Reflects (allowed f n t x) (MaySend f n x)
@@ -314,7 +306,7 @@ module _ (f : Format) (known : IsFormat f) (x : ℕ) where
           ⊎-elim
           (λ e. simp (active, eq-eqb (f .depth) 10 e) (in-range 4 1019 x .holds (m .ten e p q)))
           (λ e. simp (active, twelve-is e) (in-range 16 4079 x .holds (m .twelve e p q)))
-          (known .2))
+          (known .bits))
           (λ out. simp out (eq-eqb x 0x100 (m .blanking (outside 42 1121 n out))))
 
 -- ---- calls with a format

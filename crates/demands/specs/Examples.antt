@@ -133,9 +133,13 @@ pub record At (f : Format) (n m : ℕ) : Type 0 where
 
 pub record Examples : Type 0 where
   pub everyFormat : (f : Format) (n m : ℕ) → IsFormat f → Symbols f n → Samples f m → At f n m
-  -- format 4 is unknown, and so is a depth of 11
-  pub noFormat4 : lengthsOf (formatFrom 4 12) ≡ refused 1 0
-  pub noDepth11 : lengthsOf (formatFrom 1 11) ≡ refused 1 0
+  -- format 4 is unknown, and so is a depth of 11, a component that was forgotten, a structure or a size that there is not
+  pub noFormat4 : lengthsOf (formatFrom 4 12 1 1 1) ≡ refused 1 0
+  pub noDepth11 : lengthsOf (formatFrom 1 11 1 1 1) ≡ refused 1 0
+  pub noComponent0 : lengthsOf (formatFrom 1 12 0 1 1) ≡ refused 1 0
+  pub noComponent4 : lengthsOf (formatFrom 1 12 4 1 1) ≡ refused 1 0
+  pub noStructure0 : lengthsOf (formatFrom 1 12 1 0 1) ≡ refused 1 0
+  pub noSize0 : lengthsOf (formatFrom 1 12 1 1 0) ≡ refused 1 0
   -- a row is divided, and what was in the two rows is gone
   pub divides :
       (whole first second : List ℕ)

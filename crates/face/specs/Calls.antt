@@ -1,5 +1,5 @@
 -- What each exported call answers, and what it leaves in the memory that it is lent, as functions of the numbers, the structs and the
--- arrays that a caller from C gives, in the order of its parameters. The contract of `brazulint3_x` in crate brazulint says these and
+-- arrays that a caller from C gives, in the order of its parameters. The contract of `brazulint4_x` in crate brazulint says these and
 -- nothing else: `x·answer`, and `x·p` for each lent p (./test compares the text).
 -- Assumes nothing.
 use Prim.Native.Nat.{ℕ}
@@ -47,7 +47,7 @@ use Rattle.recording_answers.specs.Recordings.{findAnswerOf, nextAnswerOf}
 -- ---- the interface: its number times 65536, and the number of the release in it
 
 abbrev pub version·answer : ℕ
-version·answer = 196608
+version·answer = 262144
 
 -- ---- the code
 

@@ -5,7 +5,6 @@ use Prim.Native.Nat.{ℕ, _+_, _*_, _≤_, _<_}
 use mathlib.Core.Path.{_≡_}
 use mathlib.Core.Bool.{Bool, true, false}
 use mathlib.Core.List.{List, [], _∷_}
-use mathlib.Core.Logic.{_⊎_}
 use mathlib.Core.Option.{none, some}
 use lib.ListN.{length, getD, take, drop}
 use Rattle.ground.specs.Answer.{given}
@@ -33,7 +32,7 @@ use Rattle.span.specs.Blanking.{fillOf, blankRow}
 use Rattle.span.specs.Format.{shapeOf, streams, symbolsIn}
 use Rattle.span.specs.Stream.{Request}
 use Rattle.span.specs.declared.format.Format.{Format}
-use Rattle.span.specs.Numbers.{Symbols, Samples}
+use Rattle.span.specs.Numbers.{IsFormat, Symbols, Samples}
 use Rattle.span.specs.Span.{spanSymbols, spanAfter}
 use Rattle.request.specs.Send.{request}
 use Rattle.way_back.specs.declared.back.ImageLine.{ImageLine}
@@ -55,10 +54,6 @@ use Rattle.face.specs.Calls.{decode·answer, encode·answer, lineWords·
 abbrev pub Told : ℕ → ℕ → List Refusal → Type 0
 Told number place [] = (number ≡ 0) × (place ≡ 0)
 Told number place (x ∷ xs) = ((x .good → ⊥) → (number ≡ x .number) × x .place place) × (x .good → Told number place xs)
-
--- a known format, by the numbers that C gives
-abbrev pub KnownFormat : FormatNumbers → Type 0
-KnownFormat format = (1 ≤ format .number) × (format .number ≤ 3) × ((format .depth ≡ 10) ⊎ (format .depth ≡ 12))
 
 -- what the sender is asked for, from a disparity: with no content bytes named, whatever stands in their place, and with these
 abbrev pub unnamed : StreamLineNumber → Bool → ContentBytes → SendRequest
@@ -87,7 +82,7 @@ Stands r i c = (d : Disparity) × (getD r i 0 ≡ symbolOf d c)
 pub record Face : Type 1 where
   pub crossing : BoundaryLaws
   -- the interface that the header's number is compared with: 3, and in it release 0
-  pub version : version·answer ≡ 3 * 65536 + 0
+  pub version : version·answer ≡ 4 * 65536 + 0
   -- which number is which refusal, by the names that the library's answers have
   pub refusals : RefusalNumbers
   -- ---- the code: true is positive, a character is its number
@@ -180,10 +175,10 @@ pub record Face : Type 1 where
   pub carriesBlanking :
       (line : StreamLineNumber) → (42 ≤ line .number → line .number ≤ 1121 → ⊥) → carriesPicture·answer line ≡ false
   -- ---- one span
-  pub lengthsTold : (format : FormatNumbers) → Told (lengths·answer format .number) 0 (rule 1 (KnownFormat format) ∷ [])
+  pub lengthsTold : (format : FormatNumbers) → Told (lengths·answer format .number) 0 (rule 1 (IsFormat (formatGiven format)) ∷ [])
   pub lengths :
       (format : FormatNumbers)
-      → KnownFormat format
+      → IsFormat (formatGiven format)
       → Samples (formatGiven format) (lengths·answer format .samples)
       × Symbols (formatGiven format) (lengths·answer format .symbols)
   -- the sender, asked with no content bytes named and with content bytes named

@@ -8,14 +8,14 @@ use lib.ListN.{length, getD}
 use Rattle.ground.specs.Answer.{Answer, Row, unless, checked}
 use Rattle.line.specs.Stream.{isLine}
 use Rattle.span.specs.declared.format.Format.{Format}
-use Rattle.span.specs.Format.{formatFrom, isKnown, shapeOf, symbolsIn}
+use Rattle.span.specs.Format.{plainFormat, isKnown, shapeOf, symbolsIn}
 use Rattle.recording.specs.Recording.{limit}
 use Rattle.text.specs.Words.{wordInBytes}
 use Rattle.generate.specs.declared.parameters.Parameters.{Parameters}
 
 -- a format byte and a depth byte; a missing byte is not a known one
 abbrev pub wantedFormat : List ℕ → Format
-wantedFormat input = formatFrom (getD input 0 0) (getD input 1 0)
+wantedFormat input = plainFormat (getD input 0 0) (getD input 1 0)
 
 -- the first line, two bytes, low byte first; if either is missing it is 0, which is not a line
 abbrev pub firstLineIn : List ℕ → ℕ

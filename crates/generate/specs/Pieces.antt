@@ -10,7 +10,7 @@ use Rattle.line.specs.Stream.{isLine, lineAfter}
 use Rattle.symbol.specs.declared.disparity.Disparity.{Disparity}
 use Rattle.symbol.specs.Disparity.{fresh}
 use Rattle.span.specs.declared.format.Format.{Format}
-use Rattle.span.specs.Format.{formatFrom, isKnown}
+use Rattle.span.specs.Format.{plainFormat, isKnown}
 use Rattle.span.specs.Span.{spanAfter}
 use Rattle.generate.specs.declared.left.Left.{Left}
 use Rattle.generate.specs.declared.parameters.Parameters.{Parameters}
@@ -32,7 +32,7 @@ abbrev pub allOf : Parameters → Left
 allOf p = record { format = p .format; line = p .first; disparity = fresh; count = p .count }
 
 abbrev pub nothing : Left
-nothing = record { format = formatFrom 0 0; line = record { 0 = 0 }; disparity = fresh; count = 0 }
+nothing = record { format = plainFormat 0 0; line = record { 0 = 0 }; disparity = fresh; count = 0 }
 
 abbrev pub leftBy : Answer Parameters → Left
 leftBy (refused number place) = nothing

@@ -55,7 +55,7 @@ pub(crate) fn wanted_in(input: &[u8]) -> Wanted
     if input.len() < 2 {
         return Wanted::UnknownFormat;
     }
-    let format = span::format::format_of(input[0], input[1]);
+    let format = span::format::plain_format(input[0], input[1]);
     if !span::format::is_known(format) {
         return Wanted::UnknownFormat;
     }

@@ -34,7 +34,7 @@ fn all_of(p: Parameters) -> Left
 fn nothing() -> Left
     ensures { λ r. ⌜ r ≡ none ⌝ }
 {
-    let format = span::format::format_of(0, 0);
+    let format = span::format::plain_format(0, 0);
     let line = line::stream::stream_line(0);
     let disparity = symbol::disparity::before_fresh_signal();
     Left {

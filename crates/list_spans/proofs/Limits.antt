@@ -12,7 +12,7 @@ use borrow.Author.Tests.{lt-ltb, le-ltb, ltb-true, ltb-false}
 use Rattle.ground.proofs.Cases.{on-test}
 use Rattle.ground.proofs.Writing.{table-same}
 use Rattle.span.specs.declared.format.Format.{Format}
-use Rattle.span.specs.Format.{formatFrom, isKnown}
+use Rattle.span.specs.Format.{plainFormat, isKnown}
 use Rattle.recording.specs.Recording.{deliveryFrom}
 use Rattle.text.specs.Words.{countOf, wordInBytes, wordsInBytes}
 use Rattle.list_spans.specs.Listing.{linesOf, refusedFormat, formatIn, mostSymbols, recordedIn, spanListing}
@@ -51,7 +51,7 @@ module _ (input : List ℕ) where
       (λ t. le-ltb (length most) 2 (omega (arith, length-take 65536 input, ltb-false (length input) 2 t)) ∙ sym t)
 
   same-format : formatIn most ≡ formatIn input
-  same-format = ap₂ formatFrom (getD-take 65536 input 0 0 (omega arith)) (getD-take 65536 input 1 0 (omega arith))
+  same-format = ap₂ plainFormat (getD-take 65536 input 0 0 (omega arith)) (getD-take 65536 input 1 0 (omega arith))
 
   same-byte : (i : ℕ) → i < 65534 → getD (drop 2 most) i 0 ≡ getD (drop 2 input) i 0
   same-byte i h = getD-drop 2 most i 0 ∙ getD-take 65536 input (2 + i) 0 (omega arith) ∙ sym (getD-drop 2 input i 0)

@@ -6,7 +6,7 @@ use mathlib.Core.List.{List, [], _∷_, _++_}
 use lib.Dec.{ltb}
 use lib.ListN.{length, getD, drop}
 use Rattle.span.specs.declared.format.Format.{Format}
-use Rattle.span.specs.Format.{formatFrom, isKnown}
+use Rattle.span.specs.Format.{plainFormat, isKnown}
 use Rattle.delivery.specs.Delivery.{Found}
 use Rattle.recording.specs.declared.answer.Spanned.{Spanned}
 use Rattle.recording.specs.Recording.{Reading, deliveryFrom}
@@ -33,7 +33,7 @@ refusedFormat = 114 ∷ 101 ∷ 102 ∷ 117 ∷ 115 ∷ 101 ∷ 100 ∷ 32 ∷ 4
 
 -- the input: one byte of format, one byte of depth
 abbrev pub formatIn : List ℕ → Format
-formatIn input = formatFrom (getD input 0 0) (getD input 1 0)
+formatIn input = plainFormat (getD input 0 0) (getD input 1 0)
 
 -- and then symbols, low byte first, at most 32,767 of them; an odd last byte and what follows that many are ignored
 abbrev pub mostSymbols : ℕ

@@ -91,7 +91,7 @@ pub(crate) fn put_listing(
     if input.len() < 2 {
         return text::put::put_text(b"refused 1\n", out, 0);
     }
-    let f = span::format::format_of(input[0], input[1]);
+    let f = span::format::plain_format(input[0], input[1]);
     if span::format::is_known(f) {
         return put_recording(f, &input[2..], symbols, rows, out);
     }

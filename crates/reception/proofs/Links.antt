@@ -1,12 +1,12 @@
 -- The rig's link: a known format, and the lengths of its spans.
 -- Assumes nothing.
-use mathlib.Core.Path.{_≡_, refl, ap, ap₂, _∙_}
+use mathlib.Core.Path.{_≡_, refl, ap, _∙_}
 use mathlib.Core.Bool.{true}
 use Prim.Native.Nat.{ℕ, _≤_}
 use native.Mathlib.Omega.{arith}
 use Rattle.ground.specs.Range.{within}
 use Rattle.span.specs.declared.format.Format.{Format}
-use Rattle.span.specs.Format.{formatFrom, isKnown, shapeOf, samplesIn, symbolsIn}
+use Rattle.span.specs.Format.{isKnown, shapeOf, samplesIn, symbolsIn}
 use Rattle.recording.specs.Recording.{limit}
 use Rattle.reception.specs.Link.{link}
 
@@ -21,10 +21,6 @@ link-samples = refl
 pub link-symbols : symbolsIn (shapeOf link) ≡ 19008
 unfolding shapeOf
 link-symbols = refl
-
--- it is told by its two numbers
-pub is-link : {f : Format} → f .number ≡ 3 → f .depth ≡ 12 → f ≡ link
-is-link p q = ap₂ formatFrom p q
 
 -- a piece is short enough for the calls
 pub within-limit : (k : ℕ) → k ≤ 95040 → k ≤ limit

@@ -10,8 +10,8 @@ use Rattle.ground.specs.Answer.{refused, given}
 use Rattle.span.specs.declared.format.Format.{Format}
 use Rattle.span.specs.Format.{numbered, shapeOf, samplesIn, symbolsIn}
 use Rattle.span.specs.Numbers.{IsFormat, Samples, Symbols}
-use Rattle.span.proofs.Formats.{is-format, no-format}
-use Rattle.window.proofs.Calls.{is-of, of-is}
+use Rattle.span.proofs.Formats.{is-known, unknown}
+use Rattle.span.proofs.Numbers.{symbols-are, samples-are, samples-told}
 use Rattle.delivery.specs.Kept.{keptFrom}
 use Rattle.delivery.proofs.Keeping.{kept-start, kept-last}
 use Rattle.recording.specs.declared.answer.Spanned.{Spanned}
@@ -25,40 +25,40 @@ use Rattle.recording.proofs.Readings.{is-read, not-read, reading-told}
 module _ (f : Format) (known : IsFormat f) (room : ℕ) where
   has-room : Samples f room → room ≡ samplesIn (shapeOf f)
   unfolding shapeOf
-  has-room h = is-of (λ n. samplesIn (numbered n)) (f .number) room h
+  has-room h = samples-are f room h
 
   room-told : room ≡ samplesIn (shapeOf f) → Samples f room
   unfolding shapeOf
-  room-told e = of-is (λ n. samplesIn (numbered n)) (f .number) room (known .0) (known .1) e
+  room-told e = samples-told f room known e
 
 -- the refusals of the next span by the room alone
 module _ (f : Format) (r : List ℕ) (start room : ℕ) where
   next-1 : (IsFormat f → ⊥) → nextOf f r start room ≡ refused 1 0
-  next-1 x = simp (no-format f x)
+  next-1 x = simp (unknown f x)
 
   module _ (k : IsFormat f) where
     next-3 : 2097152 < length r → nextOf f r start room ≡ refused 3 0
     unfolding limit
-    next-3 h = simp (is-format f k, lt-leb (length r) 2097152 h)
+    next-3 h = simp (is-known f k, lt-leb (length r) 2097152 h)
 
     module _ (short : length r ≤ 2097152) where
       next-4 : (Samples f room → ⊥) → nextOf f r start room ≡ refused 4 0
       unfolding limit
       next-4 x =
           simp
-          (is-format f k, le-leb (length r) 2097152 short, ne-eqb room (samplesIn (shapeOf f)) (λ e. x (room-told f k room e)))
+          (is-known f k, le-leb (length r) 2097152 short, ne-eqb room (samplesIn (shapeOf f)) (λ e. x (room-told f k room e)))
 
       next-5 : Samples f room → length r < start → nextOf f r start room ≡ refused 5 0
       unfolding limit
       next-5 h b =
           simp
-          (is-format f k, le-leb (length r) 2097152 short, eq-eqb room (samplesIn (shapeOf f)) (has-room f k room h), lt-leb start (length r) b)
+          (is-known f k, le-leb (length r) 2097152 short, eq-eqb room (samplesIn (shapeOf f)) (has-room f k room h), lt-leb start (length r) b)
 
 -- the place after
 module _ (f : Format) (r : List ℕ) (start room n : ℕ) (long : Symbols f n) where
   span-long : n ≡ symbolsIn (shapeOf f)
   unfolding shapeOf
-  span-long = is-of (λ k. symbolsIn (numbered k)) (f .number) n long
+  span-long = symbols-are f n long
 
   after-span : (s : Spanned) → nextOf f r start room ≡ given (some s) → afterNext f r start room ≡ s .place + n
   after-span s e = ap (endOr (symbolsIn (shapeOf f)) (length r) start) e ∙ ap (λ (k : ℕ). s .place + k) (sym span-long)
@@ -78,9 +78,9 @@ recording-paper = record {
   readIf = λ f w long d e. is-read f w long e;
   readOnlyIf = λ f w x e. let told = reading-told f w x e in (told .long, told .values, told .words);
   notRead = λ f w long number place e. not-read f w long e;
-  findMeets1 = λ f r start x. find-meets-1 f r start (no-format f x);
-  findMeets3 = λ f r start k. find-meets-3 f r start (is-format f k);
-  findMeets5 = λ f r start k. find-meets-5 f r start (is-format f k);
+  findMeets1 = λ f r start x. find-meets-1 f r start (unknown f x);
+  findMeets3 = λ f r start k. find-meets-3 f r start (is-known f k);
+  findMeets5 = λ f r start k. find-meets-5 f r start (is-known f k);
   nextMeets1 = next-1;
   nextMeets3 = next-3;
   nextMeets4 = next-4;

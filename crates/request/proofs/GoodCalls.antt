@@ -3,8 +3,8 @@
 use mathlib.Core.Path.{_≡_, refl, sym, subst, _∙_}
 use mathlib.Core.Bool.{Bool, true, false}
 use mathlib.Core.List.{List}
-use mathlib.Core.Logic.{_⊎_, inl, inr, ⊎-elim}
-use Prim.Native.Nat.{ℕ, zero, suc, _≤_, _<_}
+use mathlib.Core.Logic.{⊎-elim}
+use Prim.Native.Nat.{ℕ, _≤_, _<_}
 use native.Mathlib.Omega.{arith}
 use lib.Dec.{eqb, ltb}
 use lib.ListN.{length, getD}
@@ -20,13 +20,15 @@ use Rattle.symbol.specs.declared.disparity.Disparity.{Disparity}
 use Rattle.span.specs.declared.content.Content.{Content}
 use Rattle.span.specs.declared.format.Format.{Format}
 use Rattle.span.specs.Blanking.{blankRow}
-use Rattle.span.specs.Format.{isKnown, numbered, shapeOf, samplesIn, symbolsIn}
+use Rattle.span.specs.Format.{isKnown, shapeOf, samplesIn, symbolsIn}
 use Rattle.span.specs.Inside.Sample.{boundsOf}
+use Rattle.span.specs.Numbers.{Samples}
 use Rattle.span.specs.Sample.{blankWord}
 use Rattle.span.specs.Span.{spanAfter}
 use Rattle.span.specs.Stream.{Request}
 use Rattle.span.proofs.Formats.{is-known, known-told}
-use Rattle.request.specs.Laws.{Sized, GoodCall, chosenRequest}
+use Rattle.span.proofs.Numbers.{symbols-are, samples-are, symbols-told, samples-told}
+use Rattle.request.specs.Laws.{GoodCall, chosenRequest}
 use Rattle.request.specs.Send.{sendOf}
 use Rattle.request.specs.Inside.Check.{firstOutside}
 use Rattle.request.specs.Inside.Send.{Accepted}
@@ -49,43 +51,6 @@ module _ (f : Format) (n x : ℕ) where
   in-blanking : isActive n ≡ false → inBounds ≡ within 0x100 0x100 x
   in-blanking t = simp t
 
-one-of-three : (n : ℕ) → 1 ≤ n → n ≤ 3 → (n ≡ 1) ⊎ ((n ≡ 2) ⊎ (n ≡ 3))
-one-of-three zero p q = absurd (omega arith)
-one-of-three (suc zero) p q = inl refl
-one-of-three (suc (suc zero)) p q = inr (inl refl)
-one-of-three (suc (suc (suc zero))) p q = inr (inr refl)
-one-of-three (suc (suc (suc (suc n)))) p q = absurd (omega arith)
-
--- the table of formats, in those numbers
-module _ (f : Format) (long room : ℕ) where
-  record Right : Type 0 where
-    from : 1 ≤ f .number
-    to : f .number ≤ 3
-    samples : long ≡ samplesIn (shapeOf f)
-    symbols : room ≡ symbolsIn (shapeOf f)
-
-  right : (n : ℕ) → 1 ≤ n → n ≤ 3 → f .number ≡ n → long ≡ samplesIn (numbered n) → room ≡ symbolsIn (numbered n) → Right
-  unfolding shapeOf
-  right n p q t e g = record { from = omega arith; to = omega arith; samples = e ∙ rw t; symbols = g ∙ rw t }
-
-  sized : Sized (f .number) long room → Right
-  sized =
-      ⊎-elim
-      (λ t. right 1 (omega arith) (omega arith) (t .0) (t .1) (t .2))
-      (⊎-elim
-      (λ t. right 2 (omega arith) (omega arith) (t .0) (t .1) (t .2))
-      (λ t. right 3 (omega arith) (omega arith) (t .0) (t .1) (t .2)))
-
-  sizes : Right → Sized (f .number) long room
-  unfolding shapeOf
-  sizes r =
-      let e = r .samples in
-      let g = r .symbols in
-      ⊎-elim
-      (λ t. inl (t, e ∙ rw t, g ∙ rw t))
-      (⊎-elim (λ t. inr (inl (t, e ∙ rw t, g ∙ rw t))) (λ t. inr (inr (t, e ∙ rw t, g ∙ rw t))))
-      (one-of-three (f .number) (r .from) (r .to))
-
 -- an answer that is given is no refusal
 not-refused : {A : Type 0} {r : Answer A} {e : A} {number place : ℕ} → r ≡ given e → r ≡ refused number place → ⊥
 not-refused g x = let z : _≡_ {A = ℕ} 0 1 = cc in omega arith
@@ -94,7 +59,7 @@ module _ (d : Disparity) (f : Format) (a : Request) (room : ℕ) where
   abbrev inside : ℕ → Type 0
   inside i = inBounds f (a .line) (getD (a .samples) i 0) ≡ true
 
-  each-inside : GoodCall (f .number) (f .depth) (a .line) (a .samples) room → (i : ℕ) → i < length (a .samples) → inside i
+  each-inside : GoodCall f (a .line) (a .samples) room → (i : ℕ) → i < length (a .samples) → inside i
   each-inside g i h =
       let n = a .line in
       let x = getD (a .samples) i 0 in
@@ -105,20 +70,19 @@ module _ (d : Disparity) (f : Format) (a : Request) (room : ℕ) where
       ⊎-elim
       (λ e. let b = g .ten e p q i h in at-ten f n x e t ∙ is-within 4 1019 x (b .0) (b .1))
       (λ e. let b = g .twelve e p q i h in at-twelve f n x e t ∙ is-within 16 4079 x (b .0) (b .1))
-      (g .bits))
+      (g .format .bits))
       (λ t.
       let e = g .blanking (outside 42 1121 n t) i h in
       in-blanking f n x t ∙ is-within 0x100 0x100 x (omega arith) (omega arith))
 
   -- a good call is sent
-  pub good-is-sent : GoodCall (f .number) (f .depth) (a .line) (a .samples) room → sendOf d f a room ≡ given (spanAfter d f a)
+  pub good-is-sent : GoodCall f (a .line) (a .samples) room → sendOf d f a room ≡ given (spanAfter d f a)
   good-is-sent g =
-      let s = sized f (length (a .samples)) room (g .format) in
       sends d f a room
-      (is-known f (record { from = s .from; to = s .to; bits = g .bits }))
+      (is-known f (g .format))
       (is-within 1 1125 (a .line) (g .first) (g .last))
-      (s .samples)
-      (s .symbols)
+      (samples-are f (length (a .samples)) (g .samples))
+      (symbols-are f room (g .symbols))
       (length (a .samples))
       (sym (outside-never _ _ _ (each-inside g)))
       (omega arith)
@@ -157,12 +121,13 @@ module _ (d : Disparity) (f : Format) (a : Request) (room : ℕ) where
     was-inside i h = not-false _ (sym (forbidden-is f a known i) ∙ good .allowed i h)
 
     -- so it was a good call
-    pub sent-is-good : GoodCall (f .number) (f .depth) (a .line) (a .samples) room
+    pub sent-is-good : GoodCall f (a .line) (a .samples) room
     sent-is-good =
         let k = known-told f known in
         let n = a .line in record {
-          format = sizes f (length (a .samples)) room (record { from = k .from; to = k .to; samples = samples; symbols = symbols });
-          bits = k .bits;
+          format = k;
+          samples = samples-told f (length (a .samples)) k samples;
+          symbols = symbols-told f room k symbols;
           first = from-low 1 1125 n line;
           last = to-high 1 1125 n line;
           ten = λ e p q i h.
@@ -179,21 +144,22 @@ module _ (d : Disparity) (f : Format) (a : Request) (room : ℕ) where
 -- ---- the row that the choice gives
 
 module _ (d : Disparity) (f : Format) (content : Content) (picture : List ℕ) (room active n : ℕ) (p : 42 ≤ active) (q : active ≤ 1121)
-    (g : GoodCall (f .number) (f .depth) active picture room) (low : 1 ≤ n) (high : n ≤ 1125) where
+    (g : GoodCall f active picture room) (low : 1 ≤ n) (high : n ≤ 1125) where
   -- it is as long as the picture row
   blank-long : length (blankRow f) ≡ length picture
-  blank-long = length-table (samplesIn (shapeOf f)) (λ i. blankWord f) ∙ sym (sized f (length picture) room (g .format) .samples)
+  blank-long = length-table (samplesIn (shapeOf f)) (λ i. blankWord f) ∙ sym (samples-are f (length picture) (g .samples))
 
   -- it is a good call in either case
-  chosen-good : GoodCall (f .number) (f .depth) n (rowOn n picture (blankRow f)) room
+  chosen-good : GoodCall f n (rowOn n picture (blankRow f)) room
   chosen-good =
       on-test (isActive n)
       (λ t.
       let is : rowOn n picture (blankRow f) ≡ picture = simp t in
-      subst (λ (row : List ℕ). GoodCall (f .number) (f .depth) n row room) (sym is)
+      subst (λ (row : List ℕ). GoodCall f n row room) (sym is)
       (record {
         format = g .format;
-        bits = g .bits;
+        samples = g .samples;
+        symbols = g .symbols;
         first = low;
         last = high;
         ten = λ e a b i h. g .ten e p q i h;
@@ -202,10 +168,11 @@ module _ (d : Disparity) (f : Format) (content : Content) (picture : List ℕ) (
       }))
       (λ t.
       let is : rowOn n picture (blankRow f) ≡ blankRow f = simp t in
-      subst (λ (row : List ℕ). GoodCall (f .number) (f .depth) n row room) (sym is)
+      subst (λ (row : List ℕ). GoodCall f n row room) (sym is)
       (record {
-        format = subst (λ (long : ℕ). Sized (f .number) long room) (sym blank-long) (g .format);
-        bits = g .bits;
+        format = g .format;
+        samples = subst (Samples f) (sym blank-long) (g .samples);
+        symbols = g .symbols;
         first = low;
         last = high;
         ten = λ e a b i h. absurd (outside 42 1121 n t a b);

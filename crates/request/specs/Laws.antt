@@ -3,7 +3,6 @@
 use Prim.Native.Nat.{ℕ, _≤_, _<_}
 use mathlib.Core.Path.{_≡_}
 use mathlib.Core.List.{List}
-use mathlib.Core.Logic.{_⊎_}
 use lib.ListN.{length, getD}
 use Rattle.ground.specs.Answer.{given}
 use Rattle.ground.specs.Inside.Answer.{Injective}
@@ -12,25 +11,20 @@ use Rattle.picture.specs.Choice.{rowOn}
 use Rattle.span.specs.declared.content.Content.{Content}
 use Rattle.span.specs.declared.format.Format.{Format}
 use Rattle.span.specs.Blanking.{blankRow}
+use Rattle.span.specs.Numbers.{IsFormat, Symbols, Samples}
 use Rattle.span.specs.Span.{spanAfter}
 use Rattle.span.specs.Stream.{Request}
 use Rattle.request.specs.Send.{request, paperSent, sendOf}
 
--- formats 1 to 3, with the samples and the symbols of a span
-abbrev pub Sized : ℕ → ℕ → ℕ → Type 0
-Sized number samples symbols =
-    ((number ≡ 1) × (samples ≡ 3840) × (symbols ≡ 7920))
-    ⊎ (((number ≡ 2) × (samples ≡ 3840) × (symbols ≡ 9504))
-    ⊎ ((number ≡ 3) × (samples ≡ 7680) × (symbols ≡ 19008)))
-
--- a call that document 01 does not refuse: format, depth, line, samples, and the room for symbols
-pub record GoodCall (number depth n : ℕ) (xs : List ℕ) (room : ℕ) : Type 0 where
-  pub format : Sized number (length xs) room
-  pub bits : (depth ≡ 10) ⊎ (depth ≡ 12)
+-- a call that document 01 does not refuse: format, line, samples, and the room for symbols
+pub record GoodCall (f : Format) (n : ℕ) (xs : List ℕ) (room : ℕ) : Type 0 where
+  pub format : IsFormat f
+  pub samples : Samples f (length xs)
+  pub symbols : Symbols f room
   pub first : 1 ≤ n
   pub last : n ≤ 1125
-  pub ten : depth ≡ 10 → 42 ≤ n → n ≤ 1121 → (i : ℕ) → i < length xs → (4 ≤ getD xs i 0) × (getD xs i 0 ≤ 1019)
-  pub twelve : depth ≡ 12 → 42 ≤ n → n ≤ 1121 → (i : ℕ) → i < length xs → (16 ≤ getD xs i 0) × (getD xs i 0 ≤ 4079)
+  pub ten : f .depth ≡ 10 → 42 ≤ n → n ≤ 1121 → (i : ℕ) → i < length xs → (4 ≤ getD xs i 0) × (getD xs i 0 ≤ 1019)
+  pub twelve : f .depth ≡ 12 → 42 ≤ n → n ≤ 1121 → (i : ℕ) → i < length xs → (16 ≤ getD xs i 0) × (getD xs i 0 ≤ 4079)
   pub blanking : (42 ≤ n → n ≤ 1121 → ⊥) → (i : ℕ) → i < length xs → getD xs i 0 ≡ 0x100
 
 -- what is asked for on line n with the row that the choice gives of a picture row and a blanking row
@@ -41,14 +35,14 @@ pub record SendLaws : Type 0 where
   -- a good call is sent, and its answer is the disparity after the span
   pub goodIsSent :
       (d : Disparity) (f : Format) (a : Request) (room : ℕ)
-      → GoodCall (f .number) (f .depth) (a .line) (a .samples) room
+      → GoodCall f (a .line) (a .samples) room
       → sendOf d f a room ≡ given (spanAfter d f a)
   -- so is the row that document 01's choice gives, on any line 1 to 1125: a picture row that may be sent on an active line, or a blanking row
   pub chosenIsSent :
       (d : Disparity) (f : Format) (content : Content) (picture : List ℕ) (room active n : ℕ)
       → 42 ≤ active
       → active ≤ 1121
-      → GoodCall (f .number) (f .depth) active picture room
+      → GoodCall f active picture room
       → 1 ≤ n
       → n ≤ 1125
       → sendOf d f (chosenRequest f content picture n) room ≡ given (spanAfter d f (chosenRequest f content picture n))
@@ -56,6 +50,6 @@ pub record SendLaws : Type 0 where
   pub sentIsGood :
       (d : Disparity) (f : Format) (a : Request) (room : ℕ) (after : Disparity)
       → sendOf d f a room ≡ given after
-      → GoodCall (f .number) (f .depth) (a .line) (a .samples) room
+      → GoodCall f (a .line) (a .samples) room
   -- the paper's number and values tell any two answers apart, so that a contract about them fixes the answer
   pub sentTold : Injective paperSent

@@ -62,7 +62,7 @@ module _ (k : Knock) where
 -- ---- the rows: those of the test picture come back
 
 at-twelve : IsFormat link
-at-twelve = (omega arith, omega arith, inr refl)
+at-twelve = record { from = omega arith; to = omega arith; bits = inr refl; component = (omega arith, omega arith); structure = refl; size = refl }
 
 four : shapeOf link .«stream_pairs» ≡ 2
 unfolding shapeOf

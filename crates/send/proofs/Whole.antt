@@ -27,11 +27,12 @@ use Rattle.span.specs.declared.format.Shape.{Shape}
 use Rattle.span.specs.Content.{contentOf}
 use Rattle.span.specs.Format.{isKnown, shapeOf, samplesIn, symbolsIn}
 use Rattle.span.specs.Encoding.{symbolsFrom, afterRun}
+use Rattle.span.specs.Numbers.{IsFormat}
 use Rattle.span.specs.Sample.{allowed, sampleWord, blankWord}
 use Rattle.span.specs.Inside.Sample.{boundsOf}
 use Rattle.span.specs.Span.{interleaved, fillWord, bytes, charsFromSav, charsFromEav, spanChars, spanSymbols, spanAfter}
 use Rattle.span.specs.Stream.{Request, picture, eav, lineNumber, register, crcc}
-use Rattle.span.proofs.Formats.{Known, known-told, small}
+use Rattle.span.proofs.Formats.{known-told, small}
 use Rattle.span.proofs.Lengths.{known-has-streams, length-chars}
 use Rattle.span.proofs.Packing.{bytes-interleaved, bytes-replicate}
 use Rattle.span.proofs.Parts.{parts-from-sav, parts-from-eav, blank-area}
@@ -58,7 +59,7 @@ module _ (f : Format) (a : Request) (good : Accepted f a) (factor : ℕ) (is : f
   abbrev w : ℕ → ℕ → ℕ
   w = pictureWord rows
 
-  known : Known f
+  known : IsFormat f
   known = known-told f (good .known)
 
   may : (i : ℕ) → i < length (a .samples) → allowed f (a .line) (i / 1920) (getD (a .samples) i 0) ≡ true

@@ -14,16 +14,10 @@ use Rattle.ground.proofs.Ranges.{is-within, from-low, to-high}
 use Rattle.ground.proofs.Tests.{both-left, both-right}
 use Rattle.span.specs.declared.format.Format.{Format}
 use Rattle.span.specs.declared.format.Shape.{Shape}
-use Rattle.span.specs.Format.{isKnown, tableRow, numbered, shapeOf}
+use Rattle.span.specs.Format.{isDepth, isKnown, tableRow, numbered, shapeOf}
 use Rattle.span.specs.Numbers.{IsFormat}
 use Rattle.span.specs.Inside.Format.{Small}
 use Rattle.span.specs.Layout.{ancillaryStart}
-
--- formats 1 to 3 at 10 or 12 bits
-pub record Known (f : Format) : Type 0 where
-  pub from : 1 ≤ f .number
-  pub to : f .number ≤ 3
-  pub bits : (f .depth ≡ 10) ⊎ (f .depth ≡ 12)
 
 either : (a b : Bool) → (a || b) ≡ true → (a ≡ true) ⊎ (b ≡ true)
 either true b t = inl refl
@@ -34,44 +28,42 @@ right-of : (a b : Bool) → b ≡ true → (a || b) ≡ true
 right-of true b t = refl
 right-of false b t = t
 
+pub depth-known : {depth : ℕ} → (depth ≡ 10) ⊎ (depth ≡ 12) → isDepth depth ≡ true
+depth-known {depth} bits =
+    ⊎-elim (λ e. ap (λ (t : Bool). t || eqb depth 12) (eq-eqb _ _ e)) (λ e. right-of (eqb depth 10) (eqb depth 12) (eq-eqb _ _ e)) bits
+
 module _ (f : Format) where
-  abbrev ten : Bool
-  ten = eqb (f .depth) 10
+  abbrev sampling : Bool
+  sampling = eqb (f .structure) 1 && eqb (f .size) 1
 
-  abbrev twelve : Bool
-  twelve = eqb (f .depth) 12
+  abbrev carrying : Bool
+  carrying = within 1 3 (f .component) && sampling
 
-  pub is-known : Known f → isKnown f ≡ true
+  pub is-known : IsFormat f → isKnown f ≡ true
   is-known k =
-      ap (λ (t : Bool). t && (ten || twelve)) (is-within 1 3 (f .number) (k .from) (k .to))
-      ∙ ⊎-elim (λ e. ap (λ (t : Bool). t || twelve) (eq-eqb _ _ e)) (λ e. right-of ten twelve (eq-eqb _ _ e)) (k .bits)
+      simp
+      (is-within 1 3 (f .number) (k .from) (k .to), depth-known (k .bits), is-within 1 3 (f .component) (k .component .0) (k .component .1), eq-eqb (f .structure) 1 (k .structure), eq-eqb (f .size) 1 (k .size))
 
-  pub known-told : isKnown f ≡ true → Known f
+  pub known-told : isKnown f ≡ true → IsFormat f
   known-told t =
-      let in-range : within 1 3 (f .number) ≡ true = both-left (within 1 3 (f .number)) (ten || twelve) t in
-      let bits : (ten || twelve) ≡ true = both-right (within 1 3 (f .number)) (ten || twelve) t in
+      let in-range = both-left (within 1 3 (f .number)) (isDepth (f .depth) && carrying) t in
+      let deep = both-right (within 1 3 (f .number)) (isDepth (f .depth) && carrying) t in
+      let carries = both-right (isDepth (f .depth)) carrying deep in
+      let component = both-left (within 1 3 (f .component)) sampling carries in
+      let sampled = both-right (within 1 3 (f .component)) sampling carries in
       record {
         from = from-low _ _ _ in-range;
         to = to-high _ _ _ in-range;
-        bits = ⊎-elim (λ e. inl (eqb-true _ _ e)) (λ e. inr (eqb-true _ _ e)) (either ten twelve bits);
+        bits =
+            ⊎-elim (λ e. inl (eqb-true _ _ e)) (λ e. inr (eqb-true _ _ e))
+            (either (eqb (f .depth) 10) (eqb (f .depth) 12) (both-left (isDepth (f .depth)) carrying deep));
+        component = (from-low _ _ _ component, to-high _ _ _ component);
+        structure = eqb-true _ _ (both-left (eqb (f .structure) 1) (eqb (f .size) 1) sampled);
+        size = eqb-true _ _ (both-right (eqb (f .structure) 1) (eqb (f .size) 1) sampled);
       }
 
-  pub unknown : (Known f → ⊥) → isKnown f ≡ false
+  pub unknown : (IsFormat f → ⊥) → isKnown f ≡ false
   unknown x = on-test (isKnown f) (λ t. absurd (x (known-told t))) (λ t. t)
-
--- the same in document 01's numbers
-module _ (f : Format) where
-  pub known : IsFormat f → Known f
-  known k = record { from = k .0; to = k .1; bits = k .2 }
-
-  pub is-format : IsFormat f → isKnown f ≡ true
-  is-format k = is-known f (known k)
-
-  pub not-known : (IsFormat f → ⊥) → Known f → ⊥
-  not-known x k = x (k .from, k .to, k .bits)
-
-  pub no-format : (IsFormat f → ⊥) → isKnown f ≡ false
-  no-format x = unknown f (not-known x)
 
 small-row : (n : ℕ) → Small (numbered n)
 small-row zero = record { half = omega arith; ancillary = omega arith; fill = omega arith; longArea = λ h. omega arith; longFill = λ h. omega arith }
@@ -112,7 +104,7 @@ half-two (suc (suc (suc n))) p q = absurd (omega arith)
 
 pub two-streams : (f : Format) → IsFormat f → f .number ≤ 2 → shapeOf f .«stream_pairs» ≡ 1
 unfolding shapeOf
-two-streams f known q = half-two (f .number) (known .0) q
+two-streams f known q = half-two (f .number) (known .from) q
 
 pub four-streams : (f : Format) → f .number ≡ 3 → shapeOf f .«stream_pairs» ≡ 2
 unfolding shapeOf

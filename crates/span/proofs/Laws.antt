@@ -2,14 +2,13 @@
 -- Assumes nothing.
 use Rattle.span.specs.Laws.{SpanLaws}
 use Rattle.span.proofs.FilledOneToOne.{filled-one-to-one}
-use Rattle.span.proofs.Formats.{known}
 use Rattle.span.proofs.OneToOne.{lengths-one-to-one}
 use Rattle.span.proofs.Samples.{allowed-is, word-is}
 
 pub span-laws : SpanLaws
 span-laws = record {
-  boundsAgree = λ f k. allowed-is f (known f k);
-  factorAgrees = λ f k. word-is f (known f k);
+  boundsAgree = allowed-is;
+  factorAgrees = word-is;
   lengthsTold = lengths-one-to-one;
   filledTold = filled-one-to-one;
 }

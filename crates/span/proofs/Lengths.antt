@@ -1,56 +1,51 @@
 -- How long a span is: its words, characters and symbols; and document 01's table of formats.
 -- Assumes nothing.
 use mathlib.Core.Path.{_≡_, refl, _∙_}
-use mathlib.Core.Bool.{true, _||_}
+use mathlib.Core.Bool.{true}
 use mathlib.Core.List.{[], _∷_}
 use Prim.Native.Nat.{ℕ, zero, suc, _+_, _*_, _≤_}
 use native.Mathlib.Omega.{arith}
-use lib.Dec.{eqb}
 use lib.ListN.{length, replicate, length-append, length-replicate}
-use Rattle.ground.specs.Range.{within}
-use Rattle.ground.proofs.Ranges.{from-low, to-high}
-use Rattle.ground.proofs.Tests.{both-left}
 use Rattle.symbol.specs.declared.disparity.Disparity.{Disparity}
 use Rattle.span.specs.declared.format.Format.{Format}
 use Rattle.span.specs.declared.format.Shape.{Shape}
 use Rattle.span.specs.Content.{contentOf}
-use Rattle.span.specs.Format.{formatFrom, isKnown, shapeOf, streams, pairsIn, symbolsIn, eavAt}
+use Rattle.span.specs.Format.{isKnown, numbered, shapeOf, streams, pairsIn, symbolsIn, eavAt}
 use Rattle.span.specs.Paper.{columns}
 use Rattle.span.specs.Span.{interleaved, bytes, wordsFromSav, wordsFromEav, spanWords, charsFromSav, charsFromEav, spanChars, spanSymbols, fillWord}
 use Rattle.span.specs.Stream.{Request, fromSav, fromEav}
 use Rattle.span.specs.Layout.{eavStart}
 use Rattle.span.proofs.Encoding.{length-symbols}
+use Rattle.span.proofs.Formats.{known-told}
 use Rattle.span.proofs.Interleaving.{length-interleaved}
 use Rattle.span.proofs.Packing.{length-bytes}
 use Rattle.span.proofs.Synchronised.{length-both}
 
 pub table-of-formats :
-    (depth : ℕ)
-    → (columns (formatFrom 1 depth) ≡ 2 ∷ 268 ∷ 880 ∷ 7920 ∷ 3840 ∷ [])
-    × (columns (formatFrom 2 depth) ≡ 2 ∷ 708 ∷ 1056 ∷ 9504 ∷ 3840 ∷ [])
-    × (columns (formatFrom 3 depth) ≡ 4 ∷ 708 ∷ 2112 ∷ 19008 ∷ 7680 ∷ [])
+    (f : Format)
+    → (f .number ≡ 1 → columns f ≡ 2 ∷ 268 ∷ 880 ∷ 7920 ∷ 3840 ∷ [])
+    × (f .number ≡ 2 → columns f ≡ 2 ∷ 708 ∷ 1056 ∷ 9504 ∷ 3840 ∷ [])
+    × (f .number ≡ 3 → columns f ≡ 4 ∷ 708 ∷ 2112 ∷ 19008 ∷ 7680 ∷ [])
 unfolding shapeOf
-table-of-formats depth = (refl, refl, refl)
+table-of-formats f = (λ e. rw e, λ e. rw e, λ e. rw e)
 
 -- a known format has streams and fill
 record Some (p : Shape) : Type 0 where
   half : 1 ≤ p .«stream_pairs»
   fill : 1 ≤ p .«fill_pairs»
 
--- formats 1 to 3 have, whatever the depth
-numbered : (n depth : ℕ) → 1 ≤ n → n ≤ 3 → Some (shapeOf (formatFrom n depth))
-unfolding shapeOf
-numbered zero depth p q = absurd (omega arith)
-numbered (suc zero) depth p q = record { half = omega arith; fill = omega arith }
-numbered (suc (suc zero)) depth p q = record { half = omega arith; fill = omega arith }
-numbered (suc (suc (suc zero))) depth p q = record { half = omega arith; fill = omega arith }
-numbered (suc (suc (suc (suc n)))) depth p q = absurd (omega arith)
+-- formats 1 to 3 have
+some-row : (n : ℕ) → 1 ≤ n → n ≤ 3 → Some (numbered n)
+some-row zero p q = absurd (omega arith)
+some-row (suc zero) p q = record { half = omega arith; fill = omega arith }
+some-row (suc (suc zero)) p q = record { half = omega arith; fill = omega arith }
+some-row (suc (suc (suc zero))) p q = record { half = omega arith; fill = omega arith }
+some-row (suc (suc (suc (suc n)))) p q = absurd (omega arith)
 
 module _ (f : Format) (known : isKnown f ≡ true) where
   some : Some (shapeOf f)
-  some =
-      let t = both-left (within 1 3 (f .number)) (eqb (f .depth) 10 || eqb (f .depth) 12) known in
-      numbered (f .number) (f .depth) (from-low 1 3 (f .number) t) (to-high 1 3 (f .number) t)
+  unfolding shapeOf
+  some = let k = known-told f known in some-row (f .number) (k .from) (k .to)
 
   pub known-has-streams : 1 ≤ shapeOf f .«stream_pairs»
   known-has-streams = some .half

@@ -8,6 +8,7 @@ pub mod Interleaving
 pub mod Laws
 pub mod LengthCalls
 pub mod Lengths
+pub mod Numbers
 pub mod OneToOne
 pub mod Packing
 pub mod Paper

@@ -28,7 +28,7 @@ use Rattle.span.specs.Span.{spanWords, spanChars, bytesListed}
 use Rattle.span.specs.Stream.{Request, sav, picture, eav, lineNumber, register, crcc, ancillary}
 use Rattle.span.proofs.Blank.{fill-meets-1, fill-meets-4}
 use Rattle.span.proofs.Contents.{named-as-given, none-named-zeros}
-use Rattle.span.proofs.Formats.{is-format, no-format}
+use Rattle.span.proofs.Formats.{is-known, unknown}
 use Rattle.span.proofs.Images.{images-of-120, images-of-100, images-of-50}
 use Rattle.span.proofs.LengthCalls.{lengths-refused, lengths-of-120, lengths-of-100, lengths-of-50}
 use Rattle.span.proofs.Lengths.{table-of-formats, known-has-streams, length-of-symbols}
@@ -37,7 +37,7 @@ use Rattle.span.proofs.Signals.{signal-is}
 
 -- a format in document 01's numbers has streams
 has-streams : (f : Format) → IsFormat f → 1 ≤ shapeOf f .«stream_pairs»
-has-streams f k = known-has-streams f (is-format f k)
+has-streams f k = known-has-streams f (is-known f k)
 
 -- ---- V of a line and of the line after
 
@@ -158,7 +158,7 @@ two-streams (suc (suc (suc number))) p q = absurd (omega arith)
 module _ (f : Format) (a : Request) (known : IsFormat f) (few : f .number ≤ 2) (p : wordOf f a 4 0 ≡ 0xABC) (q : wordOf f a 4 1 ≡ 0xDEF) where
   two : streams (shapeOf f) ≡ 2
   unfolding shapeOf
-  two = two-streams (f .number) (known .0) few
+  two = two-streams (f .number) (known .from) few
 
   -- words 8 and 9 are the first of the picture
   byte-of : (i : ℕ) → i < 3 → getD (spanChars f a) (12 + i) 0 ≡ getD (bytesListed (bytesOf 0xABC 0xDEF)) i 0
@@ -179,9 +179,9 @@ span-paper = record {
   lengths120 = lengths-of-120;
   lengths100 = lengths-of-100;
   lengths50 = lengths-of-50;
-  lengthsMeets1 = λ f x. lengths-refused f (no-format f x);
-  fillMeets1 = λ f row x. fill-meets-1 f row (no-format f x);
-  fillMeets4 = λ f row k. fill-meets-4 f row (is-format f k);
+  lengthsMeets1 = λ f x. lengths-refused f (unknown f x);
+  fillMeets1 = λ f row x. fill-meets-1 f row (unknown f x);
+  fillMeets4 = λ f row k. fill-meets-4 f row (is-known f k);
   symbolsOfSpan = λ d f a k. length-of-symbols f a (has-streams f k) d;
   images120 = images-of-120;
   images100 = images-of-100;

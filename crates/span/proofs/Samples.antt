@@ -12,9 +12,9 @@ use Rattle.ground.proofs.Cases.{on-test}
 use Rattle.ground.proofs.Ranges.{is-within, from-low, to-high}
 use Rattle.line.specs.Stream.{isActive}
 use Rattle.span.specs.declared.format.Format.{Format}
+use Rattle.span.specs.Numbers.{IsFormat}
 use Rattle.span.specs.Sample.{blankWord, allowed, sampleWord}
 use Rattle.span.specs.Inside.Sample.{boundsOf}
-use Rattle.span.proofs.Formats.{Known}
 
 -- two tests that hold together are the same
 same-test : (a b : Bool) → (a ≡ true → b ≡ true) → (b ≡ true → a ≡ true) → a ≡ b
@@ -29,7 +29,7 @@ one-number b x =
     (λ t. let e : x ≡ b = eqb-true x b t in is-within b b x (omega arith) (omega arith))
     (λ t. eq-eqb x b (omega (arith, from-low _ _ _ t, to-high _ _ _ t)))
 
-module _ (f : Format) (k : Known f) (n t x : ℕ) where
+module _ (f : Format) (k : IsFormat f) (n t x : ℕ) where
   pub allowed-is : allowed f n t x ≡ within (boundsOf f n .low) (boundsOf f n .high) x
   allowed-is =
       on-test (isActive n)

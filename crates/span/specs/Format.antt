@@ -1,4 +1,4 @@
--- The formats (document 01, "A span": its table; 004, tables 4, 11 and 14).
+-- The formats (document 01, "A span": its table; 004, tables 2, 3, 4, 11 and 14).
 -- Assumes nothing.
 use Prim.Native.Nat.{ℕ, _+_, _*_, _/_}
 use mathlib.Core.Bool.{Bool, _&&_, _||_}
@@ -10,13 +10,23 @@ use Rattle.span.specs.declared.format.Format.{Format}
 use Rattle.span.specs.declared.format.Shape.{Shape}
 use Rattle.span.specs.Layout.{ancillaryStart}
 
--- a format as a caller writes it: the one place where its record is made
-abbrev pub formatFrom : ℕ → ℕ → Format
-formatFrom number depth = record { number = number; depth = depth }
+-- a format as a caller writes it: number, depth, component, structure, size. The one place where its record is made.
+abbrev pub formatFrom : ℕ → ℕ → ℕ → ℕ → ℕ → Format
+formatFrom number depth component structure size =
+    record { number = number; depth = depth; component = component; structure = structure; size = size }
 
--- formats 1 to 3, at 10 or 12 bits
+-- that of document 01's base: component 1 is G', structure 1 is 4:4:4, size 1 is 4K
+abbrev pub plainFormat : ℕ → ℕ → Format
+plainFormat number depth = formatFrom number depth 1 1 1
+
+abbrev pub isDepth : ℕ → Bool
+isDepth depth = eqb depth 10 || eqb depth 12
+
+-- formats 1 to 3, at 10 or 12 bits, of G', B' and R' (1 to 3), 4:4:4, 4K
 abbrev pub isKnown : Format → Bool
-isKnown f = within 1 3 (f .number) && (eqb (f .depth) 10 || eqb (f .depth) 12)
+isKnown f =
+    within 1 3 (f .number)
+    && (isDepth (f .depth) && (within 1 3 (f .component) && (eqb (f .structure) 1 && eqb (f .size) 1)))
 
 -- a row of the table: s, the ancillary words per stream, the fill words. s and the fill are even and kept as pairs, since the link
 -- takes words two at a time.

@@ -1,4 +1,4 @@
--- Document 01's own numbers: which formats and depths there are, and how long a span of each is. Laws that say which calls are good are
+-- Document 01's own numbers: which formats there are, and how long a span of each is. Laws that say which calls are good are
 -- stated with these, not with what is computed from the table of formats.
 -- Assumes nothing.
 use Prim.Native.Nat.{ℕ, _≤_}
@@ -6,9 +6,14 @@ use mathlib.Core.Path.{_≡_}
 use mathlib.Core.Logic.{_⊎_}
 use Rattle.span.specs.declared.format.Format.{Format}
 
--- a known format and depth
-abbrev pub IsFormat : Format → Type 0
-IsFormat f = (1 ≤ f .number) × (f .number ≤ 3) × ((f .depth ≡ 10) ⊎ (f .depth ≡ 12))
+-- a known format: 120, 100 or 50 Hz; 10 or 12 bits; G', B' or R'; 4:4:4; 4K
+pub record IsFormat (f : Format) : Type 0 where
+  pub from : 1 ≤ f .number
+  pub to : f .number ≤ 3
+  pub bits : (f .depth ≡ 10) ⊎ (f .depth ≡ 12)
+  pub component : (1 ≤ f .component) × (f .component ≤ 3)
+  pub structure : f .structure ≡ 1
+  pub size : f .size ≡ 1
 
 -- x is a, b or c for format 1, 2 or 3
 abbrev pub Of : ℕ → ℕ → ℕ → ℕ → ℕ → Type 0

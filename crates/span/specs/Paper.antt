@@ -4,7 +4,6 @@
 use Prim.Native.Nat.{ℕ, _+_, _*_, _≤_, _<_}
 use mathlib.Core.Path.{_≡_}
 use mathlib.Core.List.{List, [], _∷_, _++_}
-use mathlib.Core.Logic.{_⊎_}
 use lib.ListN.{length, getD, take, replicate}
 use Rattle.ground.specs.Answer.{refused, given}
 use Rattle.ground.specs.Written.{table}
@@ -22,16 +21,12 @@ use Rattle.span.specs.declared.format.Format.{Format}
 use Rattle.span.specs.Blanking.{fillOf, blankRow}
 use Rattle.span.specs.Content.{contentOf}
 use Rattle.span.specs.Encoding.{symbolsFrom, afterRun}
-use Rattle.span.specs.Format.{shapeOf, streams, samplesIn, pairsIn, symbolsIn, formatFrom}
+use Rattle.span.specs.Format.{shapeOf, streams, samplesIn, pairsIn, symbolsIn}
 use Rattle.span.specs.Image.{imageOf}
 use Rattle.span.specs.Length.{lengthsOf}
 use Rattle.span.specs.Numbers.{IsFormat}
 use Rattle.span.specs.Span.{bytesListed, spanWords, spanChars, spanSymbols, signal}
 use Rattle.span.specs.Stream.{Request}
-
--- a format by its number and depth
-abbrev format : ℕ → ℕ → Format
-format number depth = (formatFrom number depth)
 
 -- a row of document 01's table: s, the ancillary words per stream, the fill words, the symbols, the samples
 abbrev pub columns : Format → List ℕ
@@ -61,18 +56,15 @@ Active n = (42 ≤ n) × (n ≤ 1121)
 pub record SpanPaper : Type 0 where
   -- document 01's table of formats: s, the ancillary words per stream, the fill words, the symbols; and 1920 samples a stream
   pub tableOfFormats :
-      (depth : ℕ)
-      → (columns (format 1 depth) ≡ 2 ∷ 268 ∷ 880 ∷ 7920 ∷ 3840 ∷ [])
-      × (columns (format 2 depth) ≡ 2 ∷ 708 ∷ 1056 ∷ 9504 ∷ 3840 ∷ [])
-      × (columns (format 3 depth) ≡ 4 ∷ 708 ∷ 2112 ∷ 19008 ∷ 7680 ∷ [])
-  -- the lengths call answers these at 10 and 12 bits
-  pub lengths120 :
-      (depth : ℕ) → (depth ≡ 10) ⊎ (depth ≡ 12) → lengthsOf (format 1 depth) ≡ given (record { samples = 3840; symbols = 7920 })
-  pub lengths100 :
-      (depth : ℕ) → (depth ≡ 10) ⊎ (depth ≡ 12) → lengthsOf (format 2 depth) ≡ given (record { samples = 3840; symbols = 9504 })
-  pub lengths50 :
-      (depth : ℕ) → (depth ≡ 10) ⊎ (depth ≡ 12) → lengthsOf (format 3 depth) ≡ given (record { samples = 7680; symbols = 19008 })
-  -- any other format or depth is refused with 1; so it is by the call that fills a row with blanking, which refuses any other length with 4
+      (f : Format)
+      → (f .number ≡ 1 → columns f ≡ 2 ∷ 268 ∷ 880 ∷ 7920 ∷ 3840 ∷ [])
+      × (f .number ≡ 2 → columns f ≡ 2 ∷ 708 ∷ 1056 ∷ 9504 ∷ 3840 ∷ [])
+      × (f .number ≡ 3 → columns f ≡ 4 ∷ 708 ∷ 2112 ∷ 19008 ∷ 7680 ∷ [])
+  -- the lengths call answers these for every known format
+  pub lengths120 : (f : Format) → IsFormat f → f .number ≡ 1 → lengthsOf f ≡ given (record { samples = 3840; symbols = 7920 })
+  pub lengths100 : (f : Format) → IsFormat f → f .number ≡ 2 → lengthsOf f ≡ given (record { samples = 3840; symbols = 9504 })
+  pub lengths50 : (f : Format) → IsFormat f → f .number ≡ 3 → lengthsOf f ≡ given (record { samples = 7680; symbols = 19008 })
+  -- any other format is refused with 1; so it is by the call that fills a row with blanking, which refuses any other length with 4
   pub lengthsMeets1 : (f : Format) → (IsFormat f → ⊥) → lengthsOf f ≡ refused 1 0
   pub fillMeets1 : (f : Format) (row : List ℕ) → (IsFormat f → ⊥) → fillOf f row ≡ refused 1 0
   pub fillMeets4 :
@@ -81,9 +73,9 @@ pub record SpanPaper : Type 0 where
   pub symbolsOfSpan :
       (d : Disparity) (f : Format) (a : Request) → IsFormat f → length (spanSymbols d f a) ≡ symbolsIn (shapeOf f)
   -- the images that the streams carry: 1 and 2, or 3 and 4, at 120 and 100 Hz; 1 to 4 at 50 Hz (document 01, "Dividing a picture")
-  pub images120 : (depth : ℕ) → (two (format 1 depth) 1 ≡ 1 ∷ 2 ∷ []) × (two (format 1 depth) 2 ≡ 3 ∷ 4 ∷ [])
-  pub images100 : (depth : ℕ) → (two (format 2 depth) 1 ≡ 1 ∷ 2 ∷ []) × (two (format 2 depth) 2 ≡ 3 ∷ 4 ∷ [])
-  pub images50 : (depth pair : ℕ) → four (format 3 depth) pair ≡ 1 ∷ 2 ∷ 3 ∷ 4 ∷ []
+  pub images120 : (f : Format) → f .number ≡ 1 → (two f 1 ≡ 1 ∷ 2 ∷ []) × (two f 2 ≡ 3 ∷ 4 ∷ [])
+  pub images100 : (f : Format) → f .number ≡ 2 → (two f 1 ≡ 1 ∷ 2 ∷ []) × (two f 2 ≡ 3 ∷ 4 ∷ [])
+  pub images50 : (f : Format) → f .number ≡ 3 → (pair : ℕ) → four f pair ≡ 1 ∷ 2 ∷ 3 ∷ 4 ∷ []
   -- the content bytes are those that a call names, and zeros if it names none (document 01, "Sending")
   pub namedAsGiven : (f : Format) (c : ContentBytes) → contentOf f (Named c) ≡ c
   pub noneNamedZeros : (f : Format) → contentOf f NoneNamed ≡ record { sav1 = 0; sav2 = 0; eav1 = 0; eav2 = 0 }

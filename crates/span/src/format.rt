@@ -1,11 +1,20 @@
 // Formats as the caller wrote them, and what the known ones mean (document 01, "A span").
 ghost use mathlib.Core.Path.{_≡_};
-ghost use Rattle.span.specs.Format.{formatFrom, isKnown as known, shapeOf};
+ghost use Rattle.span.specs.Format.{formatFrom, plainFormat, isDepth, isKnown as known, shapeOf};
 
-// The number of the format and the depth in bits, which may be any numbers: the calls that take a format refuse an unknown one.
+// What both ends of a link have agreed on, as the caller wrote it. Any numbers may stand here: the calls that take a format refuse an unknown
+// one. 0 is unknown in every field, so that one which was forgotten is refused and not guessed.
 pub struct Format {
+    // 1, 2, 3: 120, 100, 50 Hz.
     number: u8,
+    // 10, 12 bits.
     depth: u8,
+    // What the link carries: 1 G', 2 B', 3 R'.
+    component: u8,
+    // 1: 4:4:4.
+    structure: u8,
+    // 1: 4K.
+    size: u8,
 }
 
 // The pairs of streams, the ancillary words per stream, the pairs of fill words.
@@ -16,21 +25,46 @@ pub struct Shape {
 }
 
 // The one place where a format is made.
-pub fn format_of(number: u8, depth: u8) -> Format
-    ensures { λ r. ⌜ r ≡ formatFrom number depth ⌝ }
+pub fn format_of(number: u8, depth: u8, component: u8, structure: u8, size: u8) -> Format
+    ensures { λ r. ⌜ r ≡ formatFrom number depth component structure size ⌝ }
 {
-    Format { number, depth }
+    Format {
+        number,
+        depth,
+        component,
+        structure,
+        size,
+    }
 }
 
-// Whether there is such a format and depth.
+// The format of document 01's base: G', 4:4:4, 4K.
+pub fn plain_format(number: u8, depth: u8) -> Format
+    ensures { λ r. ⌜ r ≡ plainFormat number depth ⌝ }
+{
+    format_of(number, depth, 1, 1, 1)
+}
+
+fn is_depth(depth: u8) -> bool
+    ensures { λ r. ⌜ r ≡ isDepth depth ⌝ }
+{
+    if depth == 10 {
+        return true;
+    }
+    depth == 12
+}
+
+// Whether there is such a format.
 pub fn is_known(f: Format) -> bool
     ensures { λ r. ⌜ r ≡ known f ⌝ }
 {
     if ground::range::within(1, 3, f.number as u16) {
-        if f.depth == 10 {
-            return true;
+        if is_depth(f.depth) {
+            if ground::range::within(1, 3, f.component as u16) {
+                if f.structure == 1 {
+                    return f.size == 1;
+                }
+            }
         }
-        return f.depth == 12;
     }
     false
 }

@@ -17,7 +17,7 @@ use Rattle.span.specs.declared.format.Format.{Format}
 use Rattle.span.specs.Format.{shapeOf}
 use Rattle.span.specs.Image.{imageOf}
 use Rattle.span.specs.Numbers.{IsFormat}
-use Rattle.span.proofs.Formats.{is-format, no-format, two-streams, four-streams}
+use Rattle.span.proofs.Formats.{is-known, unknown, two-streams, four-streams}
 use Rattle.way_back.specs.Back.{backOf, bringsLine, hasStream, imageLineOn}
 use Rattle.way_back.specs.Paper.{IsStream, Carried, line, WayBackPaper}
 use Rattle.way_back.proofs.Backs.{has-told, unknown-back, is-back}
@@ -39,7 +39,7 @@ module _ (f : Format) (known : IsFormat f) where
             let two = two-streams f known (leb-true (f .number) 2 e) in
             inl (leb-true (f .number) 2 e, x .link-from, x .link-to, x .stream-from, omega (arith, two, x .stream-to)))
             (λ e.
-            let three : f .number ≡ 3 = omega (arith, leb-false (f .number) 2 e, known .1) in
+            let three : f .number ≡ 3 = omega (arith, leb-false (f .number) 2 e, known .to) in
             let four = four-streams f three in
             inr (three, x .first (λ z. omega arith), x .stream-from, omega (arith, four, x .stream-to)))
 
@@ -54,7 +54,7 @@ module _ (f : Format) (known : IsFormat f) where
       → backOf f link stream (l + 41) ≡ line u m
   at-line link stream l u m has a b image e =
       let less : l + 41 - 41 ≡ l = omega arith in
-      sym (is-back f link stream (l + 41) (is-format f known) (streams-say link stream .holds has) (is-within 42 1121 (l + 41) (omega arith) (omega arith)))
+      sym (is-back f link stream (l + 41) (is-known f known) (streams-say link stream .holds has) (is-within 42 1121 (l + 41) (omega arith) (omega arith)))
       ∙ rw (image, less, e) refl
 
   image-two : p ≡ 1 → (link t : ℕ) → imageOf f link t ≡ 2 * (link - 1) + t + 1
@@ -104,11 +104,11 @@ way-back-paper = record {
         at-line f known 1 3 l 3 (2 * l) (on 3 (omega arith) (omega arith)) a b (image 1 2) (m .2),
         at-line f known 1 4 l 4 (2 * l) (on 4 (omega arith) (omega arith)) a b (image 1 3) (m .3),
       );
-  backMeets1 = λ f link stream n x. sym (unknown-back f link stream n (no-format f x));
+  backMeets1 = λ f link stream n x. sym (unknown-back f link stream n (unknown f x));
   backMeets2 = λ f link stream n known x.
       let t : (bringsLine f link stream n) ≡ false =
       on-test (bringsLine f link stream n) (λ t. absurd (x (carried-says f known link stream n .told t))) (λ t. t) in
-      rw (is-format f known, t) refl;
+      rw (is-known f known, t) refl;
   goodIsGiven = λ f link stream n known good.
-      (imageLineOn f link stream n, rw (is-format f known, carried-says f known link stream n .holds good) refl);
+      (imageLineOn f link stream n, rw (is-known f known, carried-says f known link stream n .holds good) refl);
 }

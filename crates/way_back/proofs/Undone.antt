@@ -20,7 +20,7 @@ use Rattle.span.specs.declared.format.Format.{Format}
 use Rattle.span.specs.Format.{isKnown, shapeOf}
 use Rattle.span.specs.Image.{imageOf}
 use Rattle.span.specs.Numbers.{IsFormat}
-use Rattle.span.proofs.Formats.{is-format}
+use Rattle.span.proofs.Formats.{is-known}
 use Rattle.way_back.specs.declared.back.ImageLine.{ImageLine}
 use Rattle.way_back.specs.Back.{hasStream, imageLineOn, backOf}
 use Rattle.way_back.specs.Inside.Image.{imageOn}
@@ -75,7 +75,7 @@ module _ (f : Format) (known : IsFormat f) where
         is = omega arith;
       })
       (λ e.
-      let three : f .number ≡ 3 = omega (arith, leb-false (f .number) 2 e, known .1) in
+      let three : f .number ≡ 3 = omega (arith, leb-false (f .number) 2 e, known .to) in
       record { link = 1; stream = u; has = streams-say f known 1 u .holds (inr (three, refl, a, b)); is = omega arith })
 
   back-from : (line sample : ℕ) (q : Place) → placedOf line sample ≡ given q
@@ -86,7 +86,7 @@ module _ (f : Format) (known : IsFormat f) where
       let on = image-on (q .image) (omega (arith, is, four .0)) (omega (arith, is, four .1)) in (
         on .link,
         on .stream,
-        sym (line-told f (on .link) (on .stream) (q .stream .0) (is-format f known) (on .has) (on .is) (record { 0 = line }) (line-of-place line sample q e)),
+        sym (line-told f (on .link) (on .stream) (q .stream .0) (is-known f known) (on .has) (on .is) (record { 0 = line }) (line-of-place line sample q e)),
       )
 
 -- ---- from a link and a stream

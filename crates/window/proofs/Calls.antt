@@ -13,56 +13,37 @@ use borrow.Author.Tests.{eq-eqb, ne-eqb, le-ltb}
 use Rattle.ground.specs.Answer.{Answer, refused, given}
 use Rattle.span.specs.declared.format.Format.{Format}
 use Rattle.span.specs.Format.{numbered, shapeOf, samplesIn, symbolsIn}
-use Rattle.span.specs.Numbers.{Of, Symbols, Samples}
-use Rattle.span.proofs.Formats.{Known, is-known, unknown}
+use Rattle.span.specs.Numbers.{IsFormat, Symbols, Samples}
+use Rattle.span.proofs.Formats.{is-known, unknown}
+use Rattle.span.proofs.Numbers.{symbols-are, samples-are, symbols-told, samples-told}
 use Rattle.window.specs.declared.delivery.Delivery.{Delivery}
 use Rattle.window.specs.Read.{pictureOf, readSpan, judgeOf, readOf, rowsLeft, rowsRead}
 use Rattle.window.proofs.Refusals.{numbers}
 
 -- ---- the table of formats, in those numbers
 
-module _ (g : ℕ → ℕ) where
-  pub is-of : (n x : ℕ) → Of (g 1) (g 2) (g 3) n x → x ≡ g n
-  is-of n x =
-      ⊎-elim (λ t. t .1 ∙ ap g (sym (t .0))) (⊎-elim (λ t. t .1 ∙ ap g (sym (t .0))) (λ t. t .1 ∙ ap g (sym (t .0))))
-
-  pub of-is : (n x : ℕ) → 1 ≤ n → n ≤ 3 → x ≡ g n → Of (g 1) (g 2) (g 3) n x
-  of-is zero x p q e = absurd (omega arith)
-  of-is (suc zero) x p q e = inl (refl, e)
-  of-is (suc (suc zero)) x p q e = inr (inl (refl, e))
-  of-is (suc (suc (suc zero))) x p q e = inr (inr (refl, e))
-  of-is (suc (suc (suc (suc n)))) x p q e = absurd (omega arith)
-
 module _ (f : Format) (x : ℕ) where
   is-long : Symbols f x → eqb x (symbolsIn (shapeOf f)) ≡ true
-  unfolding shapeOf
-  is-long h = eq-eqb x (symbolsIn (shapeOf f)) (is-of (λ n. symbolsIn (numbered n)) (f .number) x h)
+  is-long h = eq-eqb x (symbolsIn (shapeOf f)) (symbols-are f x h)
 
   is-room : Samples f x → eqb x (samplesIn (shapeOf f)) ≡ true
-  unfolding shapeOf
-  is-room h = eq-eqb x (samplesIn (shapeOf f)) (is-of (λ n. samplesIn (numbered n)) (f .number) x h)
+  is-room h = eq-eqb x (samplesIn (shapeOf f)) (samples-are f x h)
 
-  module _ (known : Known f) where
+  module _ (known : IsFormat f) where
     not-long : (Symbols f x → ⊥) → eqb x (symbolsIn (shapeOf f)) ≡ false
-    unfolding shapeOf
-    not-long h =
-        ne-eqb x (symbolsIn (shapeOf f))
-        (λ e. h (of-is (λ n. symbolsIn (numbered n)) (f .number) x (known .from) (known .to) e))
+    not-long h = ne-eqb x (symbolsIn (shapeOf f)) (λ e. h (symbols-told f x known e))
 
     not-room : (Samples f x → ⊥) → eqb x (samplesIn (shapeOf f)) ≡ false
-    unfolding shapeOf
-    not-room h =
-        ne-eqb x (samplesIn (shapeOf f))
-        (λ e. h (of-is (λ n. samplesIn (numbered n)) (f .number) x (known .from) (known .to) e))
+    not-room h = ne-eqb x (samplesIn (shapeOf f)) (λ e. h (samples-told f x known e))
 
 -- ---- the answers
 
 module _ (f : Format) (w : List ℕ) where
   -- judging
-  pub judge-meets-1 : (Known f → ⊥) → judgeOf f w ≡ refused 1 0
+  pub judge-meets-1 : (IsFormat f → ⊥) → judgeOf f w ≡ refused 1 0
   judge-meets-1 x = simp (unknown f x)
 
-  module _ (known : Known f) where
+  module _ (known : IsFormat f) where
     pub judge-meets-3 : (Symbols f (length w) → ⊥) → judgeOf f w ≡ refused 3 0
     judge-meets-3 x = simp (is-known f known, not-long f (length w) known x)
 
@@ -72,10 +53,10 @@ module _ (f : Format) (w : List ℕ) where
 
   -- reading, into rows that have so much room
   module _ (room : ℕ) where
-    pub read-meets-1 : (Known f → ⊥) → readOf f w room ≡ refused 1 0
+    pub read-meets-1 : (IsFormat f → ⊥) → readOf f w room ≡ refused 1 0
     read-meets-1 x = simp (unknown f x)
 
-    module _ (known : Known f) where
+    module _ (known : IsFormat f) where
       pub read-meets-3 : (Symbols f (length w) → ⊥) → readOf f w room ≡ refused 3 0
       read-meets-3 x = simp (is-known f known, not-long f (length w) known x)
 
@@ -98,10 +79,10 @@ module _ (f : Format) (w entry : List ℕ) where
   left r e = ap (λ (x : Answer Delivery). rowsLeft x entry (pictureOf f w)) e
 
   -- a call that meets 1, 3 or 4 leaves them as they were
-  pub rows-after-1 : (Known f → ⊥) → rowsRead f w entry ≡ entry
+  pub rows-after-1 : (IsFormat f → ⊥) → rowsRead f w entry ≡ entry
   rows-after-1 x = left (refused 1 0) (read-meets-1 f w (length entry) x)
 
-  module _ (known : Known f) where
+  module _ (known : IsFormat f) where
     pub rows-after-3 : (Symbols f (length w) → ⊥) → rowsRead f w entry ≡ entry
     rows-after-3 x = left (refused 3 0) (read-meets-3 f w (length entry) known x)
 

@@ -13,7 +13,6 @@ pub mod Laws
 pub mod Line
 pub mod Meeting
 pub mod Nearest
-pub mod Numbers
 pub mod Paper
 pub mod Placing
 pub mod Plain

@@ -2,6 +2,7 @@
 -- Assumes nothing.
 use mathlib.Core.Path.{_≡_, refl, sym, ap, _∙_, subst}
 use mathlib.Core.List.{List}
+use lib.ListN.{length}
 use Prim.Native.Nat.{ℕ, _+_}
 use Rattle.line.specs.Stream.{lineBefore}
 use Rattle.span.specs.declared.format.Format.{Format}
@@ -28,14 +29,14 @@ use Rattle.window.specs.Tests.{sumOf}
 use Rattle.window.specs.Words.{wordAt}
 use Rattle.window.specs.Rules.{Names, Follows}
 use Rattle.window.specs.Paper.{wordOfWindow, WindowPaper}
-use Rattle.window.proofs.Numbers.{is-long}
-use Rattle.span.proofs.Formats.{is-format}
+use Rattle.span.proofs.Formats.{is-known}
+use Rattle.span.proofs.Numbers.{symbols-are}
 
 -- the answer's line is the one before the line that stream 1 names
 answered-line : (f : Format) (w : List ℕ) (r : Delivery) → IsFormat f → readSpan f w ≡ given r
     → (m : ℕ) × Names (wordOfWindow f w) m × Follows (r .line .0) m
 answered-line f w r k e =
-    let (m, from, to, low, high, line) = line-answered f w (is-format f k) (accepted-told f w r e) in
+    let (m, from, to, low, high, line) = line-answered f w (is-known f k) (accepted-told f w r e) in
     let same : r .line .0 ≡ lineBefore m = ap (λ (d : Delivery). d .line .0) (delivers f w r e) ∙ line in
     (m, record { first = from; last = to; low = low; high = high }, subst (λ (n : ℕ). Follows n m) (sym same) (follows-before m from to))
 
@@ -51,25 +52,25 @@ add-up f w = omega (arith, bits-add-up (streams (shapeOf f)) (wordAt (shapeOf f)
 not-800 : (f : Format) (w : List ℕ) (r : Delivery) → IsFormat f → readSpan f w ≡ given r → wordOfWindow f w 1928 0 ≡ 0x800
     → wordOfWindow f w 1929 0 ≡ 0x800 → ⊥
 unfolding ln0 ln1 guarded
-not-800 f w r k e = recital f w (is-format f k) (accepted-told f w r e)
+not-800 f w r k e = recital f w (is-known f k) (accepted-told f w r e)
 
 pub window-paper : WindowPaper
 window-paper = record {
-  disturbed = λ f a t x k. one-other f a t x (omega (arith, known-has-streams f (is-format f k)));
+  disturbed = λ f a t x k. one-other f a t x (omega (arith, known-has-streams f (is-known f k)));
   lineAnswered = answered-line;
-  allStreams = λ f w r k e. all-streams f w (is-format f k) (accepted-told f w r e);
+  allStreams = λ f w r k e. all-streams f w (is-known f k) (accepted-told f w r e);
   recital = not-800;
   fixedBytes = fixed-bytes;
   lineNamed =
       λ f word k meets.
-      let (m, names) = some-line f (is-format f k) word (meets .lineNumber) in
+      let (m, names) = some-line f (is-known f k) word (meets .lineNumber) in
       (m, lineBefore m, names, follows-before m (names .first) (names .last));
-  exactIf = λ f w d c words k. exact-read f w (is-format f k) d c words;
-  exactOnlyIf = λ f w r k long. exact-only-if f w (is-format f k) (is-long f w long);
-  wordsEncoded = λ f w d c words k. exact-word f w (is-format f k) d c words;
-  beyondRepair = λ f a w d c words k known e h x before. two-wrong f a (is-format f known) words w d c e k x before h;
+  exactIf = λ f w d c words k. exact-read f w (is-known f k) d c words;
+  exactOnlyIf = λ f w r k long. exact-only-if f w (is-known f k) (symbols-are f (length w) long);
+  wordsEncoded = λ f w d c words k. exact-word f w (is-known f k) d c words;
+  beyondRepair = λ f a w d c words k known e h x before. two-wrong f a (is-known f known) words w d c e k x before h;
   nearLegal = near-legal;
   bitsInOrder = λ at. (refl, refl, refl, refl, refl, refl, refl, refl, refl, refl, refl, refl);
   addUp = add-up;
-  strict = λ f w r k e. strict f w (is-format f k) r e;
+  strict = λ f w r k e. strict f w (is-known f k) r e;
 }

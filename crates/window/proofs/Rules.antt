@@ -29,6 +29,7 @@ use Rattle.span.specs.Format.{isKnown, numbered, shapeOf, streams}
 use Rattle.span.specs.Numbers.{Ancillary}
 use Rattle.span.specs.Span.{fillWord}
 use Rattle.span.proofs.Formats.{known-told}
+use Rattle.span.proofs.Numbers.{is-of, of-is}
 use Rattle.span.proofs.Lengths.{known-has-streams}
 use Rattle.window.specs.Encoded.{Everywhere, wordsOf, Meets}
 use Rattle.window.specs.Read.{placed}
@@ -36,7 +37,6 @@ use Rattle.window.specs.Rules.{Near, Rule21, Names, Follows, Rule22, Fit
 use Rattle.ground.specs.Inside.Test.{Reflects}
 use Rattle.window.specs.Tests.{same, wordOf, column, holds21, nextLine, lineRead, holds22, holds23, registerOf, holds24, holds25, holds26}
 use Rattle.window.specs.Inside.Encoded.{Passes}
-use Rattle.window.proofs.Calls.{is-of, of-is}
 use Rattle.window.proofs.Meeting.{line-named}
 use Rattle.window.proofs.Nearest.{same-test, same-told, near-h, near-v, near-repaired, near-read}
 use Rattle.window.proofs.Placing.{word-of-place, stream-of-place, stream-below, in-span, four, each-place, each-of-two}

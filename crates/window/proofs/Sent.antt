@@ -22,11 +22,12 @@ use Rattle.packing.proofs.Samples.{sent-ten, sent-twelve}
 use Rattle.word.proofs.Timings.{timing-below}
 use Rattle.span.specs.declared.format.Format.{Format}
 use Rattle.span.specs.Format.{shapeOf, streams}
+use Rattle.span.specs.Numbers.{IsFormat}
 use Rattle.span.specs.Sample.{blankWord, allowed, sampleWord}
 use Rattle.span.specs.Span.{across, interleaved, fillWord, wordsFromSav, wordsFromEav, spanWords}
 use Rattle.span.specs.Stream.{Request, sav, picture, eav, lineNumber, crcc, register, ancillary, fromSav, fromEav}
 use Rattle.span.specs.Layout.{pictureStart, eavStart, lineStart, eavXyz}
-use Rattle.span.proofs.Formats.{Known, known-told}
+use Rattle.span.proofs.Formats.{known-told}
 use Rattle.span.proofs.Samples.{word-is, word-below}
 use Rattle.window.specs.Encoded.{wordIn}
 use Rattle.window.specs.Tests.{mayBring, wordOf, column, registerOf}
@@ -101,7 +102,7 @@ module _ (f : Format) (a : Request) (good : Sendable f a) where
       let e : (1920 * t + i) / 1920 ≡ t = omega arith in
       ap (λ (u : ℕ). allowed f (a .line) u (sample t i)) (sym e) ∙ good .allowed (1920 * t + i) k
 
-  known : Known f
+  known : IsFormat f
   known = known-told f (good .known)
 
   -- of one stream: its picture, what stands from the SAV on, and what stands from the EAV on

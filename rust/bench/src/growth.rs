@@ -1,10 +1,12 @@
 //! How the time per symbol grows with the length of a recording, also for those made to keep the finder busy.
 
+use crate::cases::given;
 use crate::fast::read::judge::Judge;
 use crate::fast::read::{recording, tables};
-use crate::recordings::{self, span_shape, BEGUN, DEPTH};
+use crate::recordings::{self, spans_of, BEGUN};
 use crate::timing::Least;
-use brazulint::Format;
+use outside::spans::shape_of;
+use plain::format::Format;
 use random::Random;
 use std::time::Instant;
 
@@ -28,8 +30,8 @@ pub struct Growth {
 }
 
 /// The places of all spans: a finder is asked again from the end of each that it has found.
-fn places(format: u32, symbols: &[u16], mut find: impl FnMut(&[u16], u64) -> Option<u64>) -> Vec<u64> {
-    let span = span_shape(format).symbols() as u64;
+fn places(format: Format, symbols: &[u16], mut find: impl FnMut(&[u16], u64) -> Option<u64>) -> Vec<u64> {
+    let span = shape_of(format).symbols() as u64;
     let (mut start, mut places) = (0, Vec::new());
     while let Some(place) = find(symbols, start) {
         places.push(place);
@@ -38,26 +40,22 @@ fn places(format: u32, symbols: &[u16], mut find: impl FnMut(&[u16], u64) -> Opt
     places
 }
 
-fn by_library(format: u32, symbols: &[u16]) -> Vec<u64> {
+fn by_library(format: Format, symbols: &[u16]) -> Vec<u64> {
     places(format, symbols, |symbols, start| {
-        brazulint::find(Format::new(format, DEPTH), symbols, start).result().expect("a recording that is not too long")
+        brazulint::find(given(format), symbols, start).result().expect("a recording that is not too long")
     })
 }
 
-fn by_fast(judge: &mut Judge, format: u32, symbols: &[u16]) -> Vec<u64> {
-    places(format, symbols, |symbols, start| {
-        recording::find(judge, format, DEPTH, symbols, start).expect("a recording that is not too long")
-    })
+fn by_fast(judge: &mut Judge, format: Format, symbols: &[u16]) -> Vec<u64> {
+    places(format, symbols, |symbols, start| recording::find(judge, format, symbols, start).expect("a recording that is not too long"))
 }
 
-fn by_plain(format: u32, symbols: &[u16]) -> Vec<u64> {
-    places(format, symbols, |symbols, start| {
-        plain::recording::find(format, DEPTH, symbols, start).expect("a recording that is not too long")
-    })
+fn by_plain(format: Format, symbols: &[u16]) -> Vec<u64> {
+    places(format, symbols, |symbols, start| plain::recording::find(format, symbols, start).expect("a recording that is not too long"))
 }
 
 /// The versions in alternation, as long as there are seconds left. The fast one is measured in format 1 alone.
-fn grown(label: String, format: u32, symbols: &[u16]) -> Growth {
+fn grown(label: String, format: Format, symbols: &[u16]) -> Growth {
     let tables = tables();
     let mut judge = Judge::new(&tables);
     let expected = by_plain(format, symbols);
@@ -73,14 +71,14 @@ fn grown(label: String, format: u32, symbols: &[u16]) -> Growth {
             // The shorter ones more often: a run of theirs is soon over, and easily disturbed.
             for _ in 0..1 << (LENGTHS - 1 - k).min(2) {
                 library[k].time(|| _ = by_library(format, part));
-                if format == 1 {
+                if format.number == 1 {
                     fast[k].time(|| _ = by_fast(&mut judge, format, part));
                 }
             }
         }
     }
     let of_symbol = |times: [Least; LENGTHS]| std::array::from_fn(|k| times[k].seconds() * 1e9 / (1 << SHORTEST << k) as f64);
-    let growth = Growth { label, library: of_symbol(library), fast: (format == 1).then(|| of_symbol(fast)) };
+    let growth = Growth { label, library: of_symbol(library), fast: (format.number == 1).then(|| of_symbol(fast)) };
     report(&growth);
     growth
 }
@@ -101,13 +99,13 @@ fn of_symbols() -> Vec<Growth> {
         ("noise without K28.5", recordings::noise_without_commas(&mut Random(6))),
         ("K28.5 in both forms by turns", recordings::commas()),
         ("K28.5 K28.5 byte", recordings::false_starts()),
-        ("K28.5 K28.5 and ten bytes, a SAV", recordings::beginnings(1, 12)),
+        ("K28.5 K28.5 and ten bytes, a SAV", recordings::beginnings(spans_of(1), 12)),
     ];
-    kinds.into_iter().map(|(label, symbols)| grown(label.into(), 1, &symbols)).collect()
+    kinds.into_iter().map(|(label, symbols)| grown(label.into(), spans_of(1), &symbols)).collect()
 }
 
 /// Those that are made of spans or of their beginnings.
-fn of_spans(format: u32) -> Vec<Growth> {
+fn of_spans(format: Format) -> Vec<Growth> {
     let pairs = DISTANCES.map(|count| (format!("pairs of K28.5 every {count} symbols"), recordings::beginnings(format, count)));
     let spans = [
         ("spans as sent".into(), recordings::sent_spans(format)),
@@ -117,10 +115,10 @@ fn of_spans(format: u32) -> Vec<Growth> {
         ("the same with a wrong picture word".into(), recordings::begun_twice_and_refused(format)),
     ];
     let all = pairs.into_iter().chain(spans);
-    all.map(|(label, symbols)| grown(format!("{label}, format {format}"), format, &symbols)).collect()
+    all.map(|(label, symbols)| grown(format!("{label}, format {}", format.number), format, &symbols)).collect()
 }
 
 pub fn measure() -> Vec<Growth> {
-    let spans = (1..=3).flat_map(of_spans);
+    let spans = (1..=3).map(spans_of).flat_map(of_spans);
     of_symbols().into_iter().chain(spans).collect()
 }

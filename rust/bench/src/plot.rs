@@ -10,8 +10,8 @@ const HEIGHT: f64 = 1008.0;
 
 const VERSIONS: [(&str, &str); 3] = [("library", "#0b5fa5"), ("hand-optimised", "#e08214"), ("independent", "#8a8a8a")];
 const COLOURS: [&str; 16] = [
-    "#1b9e77", "#66c2a5", "#7570b3", "#d95f02", "#e7298a", "#fee391", "#fec44f", "#fe9929", "#e6ab02", "#cc4c02", "#8c2d04",
-    "#0b5fa5", "#74a9cf", "#666666", "#969696", "#c00000",
+    "#1b9e77", "#66c2a5", "#7570b3", "#d95f02", "#e7298a", "#fee391", "#fec44f", "#fe9929", "#e6ab02", "#cc4c02", "#8c2d04", "#0b5fa5",
+    "#74a9cf", "#666666", "#969696", "#c00000",
 ];
 
 fn rectangle(x: f64, y: f64, width: f64, height: f64, colour: &str) -> String {

@@ -1,12 +1,13 @@
 //! Recordings of the greatest length, some of them made to keep the finder busy (01, "Receiving and finding").
 
-use random::Random;
-use outside::spans::{made_characters, made_words, sent_symbols};
+use outside::spans::{made_characters, made_words, sent_symbols, shape_of};
 use plain::code::{K28_5, K29_7};
+use plain::format::Format;
 use plain::read::window;
 use plain::recording::LIMIT;
-use plain::span::{shape, symbols, words, Shape, ROW};
+use plain::span::{symbols, words, Shape, ROW};
 use plain::Refused;
+use random::Random;
 
 /// K28.5 at negative and at positive disparity.
 const COMMAS: [u16; 2] = [0x17C, 0x283];
@@ -14,11 +15,9 @@ const COMMAS: [u16; 2] = [0x17C, 0x283];
 /// Symbols of a span that are begun before another: more than its SAV has in any format.
 pub const BEGUN: usize = 30;
 
-/// The depth of all spans in them.
-pub const DEPTH: u32 = 12;
-
-pub fn span_shape(format: u32) -> Shape {
-    shape(format, DEPTH).expect("a known format and depth")
+/// The format of all spans in them.
+pub const fn spans_of(number: u32) -> Format {
+    Format::plain(number, 12)
 }
 
 pub fn noise(random: &mut Random) -> Vec<u16> {
@@ -42,27 +41,27 @@ pub fn false_starts() -> Vec<u16> {
 }
 
 /// The characters of an active line's span.
-fn span_characters(random: &mut Random, format: u32) -> Vec<u16> {
-    let words = made_words(random, span_shape(format), DEPTH, 100);
-    made_characters(random, span_shape(format), &words)
+fn span_characters(random: &mut Random, format: Format) -> Vec<u16> {
+    let words = made_words(random, format, 100);
+    made_characters(random, shape_of(format), &words)
 }
 
 /// The first `count` symbols of an active line's span, repeated: every `count` places there seems to be a span for that many symbols.
-pub fn beginnings(format: u32, count: usize) -> Vec<u16> {
+pub fn beginnings(format: Format, count: usize) -> Vec<u16> {
     let beginning = &span_characters(&mut Random(8), format)[..count];
     let characters: Vec<u16> = (0..LIMIT).map(|i| beginning[i % count]).collect();
     symbols(false, &characters).0
 }
 
 /// Spans one after another, all sent correctly.
-pub fn sent_spans(format: u32) -> Vec<u16> {
+pub fn sent_spans(format: Format) -> Vec<u16> {
     let mut random = Random(9);
-    repeated(|| sent_symbols(&mut random, span_shape(format), DEPTH, 100, false))
+    repeated(|| sent_symbols(&mut random, format, 100, false))
 }
 
 /// The last byte of the last fill word is wrong: test 20 passes, and test 26 fails at the last place.
-pub fn wrong_last_fills(format: u32) -> Vec<u16> {
-    let (mut random, shape) = (Random(5), span_shape(format));
+pub fn wrong_last_fills(format: Format) -> Vec<u16> {
+    let (mut random, shape) = (Random(5), shape_of(format));
     repeated(|| {
         let mut characters = span_characters(&mut random, format);
         characters[shape.symbols() - 1] ^= 1;
@@ -77,31 +76,31 @@ fn fill_area(random: &mut Random, shape: Shape, characters: &mut [u16]) {
 }
 
 /// The beginning of a span.
-fn begun(random: &mut Random, format: u32) -> Vec<u16> {
+fn begun(random: &mut Random, format: Format) -> Vec<u16> {
     symbols(false, &span_characters(random, format)[..BEGUN]).0
 }
 
 /// Such spans, each after the beginning of another. They are accepted, and where a search starts the finder reads what was begun in vain.
-pub fn begun_twice(format: u32) -> Vec<u16> {
-    let (mut random, shape) = (Random(7), span_shape(format));
+pub fn begun_twice(format: Format) -> Vec<u16> {
+    let (mut random, shape) = (Random(7), shape_of(format));
     let beginning = begun(&mut random, format);
     repeated(|| {
         let mut characters = span_characters(&mut random, format);
         fill_area(&mut random, shape, &mut characters);
         let span = symbols(random.seldom(2), &characters).0;
-        assert!(window(shape, DEPTH, &span).is_ok());
+        assert!(window(shape, format.depth, &span).is_ok());
         [beginning.clone(), span].concat()
     })
 }
 
 /// The same with a last picture word that no sample has: only test 25 fails, the last that is tried.
-pub fn begun_twice_and_refused(format: u32) -> Vec<u16> {
-    let (mut random, shape) = (Random(7), span_shape(format));
+pub fn begun_twice_and_refused(format: Format) -> Vec<u16> {
+    let (mut random, shape) = (Random(7), shape_of(format));
     let beginning = begun(&mut random, format);
     repeated(|| {
         let mut rows: Vec<u16> = (0..shape.samples()).map(|_| random.within(16, 4079) as u16).collect();
         rows[shape.samples() - 1] = 0;
-        let words = words(shape, 100, &rows).expect("a stream line");
+        let words = words(format, 100, &rows).expect("a stream line");
         let mut characters = made_characters(&mut random, shape, &words);
         fill_area(&mut random, shape, &mut characters);
         let last = (shape.streams * (4 + ROW)) as u64 - 1;
@@ -110,8 +109,8 @@ pub fn begun_twice_and_refused(format: u32) -> Vec<u16> {
 }
 
 /// A special character where a byte should be, 30 before the end: test 20 fails there.
-pub fn late_special_characters(format: u32) -> Vec<u16> {
-    let (mut random, place) = (Random(5), span_shape(format).symbols() - 30);
+pub fn late_special_characters(format: Format) -> Vec<u16> {
+    let (mut random, place) = (Random(5), shape_of(format).symbols() - 30);
     repeated(|| {
         let mut characters = span_characters(&mut random, format);
         characters[place] = K29_7;
@@ -120,9 +119,9 @@ pub fn late_special_characters(format: u32) -> Vec<u16> {
 }
 
 /// The symbols of a span that is refused. Its refusal, with the place, is given.
-fn refused_span(random: &mut Random, format: u32, characters: &[u16], refused: Refused) -> Vec<u16> {
+fn refused_span(random: &mut Random, format: Format, characters: &[u16], refused: Refused) -> Vec<u16> {
     let span = symbols(random.seldom(2), characters).0;
-    assert_eq!(window(span_shape(format), DEPTH, &span).err(), Some(refused));
+    assert_eq!(window(shape_of(format), format.depth, &span).err(), Some(refused));
     span
 }
 

@@ -5,7 +5,7 @@
 use brazulint::{Format, Request, StreamLine};
 
 fn main() -> Result<(), brazulint::Refusal> {
-    let format = Format::new(Format::HZ_120, 12);
+    let format = Format::plain(Format::HZ_120, 12); // G', 4:4:4, 4K
     let (samples, symbols) = brazulint::lengths(format).result()?;
     let (picture, mut recording) = (vec![1024; samples], vec![0; symbols]);
     let request = Request::new(StreamLine(42), false); // the disparity before it; no content bytes are named

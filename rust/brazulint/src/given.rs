@@ -11,6 +11,12 @@ pub struct Format {
     pub number: u32,
     /// 10 or 12 bits.
     pub depth: u32,
+    /// The component of the picture that the link carries: `Format::G`, `Format::B`, `Format::R`.
+    pub component: u32,
+    /// The sampling structure: `Format::SAMPLING_444`.
+    pub structure: u32,
+    /// The size of the picture: `Format::SIZE_4K`.
+    pub size: u32,
 }
 
 impl Format {
@@ -18,8 +24,22 @@ impl Format {
     pub const HZ_100: u32 = 2;
     pub const HZ_50: u32 = 3;
 
-    pub const fn new(number: u32, depth: u32) -> Format {
-        Format { number, depth }
+    pub const G: u32 = 1;
+    pub const B: u32 = 2;
+    pub const R: u32 = 3;
+
+    pub const SAMPLING_444: u32 = 1;
+    pub const SIZE_4K: u32 = 1;
+
+    /// The plain format: the link carries G' of a 4K picture in 4:4:4. For any other component see `carrying`.
+    pub const fn plain(number: u32, depth: u32) -> Format {
+        Format { number, depth, component: Format::G, structure: Format::SAMPLING_444, size: Format::SIZE_4K }
+    }
+
+    /// The same format for a link that carries another component.
+    #[must_use]
+    pub const fn carrying(self, component: u32) -> Format {
+        Format { component, ..self }
     }
 }
 

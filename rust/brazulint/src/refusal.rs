@@ -9,7 +9,7 @@ use std::fmt;
 /// ```
 /// use brazulint::{Format, PictureLine, Refusal};
 ///
-/// assert_eq!(brazulint::lengths(Format::new(0, 12)).result(), Err(Refusal::UnknownFormat));
+/// assert_eq!(brazulint::lengths(Format::plain(0, 12)).result(), Err(Refusal::UnknownFormat));
 /// let none = brazulint::place(PictureLine(2161), 0).result().unwrap_err();
 /// assert_eq!((none.number(), none.place()), (2, None));
 /// for number in (1..=8).chain(20..=26) {
@@ -90,7 +90,7 @@ impl Refusal {
     /// The number, the words, and what a place counts.
     fn row(self) -> (u32, &'static str, &'static str) {
         match self {
-            UnknownFormat => (1, "unknown format or depth", ""),
+            UnknownFormat => (1, "unknown format", ""),
             NoLine => (2, "no such line, sample, link or stream", ""),
             WrongInput => (3, "an input of the wrong length, or a recording that is too long", ""),
             WrongOutput => (4, "an output of the wrong length", ""),

@@ -3,10 +3,18 @@
 use crate::expected;
 use crate::lent::{Left, Lent};
 use crate::report::Report;
-use brazulint::{Content, Format, PictureLine, Refusal, Request, StreamLine};
+use brazulint::{Content, PictureLine, Refusal, Request, StreamLine};
+use plain::format::Format;
 use plain::read::Delivered;
 use plain::span::Asked;
 use plain::Answer;
+
+/// The wrapper's format, field for field.
+pub fn given(format: Format) -> brazulint::Format {
+    let mut given = brazulint::Format::plain(format.number, format.depth).carrying(format.component);
+    (given.structure, given.size) = (format.structure, format.size);
+    given
+}
 
 // ---- Single numbers.
 
@@ -45,10 +53,10 @@ pub fn place(r: &mut Report, line: u32, sample: u32) {
     r.answer(|| format!("place({line}, {sample})"), brazulint::place(PictureLine(line), sample), plain);
 }
 
-pub fn way_back(r: &mut Report, (format, depth): (u32, u32), link: u32, stream: u32, line: u32) {
-    let plain = expected::way_back(plain::picture::way_back(format, depth, link, stream, line));
-    let answer = brazulint::way_back(Format::new(format, depth), link, stream, StreamLine(line));
-    r.answer(|| format!("way_back({format}, {depth}, {link}, {stream}, {line})"), answer, plain);
+pub fn way_back(r: &mut Report, format: Format, link: u32, stream: u32, line: u32) {
+    let plain = expected::way_back(plain::picture::way_back(format, link, stream, line));
+    let answer = brazulint::way_back(given(format), link, stream, StreamLine(line));
+    r.answer(|| format!("way_back({format:?}, {link}, {stream}, {line})"), answer, plain);
 }
 
 pub fn carries_picture(r: &mut Report, line: u32) {
@@ -56,9 +64,9 @@ pub fn carries_picture(r: &mut Report, line: u32) {
     r.answer(|| format!("carries_picture({line})"), brazulint::carries_picture(StreamLine(line)), plain);
 }
 
-pub fn lengths(r: &mut Report, format: u32, depth: u32) {
-    let plain = expected::lengths(plain::span::lengths(format, depth));
-    r.answer(|| format!("lengths({format}, {depth})"), brazulint::lengths(Format::new(format, depth)), plain);
+pub fn lengths(r: &mut Report, format: Format) {
+    let plain = expected::lengths(plain::span::lengths(format));
+    r.answer(|| format!("lengths({format:?})"), brazulint::lengths(given(format)), plain);
 }
 
 // ---- Rows.
@@ -88,11 +96,11 @@ pub fn join(r: &mut Report, first: &[u16], second: &[u16], room: usize) {
     r.buffer(call, &row, plain.as_ref().map_or(Left::AsItWas, |row| Left::Holds(row)));
 }
 
-pub fn fill_blanking(r: &mut Report, format: u32, depth: u32, room: usize) {
+pub fn fill_blanking(r: &mut Report, format: Format, room: usize) {
     let mut row = Lent::new(room);
-    let answer = brazulint::fill_blanking(Format::new(format, depth), row.lend());
-    let plain = plain::span::blanking_row(format, depth, room);
-    let call = || format!("fill_blanking({format}, {depth}, room for {room})");
+    let answer = brazulint::fill_blanking(given(format), row.lend());
+    let plain = plain::span::blanking_row(format, room);
+    let call = || format!("fill_blanking({format:?}, room for {room})");
     r.answer(call, number(answer), expected::number(&plain));
     r.buffer(call, &row, plain.as_ref().map_or(Left::AsItWas, |row| Left::Holds(row)));
 }
@@ -107,13 +115,13 @@ fn unnamed(mut request: Request) -> Request {
 
 pub fn send(r: &mut Report, asked: Asked, samples: &[u16], room: usize) -> Answer<(Vec<u16>, bool)> {
     let mut symbols = Lent::new(room);
-    let Asked { format, depth, line, positive, content } = asked;
+    let Asked { format, line, positive, content } = asked;
     let request = Request::new(StreamLine(line), positive);
     let request = match content {
         None => unnamed(request),
         Some([sav1, sav2, eav1, eav2]) => request.naming(Content { sav1, sav2, eav1, eav2 }),
     };
-    let answer = brazulint::send(Format::new(format, depth), request, samples, symbols.lend());
+    let answer = brazulint::send(given(format), request, samples, symbols.lend());
     let plain = plain::span::send(asked, samples, room);
     let call = || format!("send({asked:?}, {} samples, room for {room})", samples.len());
     r.answer(call, answer, expected::send(&plain));
@@ -121,11 +129,11 @@ pub fn send(r: &mut Report, asked: Asked, samples: &[u16], room: usize) -> Answe
     plain
 }
 
-pub fn read(r: &mut Report, format: u32, depth: u32, symbols: &[u16], room: usize) -> Answer<Delivered> {
+pub fn read(r: &mut Report, format: Format, symbols: &[u16], room: usize) -> Answer<Delivered> {
     let mut rows = Lent::new(room);
-    let answer = brazulint::read(Format::new(format, depth), symbols, rows.lend());
-    let plain = plain::read::read(format, depth, symbols, room);
-    let call = || format!("read({format}, {depth}, {} symbols, room for {room})", symbols.len());
+    let answer = brazulint::read(given(format), symbols, rows.lend());
+    let plain = plain::read::read(format, symbols, room);
+    let call = || format!("read({format:?}, {} symbols, room for {room})", symbols.len());
     r.answer(call, answer, expected::read(&plain));
     let left = match &plain {
         Ok(delivered) => Left::Holds(&delivered.rows),
@@ -136,26 +144,26 @@ pub fn read(r: &mut Report, format: u32, depth: u32, symbols: &[u16], room: usiz
     plain
 }
 
-pub fn judge(r: &mut Report, format: u32, depth: u32, symbols: &[u16]) {
-    let plain = expected::read(&plain::read::judge(format, depth, symbols));
-    let call = || format!("judge({format}, {depth}, {} symbols)", symbols.len());
-    r.answer(call, brazulint::judge(Format::new(format, depth), symbols), plain);
+pub fn judge(r: &mut Report, format: Format, symbols: &[u16]) {
+    let plain = expected::read(&plain::read::judge(format, symbols));
+    let call = || format!("judge({format:?}, {} symbols)", symbols.len());
+    r.answer(call, brazulint::judge(given(format), symbols), plain);
 }
 
 // ---- Recordings.
 
-pub fn find(r: &mut Report, format: u32, depth: u32, symbols: &[u16], start: u64) {
-    let plain = expected::find(plain::recording::find(format, depth, symbols, start));
-    let call = || format!("find({format}, {depth}, {} symbols, from {start})", symbols.len());
-    r.answer(call, brazulint::find(Format::new(format, depth), symbols, start), plain);
+pub fn find(r: &mut Report, format: Format, symbols: &[u16], start: u64) {
+    let plain = expected::find(plain::recording::find(format, symbols, start));
+    let call = || format!("find({format:?}, {} symbols, from {start})", symbols.len());
+    r.answer(call, brazulint::find(given(format), symbols, start), plain);
 }
 
-pub fn next(r: &mut Report, format: u32, depth: u32, symbols: &[u16], start: u64, room: usize) {
+pub fn next(r: &mut Report, format: Format, symbols: &[u16], start: u64, room: usize) {
     let mut rows = Lent::new(room);
-    let answer = brazulint::next(Format::new(format, depth), symbols, start, rows.lend());
-    let plain = plain::recording::next(format, depth, symbols, start, room);
-    let span = plain::span::lengths(format, depth).map_or(0, |lengths| lengths[1] as u64);
-    let call = || format!("next({format}, {depth}, {} symbols, from {start}, room for {room})", symbols.len());
+    let answer = brazulint::next(given(format), symbols, start, rows.lend());
+    let plain = plain::recording::next(format, symbols, start, room);
+    let span = plain::span::lengths(format).map_or(0, |lengths| lengths[1] as u64);
+    let call = || format!("next({format:?}, {} symbols, from {start}, room for {room})", symbols.len());
     r.answer(call, answer, expected::next(&plain, start, span, symbols.len() as u64));
     let left = match &plain {
         Ok(Some((_, delivered))) => Left::Holds(&delivered.rows),
@@ -165,15 +173,15 @@ pub fn next(r: &mut Report, format: u32, depth: u32, symbols: &[u16], start: u64
 }
 
 /// All spans of a recording: from the library by steps of next, from plain by finding and reading.
-pub fn deliver(r: &mut Report, format: u32, depth: u32, symbols: &[u16]) {
-    let plain = plain::recording::delivery(format, depth, symbols).expect("a known format and a short recording");
-    let [samples, span] = plain::span::lengths(format, depth).expect("a known format");
+pub fn deliver(r: &mut Report, format: Format, symbols: &[u16]) {
+    let plain = plain::recording::delivery(format, symbols).expect("a known format and a short recording");
+    let [samples, span] = plain::span::lengths(format).expect("a known format");
     let mut start = 0;
     let rest = plain.into_iter().map(|one| Ok(Some(one))).chain([Ok(None)]);
     for (step, plain) in rest.enumerate() {
         let mut rows = Lent::new(samples);
-        let answer = brazulint::next(Format::new(format, depth), symbols, start, rows.lend());
-        let call = || format!("step {step} through {} symbols of format {format}, depth {depth}", symbols.len());
+        let answer = brazulint::next(given(format), symbols, start, rows.lend());
+        let call = || format!("step {step} through {} symbols of {format:?}", symbols.len());
         r.answer(call, answer, expected::next(&plain, start, span as u64, symbols.len() as u64));
         let left = match &plain {
             Ok(Some((_, delivered))) => Left::Holds(&delivered.rows),

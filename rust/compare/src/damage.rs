@@ -1,9 +1,9 @@
 //! The ways in which a span can be wrong, or look wrong: one or more for each row of the table of refusals (01, "Refusal numbers").
 
 use crate::spans::Draft;
-use random::Random;
 use plain::code::{encode, meaning};
 use plain::words::{words_of, xyz};
+use random::Random;
 
 /// The stage at which a change is made.
 #[derive(Clone, Copy)]

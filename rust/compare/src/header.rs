@@ -1,7 +1,7 @@
 //! The wrapper's names for numbers, and the header's.
 
 use crate::report::Report;
-use brazulint::{version, Refusal, LIMIT, MOST_SAMPLES, MOST_SYMBOLS, NO_BIT, VERSION};
+use brazulint::{version, Format, Refusal, LIMIT, MOST_SAMPLES, MOST_SYMBOLS, NO_BIT, VERSION};
 
 /// The header that C callers have.
 const HEADER: &str = include_str!("../../../include/brazulint.h");
@@ -13,7 +13,20 @@ fn header_name(refusal: Refusal) -> String {
     variant.fold("BRAZULINT".to_string(), |name, c| name + if c.is_uppercase() { "_" } else { "" } + &c.to_uppercase().to_string())
 }
 
-/// The wrapper has the header's numbers: each refusal under its name, with its words, the version, the greatest lengths, and no bit.
+/// What a format is made of, by its names.
+const OF_FORMATS: [(&str, u32); 8] = [
+    ("120_HZ", Format::HZ_120),
+    ("100_HZ", Format::HZ_100),
+    ("50_HZ", Format::HZ_50),
+    ("G", Format::G),
+    ("B", Format::B),
+    ("R", Format::R),
+    ("444", Format::SAMPLING_444),
+    ("4K", Format::SIZE_4K),
+];
+
+/// The wrapper has the header's numbers: each refusal under its name, with its words, those of formats, the version, the greatest lengths, and
+/// no bit.
 pub fn run() -> Report {
     let mut r = Report::default();
     for number in (1..=8).chain(20..=26) {
@@ -22,6 +35,10 @@ pub fn run() -> Report {
         r.holds(|| format!("the header has no {name} = {number}"), HEADER.contains(&format!("    {name} = {number}")));
         let text = format!("case {name}: return \"{}\";", refusal.words());
         r.holds(|| format!("the header has other words than the wrapper for {name}"), HEADER.contains(&text));
+    }
+    for (name, number) in OF_FORMATS {
+        let told = [",", " }"].map(|end| format!(" BRAZULINT_{name} = {number}{end}"));
+        r.holds(|| format!("the header has no {name} = {number}"), told.iter().any(|told| HEADER.contains(told)));
     }
     r.answer(|| "version".into(), version(), VERSION);
     let lengths = [("MOST_SAMPLES", MOST_SAMPLES), ("MOST_SYMBOLS", MOST_SYMBOLS), ("LIMIT", LIMIT)];

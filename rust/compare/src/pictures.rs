@@ -2,6 +2,8 @@
 
 use crate::calls;
 use crate::report::{in_two, Report};
+use crate::spans::COMPONENTS;
+use plain::format::Format;
 use random::Random;
 
 const LINES: [u32; 14] = [0, 1, 2, 3, 4, 1079, 1080, 1081, 2158, 2159, 2160, 2161, 65_537, u32::MAX];
@@ -19,9 +21,12 @@ pub fn run() -> Report {
     r
 }
 
-/// Every link, stream and stream line that there is, and their neighbours; of every format, also of those that there are not.
+/// Every link, stream and stream line that there is, and their neighbours; of every format, also of those that there are not. The components,
+/// which it does not depend on, come by turns.
 fn ways_back(part: usize, r: &mut Report) {
-    for kind in [(0, 12), (1, 10), (1, 12), (2, 12), (3, 10), (3, 12), (3, 0), (4, 12), (257, 12)].into_iter().skip(part).step_by(2) {
+    let kinds = [(0, 12), (1, 10), (1, 12), (2, 12), (3, 10), (3, 12), (3, 0), (4, 12), (257, 12)];
+    for ((number, depth), component) in kinds.into_iter().zip(COMPONENTS.into_iter().cycle()).skip(part).step_by(2) {
+        let kind = Format::plain(number, depth).carrying(component);
         for (link, stream) in (0..=3).flat_map(|link| (0..=5).map(move |stream| (link, stream))) {
             for line in (0..=1126).chain([65_536 + 42, u32::MAX]) {
                 calls::way_back(r, kind, link, stream, line);

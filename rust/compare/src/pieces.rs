@@ -2,41 +2,42 @@
 
 use crate::damage::{damaged, some_xyzs, DAMAGES};
 use crate::spans::{any_sent, shape_of, Draft};
-use random::Random;
 use plain::code::{encode, K28_5};
+use plain::format::Format;
+use random::Random;
 
-type Piece = fn(&mut Random, u32, u32) -> Vec<u16>;
+type Piece = fn(&mut Random, Format) -> Vec<u16>;
 
 const PIECES: [Piece; 14] = [
     any_sent,
     any_sent,
     repaired,
-    |random, _, _| noise(random),
-    |random, _, _| legal_noise(random),
-    |random, format, depth| cut(random, format, depth).0,
-    |random, format, depth| cut(random, format, depth).1,
-    |random, _, _| commas(random),
-    |random, format, depth| any_sent(random, [2, 3, 1][format as usize - 1], depth),
+    |random, _| noise(random),
+    |random, _| legal_noise(random),
+    |random, format| cut(random, format).0,
+    |random, format| cut(random, format).1,
+    |random, _| commas(random),
+    |random, format| any_sent(random, Format { number: format.number % 3 + 1, ..format }),
     near_span,
     begun_and_whole,
-    |random, format, depth| changed(random, format, depth, inserted),
-    |random, format, depth| changed(random, format, depth, lost),
-    |random, format, depth| changed(random, format, depth, inverted),
+    |random, format| changed(random, format, inserted),
+    |random, format| changed(random, format, lost),
+    |random, format| changed(random, format, inverted),
 ];
 
 /// Random pieces, until there are that many symbols.
-pub fn any_recording(random: &mut Random, format: u32, depth: u32, symbols: usize) -> Vec<u16> {
+pub fn any_recording(random: &mut Random, format: Format, symbols: usize) -> Vec<u16> {
     let mut recording = Vec::new();
     while recording.len() < symbols {
-        let piece = random.pick(&PIECES)(random, format, depth);
+        let piece = random.pick(&PIECES)(random, format);
         recording.extend(piece);
     }
     recording
 }
 
 /// A span that is delivered, with some timing words repaired.
-fn repaired(random: &mut Random, format: u32, depth: u32) -> Vec<u16> {
-    let mut draft = Draft::at_random(random, format, depth);
+fn repaired(random: &mut Random, format: Format) -> Vec<u16> {
+    let mut draft = Draft::at_random(random, format);
     some_xyzs(random, &mut draft);
     draft.symbols()
 }
@@ -55,8 +56,8 @@ fn legal_noise(random: &mut Random) -> Vec<u16> {
 }
 
 /// The front of a span, and its rest.
-fn cut(random: &mut Random, format: u32, depth: u32) -> (Vec<u16>, Vec<u16>) {
-    let mut front = any_sent(random, format, depth);
+fn cut(random: &mut Random, format: Format) -> (Vec<u16>, Vec<u16>) {
+    let mut front = any_sent(random, format);
     let rest = front.split_off(random.below(front.len()));
     (front, rest)
 }
@@ -70,8 +71,8 @@ fn commas(random: &mut Random) -> Vec<u16> {
 }
 
 /// A span that is right except for one late fault: in the CRCC, the row, the fill, or the last symbol.
-fn near_span(random: &mut Random, format: u32, depth: u32) -> Vec<u16> {
-    let draft = Draft::at_random(random, format, depth);
+fn near_span(random: &mut Random, format: Format) -> Vec<u16> {
+    let draft = Draft::at_random(random, format);
     let late = ["a bit of CRCC1", "a word at the end of what samples have", "the last fill word", "nothing"];
     let name = random.pick(&late);
     let change = DAMAGES.iter().find(|(damage, _)| *damage == name).expect("a known damage").1;
@@ -83,13 +84,13 @@ fn near_span(random: &mut Random, format: u32, depth: u32) -> Vec<u16> {
 }
 
 /// A span that is begun and not ended, with a whole one right after it.
-fn begun_and_whole(random: &mut Random, format: u32, depth: u32) -> Vec<u16> {
-    [cut(random, format, depth).0, any_sent(random, format, depth)].concat()
+fn begun_and_whole(random: &mut Random, format: Format) -> Vec<u16> {
+    [cut(random, format).0, any_sent(random, format)].concat()
 }
 
 /// A sent span with one change.
-fn changed(random: &mut Random, format: u32, depth: u32, change: fn(&mut Random, Vec<u16>) -> Vec<u16>) -> Vec<u16> {
-    let span = any_sent(random, format, depth);
+fn changed(random: &mut Random, format: Format, change: fn(&mut Random, Vec<u16>) -> Vec<u16>) -> Vec<u16> {
+    let span = any_sent(random, format);
     change(random, span)
 }
 
@@ -111,7 +112,7 @@ pub fn inverted(random: &mut Random, mut symbols: Vec<u16>) -> Vec<u16> {
 }
 
 /// Places to start from: the ends, next to where spans may be, and any.
-pub fn any_start(random: &mut Random, format: u32, length: usize) -> u64 {
+pub fn any_start(random: &mut Random, format: Format, length: usize) -> u64 {
     let span = shape_of(format).symbols();
     let start = match random.below(6) {
         0 => 0,

@@ -5,9 +5,10 @@ use crate::damage::DAMAGES;
 use crate::reading::{read_damaged, Met};
 use crate::recordings::{in_pieces, search};
 use crate::report::{in_two, Report};
-use crate::spans::{any_asked, any_line, any_samples, shape_of, KINDS};
-use random::Random;
+use crate::spans::{any_asked, any_kind, any_line, any_samples, shape_of, FIELDS};
+use plain::format::Format;
 use plain::words::words_of;
+use random::Random;
 
 pub const SEED: u64 = 20_210_347;
 pub const CALLS: u64 = 150_000;
@@ -30,13 +31,12 @@ fn any_call(r: &mut Report, random: &mut Random) {
     r.context = format!("generator at {}", random.0);
     match random.below(2000) {
         0..=1 => {
-            let (format, depth) = random.pick(&KINDS);
-            let symbols = random.below(50_000);
-            search(r, random, format, depth, symbols);
+            let (format, symbols) = (any_kind(random), random.below(50_000));
+            search(r, random, format, symbols);
         }
         2 => {
-            let ((format, depth), symbols, longest) = (random.pick(&KINDS), random.below(50_000), 2 + random.below(30_000));
-            in_pieces(r, random, format, depth, symbols, longest);
+            let (format, symbols, longest) = (any_kind(random), random.below(50_000), 2 + random.below(30_000));
+            in_pieces(r, random, format, symbols, longest);
         }
         3..=20 => damaged_span(r, random),
         21..=35 => sent_span(r, random),
@@ -101,45 +101,57 @@ fn any_rows(r: &mut Report, random: &mut Random) {
     }
 }
 
-/// Formats, depths and lengths, of which one is often wrong; mostly with short buffers.
+/// A format of which a field is often any number, a small one, or one that is known if it is cut to eight bits or sixteen.
+fn any_format(random: &mut Random) -> Format {
+    let mut format = any_kind(random);
+    for field in FIELDS {
+        if random.seldom(15) {
+            let known = *field(&mut format);
+            let numbers = [number(random), random.within(0, 13), 256 + known, 65_536 + known];
+            *field(&mut format) = random.pick(&numbers);
+        }
+    }
+    format
+}
+
+/// Formats and lengths, of which one is often wrong; mostly with short buffers.
 fn wrong_lengths(r: &mut Report, random: &mut Random) {
-    let format = if random.seldom(6) { number(random) } else { random.within(1, 3) };
-    let depth = if random.seldom(6) { number(random) } else { random.pick(&[10, 12]) };
+    let format = any_format(random);
     let counts = [0, 1, 2, 100, 3839, 3840, 7680, 7920, 9504, 19_008];
     let (count, room) = (random.pick(&counts), random.pick(&counts));
     let symbols = random.numbers(count, 1024);
     let start = if random.seldom(3) { number(random) as u64 } else { random.below(count + 2) as u64 };
     match random.below(8) {
-        0 => calls::lengths(r, format, depth),
-        1 => calls::fill_blanking(r, format, depth, room),
-        2 => calls::judge(r, format, depth, &symbols),
-        3 => drop(calls::read(r, format, depth, &symbols, room)),
-        4 => calls::find(r, format, depth, &symbols, start),
-        5 => calls::next(r, format, depth, &symbols, start, room),
+        0 => calls::lengths(r, format),
+        1 => calls::fill_blanking(r, format, room),
+        2 => calls::judge(r, format, &symbols),
+        3 => drop(calls::read(r, format, &symbols, room)),
+        4 => calls::find(r, format, &symbols, start),
+        5 => calls::next(r, format, &symbols, start, room),
         6 => {
             let [link, stream] = [2, 4].map(|most| if random.seldom(6) { number(random) } else { random.within(1, most) });
-            calls::way_back(r, (format, depth), link, stream, number(random));
+            calls::way_back(r, format, link, stream, number(random));
         }
         _ => {
             let (line, positive) = (number(random), random.flip());
-            drop(calls::send(r, any_asked(random, format, depth, line, positive), &symbols, room));
+            drop(calls::send(r, any_asked(random, format, line, positive), &symbols, room));
         }
     }
 }
 
 fn sent_span(r: &mut Report, random: &mut Random) {
-    let (format, depth) = random.pick(&KINDS);
+    let format = any_kind(random);
     let (line, positive) = (any_line(random), random.flip());
-    let mut samples = any_samples(random, format, depth, line);
+    let mut samples = any_samples(random, format, line);
     if random.seldom(4) {
         let at = random.below(samples.len());
         samples[at] = number(random) as u16;
     }
-    drop(calls::send(r, any_asked(random, format, depth, line, positive), &samples, shape_of(format).symbols()));
+    drop(calls::send(r, any_asked(random, format, line, positive), &samples, shape_of(format).symbols()));
 }
 
 fn damaged_span(r: &mut Report, random: &mut Random) {
-    let (kind, line) = (random.pick(&KINDS), any_line(random));
+    let (kind, line) = (any_kind(random), any_line(random));
     let damages: Vec<usize> = (0..random.below(4)).map(|_| random.below(DAMAGES.len())).collect();
     read_damaged(r, random, kind, line, &damages, &Met::default());
 }

@@ -4,6 +4,7 @@ use crate::calls;
 use crate::damage::{bit_of_xyzs, damaged, DAMAGES};
 use crate::report::{in_two, Report};
 use crate::spans::{any_line, shape_of, Draft, EDGES, KINDS};
+use plain::format::Format;
 use random::Random;
 use std::sync::atomic::{AtomicU64, Ordering};
 
@@ -35,10 +36,10 @@ pub fn run() -> Report {
     }
     let times = met.repaired.load(Ordering::Relaxed);
     r.holds(|| format!("{times} deliveries only had repairs"), times >= OFTEN);
-    for format in 1..=3 {
-        for (xyz, bit) in (0..2 * shape_of(format).streams).flat_map(|xyz| (0..12).map(move |bit| (xyz, bit))) {
-            let times = met.of_bit[format as usize - 1][xyz][bit].load(Ordering::Relaxed);
-            r.holds(|| format!("format {format}: bit {bit} of XYZ {xyz} was repaired {times} times only"), times >= OF_EACH_BIT);
+    for number in 1..=3 {
+        for (xyz, bit) in (0..2 * shape_of(Format::plain(number, 12)).streams).flat_map(|xyz| (0..12).map(move |bit| (xyz, bit))) {
+            let times = met.of_bit[number as usize - 1][xyz][bit].load(Ordering::Relaxed);
+            r.holds(|| format!("format {number}: bit {bit} of XYZ {xyz} was repaired {times} times only"), times >= OF_EACH_BIT);
         }
     }
     r
@@ -47,35 +48,34 @@ pub fn run() -> Report {
 /// Sent spans of every format and depth are delivered, with what was sent.
 fn valid(part: usize, r: &mut Report) {
     let mut random = Random(0xBB + part as u64);
-    for (format, depth) in KINDS.into_iter().skip(part).step_by(2) {
+    for format in KINDS.into_iter().skip(part).step_by(2) {
         let edges = EDGES.into_iter().chain([2, 43, 127, 128, 255, 256, 1123, 1124]);
         let lines: Vec<u32> = edges.chain((0..40).map(|_| random.within(1, 1125))).collect();
         for line in lines {
-            let draft = Draft::of_line(&mut random, format, depth, line);
+            let draft = Draft::of_line(&mut random, format, line);
             r.context = format!("a sent span of line {line}");
             let symbols = draft.symbols();
-            let read = calls::read(r, format, depth, &symbols, draft.shape.samples());
-            calls::judge(r, format, depth, &symbols);
+            let read = calls::read(r, format, &symbols, draft.shape.samples());
+            calls::judge(r, format, &symbols);
             let same = read.is_ok_and(|d| (d.line, d.content, d.positive_before) == (line, draft.content, draft.positive));
-            r.holds(|| format!("format {format}, depth {depth}, line {line} is not read as it was sent"), same);
+            r.holds(|| format!("{format:?}, line {line} is not read as it was sent"), same);
         }
     }
 }
 
 /// Reads and judges a span with the damages of these indices.
-pub fn read_damaged(r: &mut Report, random: &mut Random, kind: (u32, u32), line: u32, damages: &[usize], met: &Met) {
-    let (format, depth) = kind;
-    let draft = Draft::of_line(random, format, depth, line);
+pub fn read_damaged(r: &mut Report, random: &mut Random, format: Format, line: u32, damages: &[usize], met: &Met) {
+    let draft = Draft::of_line(random, format, line);
     let mended = random.flip();
     let names: Vec<&str> = damages.iter().map(|&i| DAMAGES[i].0).collect();
     let changes: Vec<_> = damages.iter().map(|&i| DAMAGES[i].1).collect();
     r.context = format!("line {line}, CRCC mended: {mended}, damages: {names:?}");
-    read_and_judge(r, kind, &damaged(random, draft, &changes, mended), met);
+    read_and_judge(r, format, &damaged(random, draft, &changes, mended), met);
 }
 
-fn read_and_judge(r: &mut Report, (format, depth): (u32, u32), symbols: &[u16], met: &Met) {
-    calls::judge(r, format, depth, symbols);
-    match calls::read(r, format, depth, symbols, shape_of(format).samples()) {
+fn read_and_judge(r: &mut Report, format: Format, symbols: &[u16], met: &Met) {
+    calls::judge(r, format, symbols);
+    match calls::read(r, format, symbols, shape_of(format).samples()) {
         Ok(delivered) if delivered.repairs > 0 => drop(met.repaired.fetch_add(1, Ordering::Relaxed)),
         Err((number, _)) => drop(met.numbers[number as usize].fetch_add(1, Ordering::Relaxed)),
         Ok(_) => (),
@@ -99,10 +99,10 @@ fn pairs(part: usize, r: &mut Report, met: &Met) {
     let mut random = Random(0xDD + part as u64);
     for one in (0..DAMAGES.len()).skip(part).step_by(2) {
         for two in 0..DAMAGES.len() {
-            for format in 1..=3 {
-                let depth = random.pick(&[10, 12]);
+            for number in 1..=3 {
+                let format = Format::plain(number, random.pick(&[10, 12]));
                 let line = if random.flip() { random.within(42, 1121) } else { random.pick(&EDGES) };
-                read_damaged(r, &mut random, (format, depth), line, &[one, two], met);
+                read_damaged(r, &mut random, format, line, &[one, two], met);
             }
         }
     }
@@ -112,9 +112,9 @@ fn pairs(part: usize, r: &mut Report, met: &Met) {
 /// not cover, the CRCC stays as it is; otherwise it is mended or not.
 fn service_bits(part: usize, r: &mut Report) {
     let mut random = Random(0xFF + part as u64);
-    for (format, depth) in KINDS.into_iter().skip(part).step_by(2) {
+    for format in KINDS.into_iter().skip(part).step_by(2) {
         let line = random.pick(&EDGES);
-        let draft = Draft::of_line(&mut random, format, depth, line);
+        let draft = Draft::of_line(&mut random, format, line);
         for k in (0..4).chain(1924..1932) {
             for (t, bit) in (0..draft.shape.streams).flat_map(|t| (0..12).map(move |bit| (t, bit))) {
                 let mut changed = draft.clone();
@@ -124,7 +124,7 @@ fn service_bits(part: usize, r: &mut Report) {
                     changed.mend();
                 }
                 r.context = format!("line {line}, bit {bit} of word {k} of stream {t}");
-                drop(calls::read(r, format, depth, &changed.symbols(), draft.shape.samples()));
+                drop(calls::read(r, format, &changed.symbols(), draft.shape.samples()));
             }
         }
     }
@@ -134,21 +134,21 @@ fn service_bits(part: usize, r: &mut Report) {
 /// those that were put in. Where there are fewer than eight XYZs, the sets come more often.
 fn timing_words(part: usize, r: &mut Report, met: &Met) {
     let mut random = Random(0x121 + part as u64);
-    for (format, depth) in KINDS.into_iter().skip(part).step_by(2) {
+    for format in KINDS.into_iter().skip(part).step_by(2) {
         for set in 0..512 {
             let line = any_line(&mut random);
-            let mut draft = Draft::of_line(&mut random, format, depth, line);
+            let mut draft = Draft::of_line(&mut random, format, line);
             let wrong = bit_of_xyzs(&mut random, &mut draft, set);
             let mut of_bit = [0; 12];
             wrong.iter().for_each(|&(_, bit)| of_bit[bit] += 1);
             r.context = format!("line {line}, XYZs with their wrong bits: {wrong:?}");
             let (symbols, samples) = (draft.symbols(), draft.shape.samples());
-            calls::judge(r, format, depth, &symbols);
-            calls::next(r, format, depth, &symbols, 0, samples);
-            let told = calls::read(r, format, depth, &symbols, samples).map(|d| (d.repairs as usize, d.repairs_of_bit));
-            r.holds(|| format!("format {format}, depth {depth}: {told:?} is told"), told == Ok((wrong.len(), of_bit)));
+            calls::judge(r, format, &symbols);
+            calls::next(r, format, &symbols, 0, samples);
+            let told = calls::read(r, format, &symbols, samples).map(|d| (d.repairs as usize, d.repairs_of_bit));
+            r.holds(|| format!("{format:?}: {told:?} is told"), told == Ok((wrong.len(), of_bit)));
             for (xyz, bit) in wrong.into_iter().filter(|_| told.is_ok()) {
-                met.of_bit[format as usize - 1][xyz][bit].fetch_add(1, Ordering::Relaxed);
+                met.of_bit[format.number as usize - 1][xyz][bit].fetch_add(1, Ordering::Relaxed);
             }
         }
     }
@@ -159,7 +159,7 @@ fn row_limits(part: usize, r: &mut Report, met: &Met) {
     let mut random = Random(0x111 + part as u64);
     for kind in KINDS {
         for line in [[42, 1122], [1121, 41]][part] {
-            let draft = Draft::of_line(&mut random, kind.0, kind.1, line);
+            let draft = Draft::of_line(&mut random, kind, line);
             for word in [0, 12, 15, 16, 17, 18, 19, 20, 0x0FF, 0x7FF, 4076, 4077, 4079, 4080, 4095] {
                 for k in [4, 4 + random.below(1920), 1923] {
                     let mut changed = draft.clone();

@@ -1,13 +1,14 @@
 //! Finding, next spans and delivery by steps, over recordings of all kinds.
 
 use crate::calls;
+use crate::expected;
 use crate::pieces::{any_recording, any_start, inserted, inverted, lost, noise};
 use crate::report::{in_two, Report};
 use crate::spans::{any_asked, any_samples, any_sent, shape_of, KINDS};
-use crate::expected;
-use brazulint::{Content, Delivery, Format, Live, Span, StreamLine};
-use random::Random;
+use brazulint::{Content, Delivery, Live, Span, StreamLine};
+use plain::format::Format;
 use plain::span::{row_words, send, Asked};
+use random::Random;
 
 pub fn run() -> Report {
     let mut r = in_two(any_recordings);
@@ -23,18 +24,18 @@ pub fn run() -> Report {
 fn live(part: usize, r: &mut Report) {
     let mut random = Random(0x505 + part as u64);
     for round in 0..25 {
-        for (format, depth) in KINDS {
+        for format in KINDS {
             let (symbols, longest) = (random.below(80_000), [2, 100, 5_000, 20_000, 60_000][round % 5]);
             r.context = format!("round {round} of half {part}, pieces of less than {longest}");
-            in_pieces(r, &mut random, format, depth, symbols, longest);
+            in_pieces(r, &mut random, format, symbols, longest);
         }
     }
 }
 
 /// A random recording that arrives in pieces, each with less than `longest` symbols, which are two or more.
-pub fn in_pieces(r: &mut Report, random: &mut Random, format: u32, depth: u32, symbols: usize, longest: usize) {
-    let recording = any_recording(random, format, depth, symbols);
-    let mut link = Live::new(Format::new(format, depth)).expect("a known format");
+pub fn in_pieces(r: &mut Report, random: &mut Random, format: Format, symbols: usize, longest: usize) {
+    let recording = any_recording(random, format, symbols);
+    let mut link = Live::new(calls::given(format)).expect("a known format");
     let (mut from, mut spans) = (0, Vec::new());
     while from < recording.len() {
         let to = recording.len().min(from + random.below(longest));
@@ -42,7 +43,7 @@ pub fn in_pieces(r: &mut Report, random: &mut Random, format: u32, depth: u32, s
         from = to;
     }
     let told: Vec<_> = spans.into_iter().map(|span| (span.place, span.delivery, span.rows)).collect();
-    let plain = plain::recording::delivery(format, depth, &recording).expect("a known format");
+    let plain = plain::recording::delivery(format, &recording).expect("a known format");
     let whole: Vec<_> = plain.into_iter().map(|(place, d)| (place, expected::delivery(&d), d.rows)).collect();
     r.holds(|| format!("{} symbols in pieces deliver something else", recording.len()), told == whole);
 }
@@ -50,22 +51,22 @@ pub fn in_pieces(r: &mut Report, random: &mut Random, format: u32, depth: u32, s
 fn any_recordings(part: usize, r: &mut Report) {
     let mut random = Random(0x101 + part as u64);
     for round in 0..25 {
-        for (format, depth) in KINDS {
+        for format in KINDS {
             let symbols = random.below(60_000);
             r.context = format!("round {round} of half {part}");
-            search(r, &mut random, format, depth, symbols);
+            search(r, &mut random, format, symbols);
         }
     }
 }
 
 /// All three calls over a random recording.
-pub fn search(r: &mut Report, random: &mut Random, format: u32, depth: u32, symbols: usize) {
-    let recording = any_recording(random, format, depth, symbols);
-    calls::deliver(r, format, depth, &recording);
+pub fn search(r: &mut Report, random: &mut Random, format: Format, symbols: usize) {
+    let recording = any_recording(random, format, symbols);
+    calls::deliver(r, format, &recording);
     for _ in 0..4 {
         let start = any_start(random, format, recording.len());
-        calls::find(r, format, depth, &recording, start);
-        calls::next(r, format, depth, &recording, start, shape_of(format).samples());
+        calls::find(r, format, &recording, start);
+        calls::next(r, format, &recording, start, shape_of(format).samples());
     }
 }
 
@@ -73,15 +74,15 @@ pub fn search(r: &mut Report, random: &mut Random, format: u32, depth: u32, symb
 fn at_every_place(part: usize, r: &mut Report) {
     let mut random = Random(0x202 + part as u64);
     for place in (part..260).step_by(2) {
-        let (format, depth) = KINDS[place / 2 % 6];
-        let span = any_sent(&mut random, format, depth);
+        let format = KINDS[place / 2 % 6];
+        let span = any_sent(&mut random, format);
         let recording = [random.numbers(place, 1024), span, noise(&mut random)].concat();
         r.context = format!("a span at {place}");
-        calls::deliver(r, format, depth, &recording);
+        calls::deliver(r, format, &recording);
         for start in [0, place, place + 1] {
-            calls::find(r, format, depth, &recording, start as u64);
+            calls::find(r, format, &recording, start as u64);
         }
-        let found = brazulint::find(Format::new(format, depth), &recording, 0);
+        let found = brazulint::find(calls::given(format), &recording, 0);
         r.holds(|| format!("the span at {place} is not found"), found.result() == Ok(Some(place as u64)));
     }
 }
@@ -94,8 +95,8 @@ const DISTANCES: [usize; 12] = [1, 2, 3, 4, 63, 64, 65, 128, 129, 130, 200, 1000
 fn pairs(part: usize, r: &mut Report) {
     let mut random = Random(0x505 + part as u64);
     for (round, distance) in DISTANCES.into_iter().enumerate() {
-        let (format, depth) = KINDS[(2 * round + part) % 6];
-        let (span, other) = (any_sent(&mut random, format, depth), any_sent(&mut random, format, depth));
+        let format = KINDS[(2 * round + part) % 6];
+        let (span, other) = (any_sent(&mut random, format), any_sent(&mut random, format));
         let length = span.len();
         let count = random.pick(&[distance, 700, length - 1, length + 1, 2 * length]);
         let starts: Vec<u16> = (0..count).map(|i| other[i % distance]).collect();
@@ -105,9 +106,9 @@ fn pairs(part: usize, r: &mut Report) {
         for (k, recording) in [[&starts, &span, &starts], [&hurt, &span, &starts], [&starts, &hurt, &span]].into_iter().enumerate() {
             let recording = recording.map(Vec::as_slice).concat();
             r.context = format!("pairs of K28.5 at a distance of {distance}, recording {k} of half {part}");
-            calls::deliver(r, format, depth, &recording);
+            calls::deliver(r, format, &recording);
             for start in [0, 1, 2, count, count + 1, at] {
-                calls::find(r, format, depth, &recording, start as u64);
+                calls::find(r, format, &recording, start as u64);
             }
         }
     }
@@ -121,15 +122,15 @@ struct Sent {
 }
 
 /// Spans with the disparity handed on.
-fn chain(random: &mut Random, format: u32, depth: u32, count: u32) -> Vec<Sent> {
+fn chain(random: &mut Random, format: Format, count: u32) -> Vec<Sent> {
     let (first, mut positive) = (random.within(1, 1125), random.flip());
     let mut spans = Vec::new();
     for i in 0..count {
         let line = (first + i - 1) % 1125 + 1;
-        let samples = any_samples(random, format, depth, line);
-        let asked = any_asked(random, format, depth, line, positive);
+        let samples = any_samples(random, format, line);
+        let asked = any_asked(random, format, line, positive);
         let (symbols, after) = send(asked, &samples, shape_of(format).symbols()).expect("a good call is not refused");
-        let rows = row_words(depth, line, &samples).expect("samples that may be sent");
+        let rows = row_words(format, line, &samples).expect("samples that may be sent");
         spans.push(Sent { symbols, rows, delivery: delivery(asked, after) });
         positive = after;
     }
@@ -146,21 +147,21 @@ fn delivery(asked: Asked, positive_after: bool) -> Delivery {
 fn one_bit(part: usize, r: &mut Report) {
     let mut random = Random(0x303 + part as u64);
     for round in 0..300 {
-        let (format, depth) = KINDS[round % 6];
-        let spans = chain(&mut random, format, depth, 1 + round as u32 % 4);
+        let format = KINDS[round % 6];
+        let spans = chain(&mut random, format, 1 + round as u32 % 4);
         let mut recording: Vec<u16> = spans.iter().flat_map(|span| span.symbols.iter().copied()).collect();
         let at = random.below(recording.len());
         recording[at] ^= 1 << random.below(10);
         r.context = format!("{} sent spans with one bit of symbol {at} inverted", spans.len());
         let length = shape_of(format).symbols();
         let others = spans.iter().enumerate().filter(|(i, _)| *i != at / length).map(|(i, span)| (i * length, span));
-        delivers(r, format, depth, &recording, others);
+        delivers(r, format, &recording, others);
     }
 }
 
 /// Exactly these spans are delivered at these places, and then none; by steps, and by the iterator.
-fn delivers<'a>(r: &mut Report, format: u32, depth: u32, recording: &[u16], spans: impl Iterator<Item = (usize, &'a Sent)>) {
-    let (format, samples) = (Format::new(format, depth), shape_of(format).samples());
+fn delivers<'a>(r: &mut Report, format: Format, recording: &[u16], spans: impl Iterator<Item = (usize, &'a Sent)>) {
+    let (format, samples) = (calls::given(format), shape_of(format).samples());
     let mut iterator = brazulint::spans(format, recording);
     let mut start = 0;
     for (place, span) in spans {
@@ -181,11 +182,11 @@ fn delivers<'a>(r: &mut Report, format: u32, depth: u32, recording: &[u16], span
 fn one_symbol(part: usize, r: &mut Report) {
     let mut random = Random(0x404 + part as u64);
     for round in 0..90 {
-        let (format, depth) = KINDS[round % 6];
-        let spans = chain(&mut random, format, depth, 2);
+        let format = KINDS[round % 6];
+        let spans = chain(&mut random, format, 2);
         let recording: Vec<u16> = spans.into_iter().flat_map(|span| span.symbols).collect();
         let change = [inserted, lost, inverted][round / 6 % 3];
         r.context = format!("two sent spans, change {} of round {round}", round / 6 % 3);
-        calls::deliver(r, format, depth, &change(&mut random, recording));
+        calls::deliver(r, format, &change(&mut random, recording));
     }
 }

@@ -1,17 +1,31 @@
 //! Random spans, as words that can still be changed.
 
-use random::Random;
+use plain::format::Format;
 use plain::span::{characters, row_words, shape, symbols, words, Asked, Shape};
 use plain::words::{crcc_of, is_active, nearest, BLANKING};
+use random::Random;
 
-/// Every format at every depth.
-pub const KINDS: [(u32, u32); 6] = [(1, 10), (1, 12), (2, 10), (2, 12), (3, 10), (3, 12)];
+/// Every format at every depth, of G'.
+pub const KINDS: [Format; 6] =
+    [Format::plain(1, 10), Format::plain(1, 12), Format::plain(2, 10), Format::plain(2, 12), Format::plain(3, 10), Format::plain(3, 12)];
+
+/// The components that a link may carry.
+pub const COMPONENTS: [u32; 3] = [1, 2, 3];
+
+/// The fields of a format, in the order of the header.
+pub const FIELDS: [fn(&mut Format) -> &mut u32; 5] =
+    [|f| &mut f.number, |f| &mut f.depth, |f| &mut f.component, |f| &mut f.structure, |f| &mut f.size];
 
 /// The lines at which something changes.
 pub const EDGES: [u32; 8] = [1, 40, 41, 42, 1120, 1121, 1122, 1125];
 
-pub fn shape_of(format: u32) -> Shape {
-    shape(format, 12).expect("a known format")
+pub fn shape_of(format: Format) -> Shape {
+    shape(format).expect("a known format")
+}
+
+/// A kind that is known, of any component.
+pub fn any_kind(random: &mut Random) -> Format {
+    random.pick(&KINDS).carrying(random.pick(&COMPONENTS))
 }
 
 /// A line: an edge, or any.
@@ -27,12 +41,12 @@ pub fn any_content(random: &mut Random) -> [u8; 4] {
 }
 
 /// Samples that may be sent, often the ends of the range.
-pub fn any_samples(random: &mut Random, format: u32, depth: u32, line: u32) -> Vec<u16> {
+pub fn any_samples(random: &mut Random, format: Format, line: u32) -> Vec<u16> {
     let count = shape_of(format).samples();
     if !is_active(line) {
         return vec![BLANKING; count];
     }
-    let (low, high) = if depth == 10 { (4, 1019) } else { (16, 4079) };
+    let (low, high) = if format.depth == 10 { (4, 1019) } else { (16, 4079) };
     let mut sample = || match random.below(8) {
         0 => low,
         1 => high,
@@ -42,8 +56,8 @@ pub fn any_samples(random: &mut Random, format: u32, depth: u32, line: u32) -> V
 }
 
 /// A random span as it is sent.
-pub fn any_sent(random: &mut Random, format: u32, depth: u32) -> Vec<u16> {
-    Draft::at_random(random, format, depth).symbols()
+pub fn any_sent(random: &mut Random, format: Format) -> Vec<u16> {
+    Draft::at_random(random, format).symbols()
 }
 
 /// The words of a span before they are coded.
@@ -56,17 +70,17 @@ pub struct Draft {
 }
 
 impl Draft {
-    pub fn of_line(random: &mut Random, format: u32, depth: u32, line: u32) -> Draft {
+    pub fn of_line(random: &mut Random, format: Format, line: u32) -> Draft {
         let shape = shape_of(format);
-        let samples = any_samples(random, format, depth, line);
-        let rows = row_words(depth, line, &samples).expect("samples that may be sent");
-        let words = words(shape, line, &rows).expect("a stream line");
+        let samples = any_samples(random, format, line);
+        let rows = row_words(format, line, &samples).expect("samples that may be sent");
+        let words = words(format, line, &rows).expect("a stream line");
         Draft { shape, positive: random.flip(), content: any_content(random), words }
     }
 
-    pub fn at_random(random: &mut Random, format: u32, depth: u32) -> Draft {
+    pub fn at_random(random: &mut Random, format: Format) -> Draft {
         let line = any_line(random);
-        Draft::of_line(random, format, depth, line)
+        Draft::of_line(random, format, line)
     }
 
     /// The place of word k of stream t.
@@ -96,7 +110,7 @@ impl Draft {
 }
 
 /// A random request to the sender.
-pub fn any_asked(random: &mut Random, format: u32, depth: u32, line: u32, positive: bool) -> Asked {
+pub fn any_asked(random: &mut Random, format: Format, line: u32, positive: bool) -> Asked {
     let content = random.flip().then(|| any_content(random));
-    Asked { format, depth, line, positive, content }
+    Asked { format, line, positive, content }
 }

@@ -5,8 +5,8 @@ use crate::calls;
 use crate::report::Report;
 use crate::spans::{any_content, any_samples};
 use brazulint::*;
-use random::Random;
 use plain::span::Asked;
+use random::Random;
 
 /// The special characters: negative and positive form, a b c d e i, f g h j.
 const SPECIAL: [(u32, &str, &str); 12] = [
@@ -154,26 +154,26 @@ fn places(r: &mut Report) {
         r.answer(|| format!("place({line}, {sample})"), place(PictureLine(line), sample), answer);
         calls::place(r, line, sample);
     }
-    for (format, samples, symbols) in [(1, 3840, 7920), (2, 3840, 9504), (3, 7680, 19008)] {
+    for (number, samples, symbols) in [(1, 3840, 7920), (2, 3840, 9504), (3, 7680, 19008)] {
         for depth in [10, 12] {
             let answer = LengthsAnswer { number: 0, samples, symbols };
-            r.answer(|| format!("lengths({format}, {depth})"), lengths(Format::new(format, depth)), answer);
-            calls::lengths(r, format, depth);
+            r.answer(|| format!("lengths({number}, {depth})"), lengths(Format::plain(number, depth)), answer);
+            calls::lengths(r, plain::format::Format::plain(number, depth));
         }
     }
 }
 
 /// At 12 bits samples 15 and 4080 are refused, 16 and 4079 sent; lines 0 and 1126 are refused.
 fn limits(r: &mut Report) {
-    let mut random = Random(1);
+    let (mut random, format) = (Random(1), plain::format::Format::plain(1, 12));
     for (line, sample, number) in [(42, 15, 6), (42, 16, 0), (42, 4079, 0), (42, 4080, 6), (0, 256, 2), (1126, 256, 2)] {
-        let mut samples = any_samples(&mut random, 1, 12, 42);
+        let mut samples = any_samples(&mut random, format, 42);
         samples[3000] = sample;
         let place = if number == 6 { 3000 } else { 0 };
         let mut symbols = vec![0; 7920];
-        let answer = send(Format::new(1, 12), Request::new(StreamLine(line), false), &samples, &mut symbols);
+        let answer = send(calls::given(format), Request::new(StreamLine(line), false), &samples, &mut symbols);
         r.answer(|| format!("send of {sample} on line {line}"), (answer.number, answer.place), (number, place));
         let content = Some(any_content(&mut random));
-        let _ = calls::send(r, Asked { format: 1, depth: 12, line, positive: false, content }, &samples, 7920);
+        let _ = calls::send(r, Asked { format, line, positive: false, content }, &samples, 7920);
     }
 }

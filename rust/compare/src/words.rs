@@ -2,8 +2,8 @@
 
 use crate::calls;
 use crate::report::{in_two, Report};
-use random::Random;
 use plain::words::words_of;
+use random::Random;
 
 pub fn run() -> Report {
     let mut r = Report::default();

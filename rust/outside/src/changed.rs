@@ -1,10 +1,11 @@
 //! Random spans, changed in any way or not: words before or after the CRCC is computed, characters, symbols.
 
-use crate::spans::{made_characters, made_words};
-use random::Random;
+use crate::spans::{made_characters, made_words, shape_of};
 use plain::code::encode;
+use plain::format::Format;
 use plain::span::{symbols, Shape, ROW};
 use plain::words::{crcc_of, is_active, words_of, xyz, BLANKING};
+use random::Random;
 
 // Where the parts of a stream begin, in words (01, "A span").
 const ROW_AT: usize = 4;
@@ -117,11 +118,12 @@ fn put_foreign(random: &mut Random, words: &mut [u16]) {
 }
 
 /// The symbols of a span, sent correctly or changed in any way.
-pub fn random_symbols(random: &mut Random, shape: Shape, depth: u32) -> Vec<u16> {
+pub fn random_symbols(random: &mut Random, format: Format) -> Vec<u16> {
+    let shape = shape_of(format);
     let s = shape.streams;
     let any = random.within(1, 1125);
     let line = random.pick(&[1, 41, 42, 127, 128, 1121, 1122, 1125, any, any, any, any]);
-    let mut words = made_words(random, shape, depth, line);
+    let mut words = made_words(random, format, line);
     let change = random.below(13);
     match change {
         0 | 1 => change_words(random, shape, &mut words),

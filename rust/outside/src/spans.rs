@@ -1,19 +1,25 @@
 //! Random spans to read, sent correctly (01, "A span" and "Sending").
 
-use random::Random;
-use plain::span::{characters, symbols, words, Shape, ROW};
+use plain::format::Format;
+use plain::span::{characters, shape, symbols, words, Shape, ROW};
 use plain::words::{is_active, BLANKING};
+use random::Random;
+
+/// The shape of a format that is known.
+pub fn shape_of(format: Format) -> Shape {
+    shape(format).expect("a known format")
+}
 
 /// The words of all streams, stream by stream, that a line may carry: all values, or only the ends of the range. Random numbers are drawn
 /// in the order in which the words are sent, so that the stored inputs stay what they are.
-fn rows(random: &mut Random, shape: Shape, depth: u32, line: u32) -> Vec<u16> {
-    let ends_alone = random.seldom(4);
+fn rows(random: &mut Random, format: Format, line: u32) -> Vec<u16> {
+    let (ends_alone, shape) = (random.seldom(4), shape_of(format));
     let mut rows = vec![BLANKING; shape.samples()];
     if !is_active(line) {
         return rows;
     }
     for (k, t) in (0..ROW).flat_map(|k| (0..shape.streams).map(move |t| (k, t))) {
-        rows[t * ROW + k] = match (depth, ends_alone) {
+        rows[t * ROW + k] = match (format.depth, ends_alone) {
             (10, true) => random.pick(&[16, 4076]),
             (10, false) => (random.within(4, 1019) as u16) << 2,
             (_, true) => random.pick(&[16, 4079]),
@@ -24,9 +30,9 @@ fn rows(random: &mut Random, shape: Shape, depth: u32, line: u32) -> Vec<u16> {
 }
 
 /// The interleaved words of a span of a line.
-pub fn made_words(random: &mut Random, shape: Shape, depth: u32, line: u32) -> Vec<u16> {
-    let rows = rows(random, shape, depth, line);
-    words(shape, line, &rows).expect("a stream line")
+pub fn made_words(random: &mut Random, format: Format, line: u32) -> Vec<u16> {
+    let rows = rows(random, format, line);
+    words(format, line, &rows).expect("a stream line")
 }
 
 /// Its characters, with random content bytes.
@@ -36,7 +42,7 @@ pub fn made_characters(random: &mut Random, shape: Shape, words: &[u16]) -> Vec<
 }
 
 /// Its symbols.
-pub fn sent_symbols(random: &mut Random, shape: Shape, depth: u32, line: u32, positive: bool) -> Vec<u16> {
-    let words = made_words(random, shape, depth, line);
-    symbols(positive, &made_characters(random, shape, &words)).0
+pub fn sent_symbols(random: &mut Random, format: Format, line: u32, positive: bool) -> Vec<u16> {
+    let words = made_words(random, format, line);
+    symbols(positive, &made_characters(random, shape_of(format), &words)).0
 }

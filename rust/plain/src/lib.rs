@@ -3,6 +3,7 @@
 //! it is fast: every definition goes place by place.
 
 pub mod code;
+pub mod format;
 pub mod picture;
 pub mod published;
 pub mod read;

@@ -1,6 +1,7 @@
 //! Reading one span (01, "Receiving and finding" and "Refusal numbers"): tests 20 to 26, each over the whole span before the next.
 
 use crate::code::{encode, meaning, K28_5, K29_7};
+use crate::format::Format;
 use crate::span::{shape, Shape, ROW};
 use crate::words::{crcc_of, differ, is_active, line_before, named, nearest, Repaired, BLANKING};
 use crate::{refuse_unless, Answer};
@@ -171,16 +172,16 @@ pub fn window(shape: Shape, depth: u32, symbols: &[u16]) -> Answer<Delivered> {
 }
 
 /// The reader with rows; `room` is their length.
-pub fn read(format: u32, depth: u32, symbols: &[u16], room: usize) -> Answer<Delivered> {
-    let shape = shape(format, depth)?;
+pub fn read(format: Format, symbols: &[u16], room: usize) -> Answer<Delivered> {
+    let shape = shape(format)?;
     refuse_unless(symbols.len() == shape.symbols(), 3)?;
     refuse_unless(room == shape.samples(), 4)?;
-    window(shape, depth, symbols)
+    window(shape, format.depth, symbols)
 }
 
 /// The same without rows.
-pub fn judge(format: u32, depth: u32, symbols: &[u16]) -> Answer<Delivered> {
-    let shape = shape(format, depth)?;
+pub fn judge(format: Format, symbols: &[u16]) -> Answer<Delivered> {
+    let shape = shape(format)?;
     refuse_unless(symbols.len() == shape.symbols(), 3)?;
-    window(shape, depth, symbols)
+    window(shape, format.depth, symbols)
 }

@@ -1,6 +1,7 @@
 //! A span and how it is sent (01, "A span" and "Sending"; 004, 7.1).
 
 use crate::code::{encode, K28_5, K29_7};
+use crate::format::Format;
 use crate::words::{crcc_of, is_active, line_after, line_words, timing_code, BLANKING};
 use crate::{refuse_unless, Answer};
 
@@ -40,15 +41,14 @@ impl Shape {
     }
 }
 
-/// The shape of a format; 1 if format or depth is unknown.
-pub fn shape(format: u32, depth: u32) -> Answer<Shape> {
-    refuse_unless(depth == 10 || depth == 12, 1)?;
-    match format {
-        1 => Ok(Shape { streams: 2, ancillary: 268, fill: 880 }),
-        2 => Ok(Shape { streams: 2, ancillary: 708, fill: 1056 }),
-        3 => Ok(Shape { streams: 4, ancillary: 708, fill: 2112 }),
-        _ => Err((1, 0)),
-    }
+/// The shape of a format; 1 if anything of it is unknown.
+pub fn shape(format: Format) -> Answer<Shape> {
+    refuse_unless(format.is_known(), 1)?;
+    Ok(match format.number {
+        1 => Shape { streams: 2, ancillary: 268, fill: 880 },
+        2 => Shape { streams: 2, ancillary: 708, fill: 1056 },
+        _ => Shape { streams: 4, ancillary: 708, fill: 2112 },
+    })
 }
 
 /// The words of one stream, from the SAV of a line up to the fill. EAV, line number and CRCC are those of the next line; the CRCC runs from
@@ -65,7 +65,8 @@ fn stream(shape: Shape, line: u32, row: &[u16]) -> Answer<Vec<u16>> {
 }
 
 /// The words of a span: the streams word by word, stream 1 first, and the fill after them. The rows have twelve-bit words.
-pub fn words(shape: Shape, line: u32, rows: &[u16]) -> Answer<Vec<u16>> {
+pub fn words(format: Format, line: u32, rows: &[u16]) -> Answer<Vec<u16>> {
+    let shape = shape(format)?;
     let streams = rows.chunks(ROW).map(|row| stream(shape, line, row)).collect::<Answer<Vec<_>>>()?;
     let mut words: Vec<u16> = (0..streams[0].len()).flat_map(|k| streams.iter().map(move |stream| stream[k])).collect();
     words.extend(vec![BLANKING; shape.fill]);
@@ -101,8 +102,8 @@ pub fn symbols(positive: bool, characters: &[u16]) -> (Vec<u16>, bool) {
 
 /// The word of a sample: itself on a blanking line, where it already has twelve bits, or shifted at depth 10 (004, 6.1). None if the sample
 /// may not be sent (01, "Words of a stream" and "Sending").
-fn word_of(depth: u32, line: u32, sample: u16) -> Option<u16> {
-    match (is_active(line), depth) {
+fn word_of(format: Format, line: u32, sample: u16) -> Option<u16> {
+    match (is_active(line), format.depth) {
         (false, _) => (sample == BLANKING).then_some(sample),
         (true, 10) => (4..=1019).contains(&sample).then_some(sample << 2),
         (true, _) => (16..=4079).contains(&sample).then_some(sample),
@@ -110,16 +111,15 @@ fn word_of(depth: u32, line: u32, sample: u16) -> Option<u16> {
 }
 
 /// Samples stream by stream to words; 6 at the lowest index of one that may not be sent.
-pub fn row_words(depth: u32, line: u32, samples: &[u16]) -> Answer<Vec<u16>> {
-    let word = |(i, &sample): (usize, &u16)| word_of(depth, line, sample).ok_or((6, i as u64));
+pub fn row_words(format: Format, line: u32, samples: &[u16]) -> Answer<Vec<u16>> {
+    let word = |(i, &sample): (usize, &u16)| word_of(format, line, sample).ok_or((6, i as u64));
     samples.iter().enumerate().map(word).collect()
 }
 
 /// What is asked of the sender. If no content bytes are named, zeros are sent.
 #[derive(Clone, Copy, Debug)]
 pub struct Asked {
-    pub format: u32,
-    pub depth: u32,
+    pub format: Format,
     pub line: u32,
     pub positive: bool,
     pub content: Option<[u8; 4]>,
@@ -127,23 +127,23 @@ pub struct Asked {
 
 /// The symbols of a span and the disparity after it.
 pub fn send(asked: Asked, samples: &[u16], room: usize) -> Answer<(Vec<u16>, bool)> {
-    let shape = shape(asked.format, asked.depth)?;
+    let shape = shape(asked.format)?;
     refuse_unless((1..=1125).contains(&asked.line), 2)?;
     refuse_unless(samples.len() == shape.samples(), 3)?;
     refuse_unless(room == shape.symbols(), 4)?;
-    let rows = row_words(asked.depth, asked.line, samples)?;
-    let words = words(shape, asked.line, &rows)?;
+    let rows = row_words(asked.format, asked.line, samples)?;
+    let words = words(asked.format, asked.line, &rows)?;
     Ok(symbols(asked.positive, &characters(shape, &words, asked.content.unwrap_or([0; 4]))))
 }
 
 /// How many samples and symbols a span has.
-pub fn lengths(format: u32, depth: u32) -> Answer<[usize; 2]> {
-    shape(format, depth).map(|shape| [shape.samples(), shape.symbols()])
+pub fn lengths(format: Format) -> Answer<[usize; 2]> {
+    shape(format).map(|shape| [shape.samples(), shape.symbols()])
 }
 
 /// The row sent on a blanking line, of all streams: 100 (hex) at either depth.
-pub fn blanking_row(format: u32, depth: u32, room: usize) -> Answer<Vec<u16>> {
-    let shape = shape(format, depth)?;
+pub fn blanking_row(format: Format, room: usize) -> Answer<Vec<u16>> {
+    let shape = shape(format)?;
     refuse_unless(room == shape.samples(), 4)?;
     Ok(vec![BLANKING; room])
 }

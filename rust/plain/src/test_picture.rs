@@ -1,7 +1,8 @@
 //! The test picture (docs/DECISIONS.md, "The test picture"): rings around a place left of and above the middle, and what a link of the first images carries of it.
 
+use crate::format::Format;
 use crate::picture::place;
-use crate::span::{Shape, ROW};
+use crate::span::{shape, ROW};
 use crate::words::{is_active, BLANKING};
 
 /// The twelve-bit code of a sample of a picture line.
@@ -12,7 +13,8 @@ pub fn code(line: u32, sample: u32) -> u16 {
 
 /// The samples of a stream line, stream by stream. Each sample of the two picture lines that it carries goes where the division puts it;
 /// images that the link does not carry are left out.
-pub fn samples(shape: Shape, depth: u32, line: u32) -> Vec<u16> {
+pub fn samples(format: Format, line: u32) -> Vec<u16> {
+    let shape = shape(format).expect("a known format");
     let mut rows = vec![BLANKING; shape.samples()];
     if is_active(line) {
         for picture_line in [2 * (line - 41) - 1, 2 * (line - 41)] {
@@ -22,7 +24,7 @@ pub fn samples(shape: Shape, depth: u32, line: u32) -> Vec<u16> {
                 let code = code(picture_line, sample);
                 let stream = at.image as usize - 1;
                 if stream < shape.streams {
-                    rows[ROW * stream + at.sample as usize] = if depth == 10 { code >> 2 } else { code };
+                    rows[ROW * stream + at.sample as usize] = if format.depth == 10 { code >> 2 } else { code };
                 }
             }
         }

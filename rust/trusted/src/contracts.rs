@@ -7,7 +7,7 @@ use crate::source::Function;
 /// The public functions without an `ensures`, with the reason.
 pub const WITHOUT: &[(&str, &str)] = &[];
 
-/// The call that is linked as `brazulint3_send`: `send`.
+/// The call that is linked as `brazulint4_send`: `send`.
 fn call_of(name: &str) -> Option<&str> {
     let (interface, call) = name.strip_prefix("brazulint")?.split_once('_')?;
     interface.parse::<u32>().ok().map(|_| call)
@@ -80,7 +80,7 @@ mod tests {
     use crate::source::parse;
 
     const SEND: &str = "#[no_mangle]
-pub extern \"C\" fn brazulint3_send_named(
+pub extern \"C\" fn brazulint4_send_named(
     line: u32,
     samples: &[u16],
     symbols: &mut [u16],
@@ -104,14 +104,14 @@ pub extern \"C\" fn brazulint3_send_named(
     #[test]
     fn without_parameters() {
         let version =
-            "#[no_mangle]\npub extern \"C\" fn brazulint3_version() -> u32\n    ensures { λ r. ⌜ r ≡ version·answer ⌝ }\n{\n    1\n}\n";
+            "#[no_mangle]\npub extern \"C\" fn brazulint4_version() -> u32\n    ensures { λ r. ⌜ r ≡ version·answer ⌝ }\n{\n    1\n}\n";
         assert_eq!(told(version), None);
         assert!(told(&version.replace("version·answer", "lengths·answer")).is_some());
     }
 
     #[test]
     fn without_the_interface() {
-        assert!(told(&SEND.replace("brazulint3_", "brazulint_")).is_some());
+        assert!(told(&SEND.replace("brazulint4_", "brazulint_")).is_some());
     }
 
     #[test]

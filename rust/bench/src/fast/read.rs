@@ -7,6 +7,7 @@ pub mod recording;
 use super::words::{crcc_words, named, repair, step, XYZ};
 use brazulint::{Content, Delivery, StreamLine};
 use plain::code::{encode, K28_5, K29_7};
+use plain::format::Format;
 use plain::span::{shape, Shape};
 use plain::words::{is_active, line_before, BLANKING};
 use plain::{refuse_unless, Answer};
@@ -216,8 +217,8 @@ unsafe fn span<const S: usize>(tables: &Tables, shape: Shape, depth: u32, symbol
 
 /// Gives what the span says about itself. Its words go into rows, or zeros if it is refused by 20 to 26.
 #[inline(never)]
-pub fn read(tables: &Tables, format: u32, depth: u32, symbols: &[u16], rows: &mut [u16]) -> Answer<Delivery> {
-    let shape = shape(format, depth)?;
+pub fn read(tables: &Tables, format: Format, symbols: &[u16], rows: &mut [u16]) -> Answer<Delivery> {
+    let (shape, depth) = (shape(format)?, format.depth);
     refuse_unless(symbols.len() == shape.symbols(), 3)?;
     refuse_unless(rows.len() == shape.samples(), 4)?;
     // Sound: both lengths were checked above.

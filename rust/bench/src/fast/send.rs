@@ -2,6 +2,7 @@
 
 use super::words::{crcc_words, line_words, step, xyz};
 use plain::code::{encode, K28_5, K29_7};
+use plain::format::Format;
 use plain::span::{shape, Asked};
 use plain::words::{is_active, line_after, BLANKING};
 use plain::{refuse_unless, Answer};
@@ -123,8 +124,8 @@ unsafe fn span<const S: usize>(tables: &Tables, asked: Asked, samples: &[u16], s
 }
 
 /// The lowest and the highest sample allowed, and by how much samples are shifted (004, 6.1 and 6.8).
-pub fn allowed(depth: u32, line: u32) -> (u16, u16, u32) {
-    match (is_active(line), depth) {
+pub fn allowed(format: Format, line: u32) -> (u16, u16, u32) {
+    match (is_active(line), format.depth) {
         (false, _) => (BLANKING, BLANKING, 0),
         (true, 10) => (4, 1019, 2),
         (true, _) => (16, 4079, 0),
@@ -134,11 +135,11 @@ pub fn allowed(depth: u32, line: u32) -> (u16, u16, u32) {
 /// Gives the disparity after the span. A bad sample is searched for only if there is one.
 #[inline(never)]
 pub fn send(tables: &Tables, asked: Asked, samples: &[u16], symbols: &mut [u16]) -> Answer<bool> {
-    let shape = shape(asked.format, asked.depth)?;
+    let shape = shape(asked.format)?;
     refuse_unless((1..=1125).contains(&asked.line), 2)?;
     refuse_unless(samples.len() == shape.samples(), 3)?;
     refuse_unless(symbols.len() == shape.symbols(), 4)?;
-    let (low, high, shift) = allowed(asked.depth, asked.line);
+    let (low, high, shift) = allowed(asked.format, asked.line);
     let beyond = |x: u16| x.wrapping_sub(low).saturating_sub(high - low);
     if samples.iter().fold(0, |bad, &x| bad | beyond(x)) != 0 {
         let place = samples.iter().position(|&x| beyond(x) != 0);

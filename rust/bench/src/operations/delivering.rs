@@ -2,41 +2,41 @@
 
 use super::Speeds;
 use crate::agreement::same;
-use crate::cases::{Case, CASES};
+use crate::cases::{given, Case, CASES};
 use crate::fast::read::judge::Judge;
 use crate::fast::read::{recording, tables};
 use crate::timing::Three;
-use brazulint::{Delivery, Format};
-use random::Random;
+use brazulint::Delivery;
 use outside::spans::sent_symbols;
 use plain::read::Delivered;
+use random::Random;
 
 const SPANS: usize = 100;
 const TURNS: usize = 500;
 
 /// Spans one after another, of forty lines that are all active or all blanking as the case says.
 fn recorded(case: &Case) -> Vec<u16> {
-    let (mut random, shape) = (Random(7), case.shape());
-    let span = |k| sent_symbols(&mut random, shape, case.depth, case.line + k as u32 % 40, k % 2 == 1);
+    let mut random = Random(7);
+    let span = |k| sent_symbols(&mut random, case.format, case.line + k as u32 % 40, k % 2 == 1);
     (0..SPANS).flat_map(span).collect()
 }
 
 // Each version gives the place after the span, and what it says.
 
 fn by_library(case: &Case, symbols: &[u16], start: u64, rows: &mut [u16]) -> Option<(u64, Delivery)> {
-    let answer = brazulint::next(Format::new(case.format, case.depth), symbols, start, rows);
+    let answer = brazulint::next(given(case.format), symbols, start, rows);
     let next = answer.result().expect("a recording that is not too long");
     next.map(|(_, delivery)| (answer.resume, delivery))
 }
 
 fn by_fast(judge: &mut Judge, case: &Case, symbols: &[u16], start: u64, rows: &mut [u16]) -> Option<(u64, Delivery)> {
-    let next = recording::next(judge, case.format, case.depth, symbols, start, rows).expect("a recording that is not too long");
+    let next = recording::next(judge, case.format, symbols, start, rows).expect("a recording that is not too long");
     next.map(|(place, delivery)| (place + case.shape().symbols() as u64, delivery))
 }
 
 fn by_plain(case: &Case, symbols: &[u16], start: u64) -> Option<(u64, Delivered)> {
     let shape = case.shape();
-    let next = plain::recording::next(case.format, case.depth, symbols, start, shape.samples()).expect("a recording that is not too long");
+    let next = plain::recording::next(case.format, symbols, start, shape.samples()).expect("a recording that is not too long");
     next.map(|(place, delivered)| (place + shape.symbols() as u64, delivered))
 }
 

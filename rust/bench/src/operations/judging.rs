@@ -2,24 +2,24 @@
 
 use super::Speeds;
 use crate::agreement::same;
-use crate::cases::{Case, CASES, SPANS, TURNS};
+use crate::cases::{given, Case, CASES, SPANS, TURNS};
 use crate::fast::read::judge::Judge;
 use crate::fast::read::tables;
 use crate::timing::Three;
-use brazulint::{Delivery, Format};
+use brazulint::Delivery;
 use plain::read::Delivered;
 use std::hint::black_box;
 
 fn by_library(case: &Case, symbols: &[u16]) -> Delivery {
-    brazulint::judge(Format::new(case.format, case.depth), symbols).result().expect("a span as it should be")
+    brazulint::judge(given(case.format), symbols).result().expect("a span as it should be")
 }
 
 fn by_fast(judge: &mut Judge, case: &Case, symbols: &[u16]) -> Delivery {
-    judge.judge(case.format, case.depth, symbols).expect("a span as it should be")
+    judge.judge(case.format, symbols).expect("a span as it should be")
 }
 
 fn by_plain(case: &Case, symbols: &[u16]) -> Delivered {
-    plain::read::judge(case.format, case.depth, symbols).expect("a span as it should be")
+    plain::read::judge(case.format, symbols).expect("a span as it should be")
 }
 
 fn agree(judge: &mut Judge, case: &Case, symbols: &[u16]) {

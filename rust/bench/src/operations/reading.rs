@@ -2,23 +2,23 @@
 
 use super::Speeds;
 use crate::agreement::same;
-use crate::cases::{Case, CASES, SPANS, TURNS};
+use crate::cases::{given, Case, CASES, SPANS, TURNS};
 use crate::fast::read::{read, tables, Tables};
 use crate::timing::Three;
-use brazulint::{Delivery, Format};
+use brazulint::Delivery;
 use plain::read::Delivered;
 use std::hint::black_box;
 
 fn by_library(case: &Case, symbols: &[u16], rows: &mut [u16]) -> Delivery {
-    brazulint::read(Format::new(case.format, case.depth), symbols, rows).result().expect("a span as it should be")
+    brazulint::read(given(case.format), symbols, rows).result().expect("a span as it should be")
 }
 
 fn by_fast(tables: &Tables, case: &Case, symbols: &[u16], rows: &mut [u16]) -> Delivery {
-    read(tables, case.format, case.depth, symbols, rows).expect("a span as it should be")
+    read(tables, case.format, symbols, rows).expect("a span as it should be")
 }
 
 fn by_plain(case: &Case, symbols: &[u16]) -> Delivered {
-    plain::read::read(case.format, case.depth, symbols, case.shape().samples()).expect("a span as it should be")
+    plain::read::read(case.format, symbols, case.shape().samples()).expect("a span as it should be")
 }
 
 fn agree(tables: &Tables, case: &Case, symbols: &[u16]) {

@@ -1,31 +1,31 @@
 //! Spans sent (004, clauses 6 and 7.1; 01, "A span" and "Sending").
 
 use super::Speeds;
-use crate::cases::{Case, CASES, SPANS, TURNS};
+use crate::cases::{given, Case, CASES, SPANS, TURNS};
 use crate::fast::send::{allowed, send, tables, Tables};
 use crate::timing::Three;
-use brazulint::{Content, Format, Request, StreamLine};
-use random::Random;
+use brazulint::{Content, Request, StreamLine};
 use plain::span::Asked;
+use random::Random;
 use std::hint::black_box;
 
 fn samples(case: &Case) -> Vec<u16> {
     let mut random = Random(2);
-    let (low, high, _) = allowed(case.depth, case.line);
+    let (low, high, _) = allowed(case.format, case.line);
     (0..case.shape().samples()).map(|_| random.within(low.into(), high.into()) as u16).collect()
 }
 
 fn asked(case: &Case, positive: bool) -> Asked {
-    Asked { format: case.format, depth: case.depth, line: case.line, positive, content: Some([4, 0, 4, 0]) }
+    Asked { format: case.format, line: case.line, positive, content: Some([4, 0, 4, 0]) }
 }
 
 // Each version gives the disparity after the span.
 
 fn by_library(asked: Asked, samples: &[u16], symbols: &mut [u16]) -> bool {
-    let Asked { format, depth, line, positive, content } = asked;
+    let Asked { format, line, positive, content } = asked;
     let [sav1, sav2, eav1, eav2] = content.unwrap_or([0; 4]);
     let request = Request::new(StreamLine(line), positive).naming(Content { sav1, sav2, eav1, eav2 });
-    brazulint::send(Format::new(format, depth), request, samples, symbols).result().expect("a span that may be sent")
+    brazulint::send(given(format), request, samples, symbols).result().expect("a span that may be sent")
 }
 
 fn by_fast(tables: &Tables, asked: Asked, samples: &[u16], symbols: &mut [u16]) -> bool {

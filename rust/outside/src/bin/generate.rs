@@ -3,6 +3,7 @@
 //! the stored input and what must be written for it into a folder.
 
 use outside::printed::{both_streams, printed, said_when_full, written};
+use plain::format::Format;
 use plain::recording::LIMIT;
 use plain::span::{send, shape, Asked};
 use plain::test_picture::samples;
@@ -28,16 +29,16 @@ fn lines(first: u32, count: u32) -> Vec<u32> {
 /// The recording that six bytes ask for, with its two bytes of header.
 fn recording(input: &[u8]) -> Answer<Vec<u8>> {
     let byte = |place: usize| input.get(place).map_or(0, |b| u32::from(*b));
-    let (format, depth) = (byte(0), byte(1));
-    let shape = shape(format, depth)?;
+    let format = Format::plain(byte(0), byte(1));
+    let shape = shape(format)?;
     let first = number(input, 2).unwrap_or(0);
     refuse_unless((1..=1125).contains(&first), 2)?;
     let count = number(input, 4).ok_or((3, 0))?;
     refuse_unless(count as usize * shape.symbols() <= LIMIT, 3)?;
     let (mut bytes, mut positive) = (input[..2].to_vec(), false);
     for line in lines(first, count) {
-        let asked = Asked { format, depth, line, positive, content: None };
-        let (symbols, after) = send(asked, &samples(shape, depth, line), shape.symbols())?;
+        let asked = Asked { format, line, positive, content: None };
+        let (symbols, after) = send(asked, &samples(format, line), shape.symbols())?;
         bytes.extend(symbols.iter().flat_map(|symbol| symbol.to_le_bytes()));
         positive = after;
     }
@@ -46,8 +47,8 @@ fn recording(input: &[u8]) -> Answer<Vec<u8>> {
 
 /// What is listed of a recording that was asked for: the spans that are whole in the first 32,767 symbols.
 fn listing(input: &[u8]) -> String {
-    let [format, depth] = [0, 1].map(|place| u32::from(input[place]));
-    let span = shape(format, depth).expect("a known format").symbols();
+    let format = Format::plain(input[0].into(), input[1].into());
+    let span = shape(format).expect("a known format").symbols();
     let lines = lines(number(input, 2).unwrap(), number(input, 4).unwrap());
     let whole = lines.iter().enumerate().take_while(|(k, _)| (k + 1) * span <= 32_767);
     whole.map(|(k, line)| format!("{} {line}\n", k * span)).collect()

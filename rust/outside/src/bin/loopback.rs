@@ -1,19 +1,19 @@
 //! What the loopback rig must write and print, computed piece by piece with the plain sender, reader and division, and compared whole with
 //! what the program given as the first argument writes into a folder, the second argument, and prints.
 
-use random::Random;
 use outside::printed::{said_when_full, written_by};
+use plain::format::Format;
 use plain::picture::{join, place};
 use plain::recording::delivery;
 use plain::span::{send, shape, Asked, ROW};
 use plain::test_picture::samples;
 use plain::words::is_active;
+use random::Random;
 use std::collections::BTreeMap;
 use std::path::Path;
 use std::process::{Command, Stdio};
 
-const FORMAT: u32 = 3;
-const DEPTH: u32 = 12;
+const FORMAT: Format = Format::plain(3, 12);
 const LINES: u32 = 1125;
 const SPAN: u32 = 19_008;
 /// The symbols of five spans.
@@ -30,11 +30,11 @@ const DEFAULT: Knock = (400 * SPAN + SPAN / 2 - FRAME / 40, FRAME / 20);
 
 /// Every symbol of a frame of the test picture, the disparity handed from line to line.
 fn sent() -> Vec<u16> {
-    let shape = shape(FORMAT, DEPTH).expect("a known format");
+    let shape = shape(FORMAT).expect("a known format");
     let (mut all, mut positive) = (Vec::with_capacity(FRAME as usize), false);
     for line in 1..=LINES {
-        let asked = Asked { format: FORMAT, depth: DEPTH, line, positive, content: None };
-        let (symbols, after) = send(asked, &samples(shape, DEPTH, line), shape.symbols()).expect("a good call");
+        let asked = Asked { format: FORMAT, line, positive, content: None };
+        let (symbols, after) = send(asked, &samples(FORMAT, line), shape.symbols()).expect("a good call");
         all.extend(symbols);
         positive = after;
     }
@@ -50,7 +50,7 @@ fn receive(symbols: &[u16]) -> Received {
         join(first, second, 2 * ROW).expect("rows of two images")
     };
     let mut lines = BTreeMap::new();
-    for (_, span) in delivery(FORMAT, DEPTH, symbols).expect("a recording that is short enough") {
+    for (_, span) in delivery(FORMAT, symbols).expect("a recording that is short enough") {
         let rows = [0, 2].map(|t| joined(&span.rows, t)).concat();
         assert_eq!(lines.insert(span.line, rows), None, "line {} twice in a piece", span.line);
     }

@@ -16,14 +16,14 @@ returns c =
     let short : length input < 2 = omega arith in
     sym (meets-1 input (no-format input short))
 
-shared-slice-read-format-of : tie.Need-shared-slice-read-format-of
-shared-slice-read-format-of c = search needs
+shared-slice-read-plain-format : tie.Need-shared-slice-read-plain-format
+shared-slice-read-plain-format c = search needs
 
-shared-slice-read-format-of-2 : tie.Need-shared-slice-read-format-of-2
-shared-slice-read-format-of-2 c = search needs
+shared-slice-read-plain-format-2 : tie.Need-shared-slice-read-plain-format-2
+shared-slice-read-plain-format-2 c = search needs
 
-format-of-requires : tie.Need-format-of-requires
-format-of-requires c κs = search needs
+plain-format-requires : tie.Need-plain-format-requires
+plain-format-requires c κs = search needs
 
 is-known-requires : tie.Need-is-known-requires
 is-known-requires c κs = search needs
@@ -33,14 +33,14 @@ returns-2 c =
     let k = c .before in
     let f = k .before in
     let input = f .before .before .before .before .before .args .input .now in
-    sym (meets-1 input (known-is input (f .format-of .ensures) (k .is-known .ensures) (not-true _ (c .if2 .taken))))
+    sym (meets-1 input (known-is input (f .plain-format .ensures) (k .is-known .ensures) (not-true _ (c .if2 .taken))))
 
 returns-3 : tie.Need-returns-3
 returns-3 c =
     let k = c .before .before in
     let f = k .before in
     let input = f .before .before .before .before .before .args .input .now in
-    let known = known-is input (f .format-of .ensures) (k .is-known .ensures) (not-false _ (c .before .if2 .left)) in
+    let known = known-is input (f .plain-format .ensures) (k .is-known .ensures) (not-false _ (c .before .if2 .left)) in
     let short : length input < 4 = omega arith in
     sym (meets-2 input known (no-line input short))
 
@@ -67,7 +67,7 @@ returns-4 c =
     let k = e .before .before in
     let f = k .before in
     let input = f .before .before .before .before .before .args .input .now in
-    let known = known-is input (f .format-of .ensures) (k .is-known .ensures) (not-false _ (e .before .if2 .left)) in
+    let known = known-is input (f .plain-format .ensures) (k .is-known .ensures) (not-false _ (e .before .if2 .left)) in
     let enough : 4 ≤ length input = omega (arith, e .if3 .left) in
     let first = l .before .stream-line .ensures ∙ w .word-of .ensures ∙ sym (line-is input enough) in
     sym (meets-2 input known (line-is-line input first (l .is-line .ensures) (not-true _ (c .if4 .taken))))
@@ -82,11 +82,11 @@ counted-requires c κs =
     let input = f .before .before .before .before .before .args .input .now in
     let enough : 4 ≤ length input = omega (arith, e .if3 .left) in
     let first = l .before .stream-line .ensures ∙ w .word-of .ensures ∙ sym (line-is input enough) in (
-      f .format-of .ensures,
+      f .plain-format .ensures,
       (
         first,
         (
-          known-is input (f .format-of .ensures) (k .is-known .ensures) (not-false _ (e .before .if2 .left)),
+          known-is input (f .plain-format .ensures) (k .is-known .ensures) (not-false _ (e .before .if2 .left)),
           line-is-line input first (l .is-line .ensures) (not-false _ (c .if4 .left)),
         ),
       ),
@@ -100,9 +100,9 @@ wanted-in-spec =
     tie.close
     (tie.spec
     returns
-    shared-slice-read-format-of
-    shared-slice-read-format-of-2
-    format-of-requires
+    shared-slice-read-plain-format
+    shared-slice-read-plain-format-2
+    plain-format-requires
     is-known-requires
     returns-2
     returns-3

@@ -6,8 +6,8 @@ use borrow.Author.Needs.{needs}
 use Rattle.generate.proofs.start.nothing.Statement.{statement}
 use Rattle.generate.proofs.start.nothing.Tie as tie
 
-format-of-requires : tie.Need-format-of-requires
-format-of-requires c κs = search needs
+plain-format-requires : tie.Need-plain-format-requires
+plain-format-requires c κs = search needs
 
 stream-line-requires : tie.Need-stream-line-requires
 stream-line-requires c κs = search needs
@@ -17,9 +17,9 @@ before-fresh-signal-requires c κs = search needs
 
 returns : tie.Need-returns
 returns c =
-    left-is (c .before .before .format-of .ensures) (c .before .stream-line .ensures) refl (c .before-fresh-signal .ensures)
+    left-is (c .before .before .plain-format .ensures) (c .before .stream-line .ensures) refl (c .before-fresh-signal .ensures)
 
 pub nothing-spec : {M : Type 1} → statement M
 nothing-spec =
     tie.close
-    (tie.spec format-of-requires stream-line-requires before-fresh-signal-requires returns)
+    (tie.spec plain-format-requires stream-line-requires before-fresh-signal-requires returns)

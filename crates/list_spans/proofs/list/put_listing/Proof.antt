@@ -30,14 +30,14 @@ returns c =
     let short : length input < 2 = omega (arith, test .if1 .taken) in
     refusal input (start .args .out .now) (too-short input short) (start .pre .1 .1) (e .put-text .ensures .0) (e .put-text .ensures .1)
 
-shared-slice-read-format-of : tie.Need-shared-slice-read-format-of
-shared-slice-read-format-of c = search needs
+shared-slice-read-plain-format : tie.Need-shared-slice-read-plain-format
+shared-slice-read-plain-format c = search needs
 
-shared-slice-read-format-of-2 : tie.Need-shared-slice-read-format-of-2
-shared-slice-read-format-of-2 c = search needs
+shared-slice-read-plain-format-2 : tie.Need-shared-slice-read-plain-format-2
+shared-slice-read-plain-format-2 c = search needs
 
-format-of-requires : tie.Need-format-of-requires
-format-of-requires c κs = search needs
+plain-format-requires : tie.Need-plain-format-requires
+plain-format-requires c κs = search needs
 
 is-known-requires : tie.Need-is-known-requires
 is-known-requires c κs = search needs
@@ -70,7 +70,7 @@ returns-2 : tie.Need-returns-2
 returns-2 c =
     let e = c .before .before .before .before .before .before in
     let k = e .before .before .before .before .before .before in
-    let f = k .before .format-of in
+    let f = k .before .plain-format in
     let test = k .before .before .before .before .if1 in
     let start = k .before .before .before .before .before .before .before .before .before in
     let input = start .args .input .now in
@@ -99,7 +99,7 @@ returns-3 c =
     let input = start .args .input .now in
     let enough : 2 ≤ length input = omega (arith, test .if1 .left) in
     let no-format = sym (k .is-known .ensures) ∙ e .before .before .before .if2 .left in
-    refusal input (start .args .out .now) (unknown input enough (k .before .format-of .ensures) no-format) (start .pre .1 .1) (e .put-text2 .ensures .0)
+    refusal input (start .args .out .now) (unknown input enough (k .before .plain-format .ensures) no-format) (start .pre .1 .1) (e .put-text2 .ensures .0)
     (e .put-text2 .ensures .1)
 
 pub put-listing-spec : {M : Type 1} → statement M
@@ -110,9 +110,9 @@ put-listing-spec =
     put-text-requires
     same-length
     returns
-    shared-slice-read-format-of
-    shared-slice-read-format-of-2
-    format-of-requires
+    shared-slice-read-plain-format
+    shared-slice-read-plain-format-2
+    plain-format-requires
     is-known-requires
     sub-put-recording
     part-put-recording-start

@@ -1,4 +1,4 @@
--- `span::format::format_of` meets its contract: both as the caller wrote them.
+-- `span::format::format_of` meets its contract: each field as the caller wrote it.
 -- Assumes nothing.
 use mathlib.Core.Path.{refl}
 use Rattle.span.proofs.format.format_of.Statement.{statement}

@@ -1,23 +1,23 @@
--- `span::format::is_known` meets its contract: the number is 1 to 3, and the depth 10 or 12.
+-- `span::format::is_known` meets its contract: field by field.
 -- Assumes nothing.
 use mathlib.Core.Path.{_≡_, sym, _∙_}
-use mathlib.Core.Bool.{true, false}
-use mathlib.Core.Logic.{inl}
+use mathlib.Core.Bool.{true, true≢false}
 use lib.Dec.{eqb}
 use borrow.Author.Needs.{needs}
-use borrow.Author.Tests.{ne-eqb}
+use borrow.Author.Tests.{eq-eqb}
 use native.Mathlib.Omega.{arith}
-use Rattle.ground.proofs.Ranges.{from-low, to-high, outside}
+use Rattle.ground.proofs.Ranges.{outside}
 use Rattle.ground.specs.Range.{within}
 use Rattle.span.specs.declared.format.Format.{Format}
-use Rattle.span.specs.Format.{isKnown}
-use Rattle.span.proofs.Formats.{is-known, unknown}
+use Rattle.span.specs.Format.{isDepth, isKnown}
+use Rattle.span.proofs.Formats.{depth-known, unknown}
 use Rattle.span.proofs.format.is_known.Statement.{statement}
 use Rattle.span.proofs.format.is_known.Tie as tie
 
--- in range, and not of ten bits: the test of twelve decides
-twelve-left : (f : Format) → within 1 3 (f .number) ≡ true → eqb (f .depth) 10 ≡ false → isKnown f ≡ eqb (f .depth) 12
-twelve-left f t e = simp (t, e)
+-- all but the size hold: the test of the size decides
+size-left : (f : Format) → within 1 3 (f .number) ≡ true → isDepth (f .depth) ≡ true → within 1 3 (f .component) ≡ true → eqb (f .structure) 1 ≡ true
+    → isKnown f ≡ eqb (f .size) 1
+size-left f a b c d = simp (a, b, c, d)
 
 cast-within : tie.Need-cast-within
 cast-within c = search needs
@@ -25,21 +25,59 @@ cast-within c = search needs
 within-requires : tie.Need-within-requires
 within-requires c κs = search needs
 
+is-depth-requires : tie.Need-is-depth-requires
+is-depth-requires c κs = search needs
+
+cast-within-2 : tie.Need-cast-within-2
+cast-within-2 c = search needs
+
+within-requires-2 : tie.Need-within-requires-2
+within-requires-2 c κs = search needs
+
 returns : tie.Need-returns
 returns c =
-    let t = sym (c .before .before .before .within .ensures) ∙ c .before .before .if1 .taken in
-    sym (is-known (c .before .before .before .before .before .args .f) (record { from = omega (arith, from-low _ _ _ t); to = omega (arith, to-high _ _ _ t); bits = inl (omega arith) }))
+    let component = c .before .before .before .before in
+    let depth = component .before .before .before in
+    let number = depth .before .before in
+    let f = number .before .before .args .f in
+    sym
+    (size-left f (sym (number .within .ensures) ∙ depth .before .if1 .taken) (sym (depth .is-depth .ensures) ∙ component .before .before .if2 .taken)
+    (sym (component .within2 .ensures) ∙ c .before .before .before .if3 .taken)
+    (eq-eqb (f .structure) 1 (omega (arith, c .before .if4 .taken))))
 
 returns-2 : tie.Need-returns-2
 returns-2 c =
-    let f = c .before .before .before .before .before .before .args .f in
-    let t = sym (c .before .before .before .before .within .ensures) ∙ c .before .before .before .if1 .taken in
-    sym (twelve-left f t (ne-eqb (f .depth) 10 (λ e. omega arith)))
+    let f = c .before .before .before .before .before .before .before .before .before .before .args .f in
+    sym (unknown f (λ k. c .if4 .left (k .structure)))
 
 returns-3 : tie.Need-returns-3
 returns-3 c =
+    let t = sym (c .before .within2 .ensures) ∙ c .if3 .left in
+    let f = c .before .before .before .before .before .before .before .before .args .f in
+    sym (unknown f (λ k. outside _ _ _ t (k .component .0) (k .component .1)))
+
+returns-4 : tie.Need-returns-4
+returns-4 c =
+    let t = sym (c .before .is-depth .ensures) ∙ c .if2 .left in
+    let f = c .before .before .before .before .before .args .f in
+    sym (unknown f (λ k. true≢false (sym (depth-known (k .bits)) ∙ t)))
+
+returns-5 : tie.Need-returns-5
+returns-5 c =
     let t = sym (c .before .within .ensures) ∙ c .if1 .left in
     sym (unknown (c .before .before .before .args .f) (λ k. outside _ _ _ t (k .from) (k .to)))
 
 pub is-known-spec : {M : Type 1} → statement M
-is-known-spec = tie.close (tie.spec cast-within within-requires returns returns-2 returns-3)
+is-known-spec =
+    tie.close
+    (tie.spec
+    cast-within
+    within-requires
+    is-depth-requires
+    cast-within-2
+    within-requires-2
+    returns
+    returns-2
+    returns-3
+    returns-4
+    returns-5)

@@ -2,6 +2,7 @@
 
 use super::{accepted, Tables};
 use brazulint::Delivery;
+use plain::format::Format;
 use plain::span::{shape, Shape, ROW};
 use plain::{refuse_unless, Answer};
 
@@ -22,8 +23,8 @@ impl Judge<'_> {
     }
 
     #[inline(never)]
-    pub fn judge(&mut self, format: u32, depth: u32, symbols: &[u16]) -> Answer<Delivery> {
-        let shape = shape(format, depth)?;
+    pub fn judge(&mut self, format: Format, symbols: &[u16]) -> Answer<Delivery> {
+        let (shape, depth) = (shape(format)?, format.depth);
         refuse_unless(symbols.len() == shape.symbols(), 3)?;
         let refusal = || plain::read::window(shape, depth, symbols).expect_err("something was wrong");
         self.accepted(shape, depth, symbols).ok_or_else(refusal)

@@ -4,6 +4,7 @@
 use super::judge::Judge;
 use super::{Reader, Tables, NEGATIVE, POSITIVE};
 use brazulint::Delivery;
+use plain::format::Format;
 use plain::recording::LIMIT;
 use plain::span::{shape, Shape};
 use plain::{refuse_unless, Answer};
@@ -92,21 +93,21 @@ fn first(judge: &mut Judge, shape: Shape, depth: u32, symbols: &[u16], start: us
 
 /// The first place at or after a start where the reader accepts.
 #[inline(never)]
-pub fn find(judge: &mut Judge, format: u32, depth: u32, symbols: &[u16], start: u64) -> Answer<Option<u64>> {
-    let shape = shape(format, depth)?;
+pub fn find(judge: &mut Judge, format: Format, symbols: &[u16], start: u64) -> Answer<Option<u64>> {
+    let shape = shape(format)?;
     refuse_unless(symbols.len() <= LIMIT, 3)?;
     refuse_unless(start <= symbols.len() as u64, 5)?;
-    Ok(first(judge, shape, depth, symbols, start as usize).map(|(place, _)| place as u64))
+    Ok(first(judge, shape, format.depth, symbols, start as usize).map(|(place, _)| place as u64))
 }
 
 /// The same with what is read there. Rows stay as they were if there is none, so it is read into others first.
 #[inline(never)]
-pub fn next(judge: &mut Judge, format: u32, depth: u32, symbols: &[u16], start: u64, rows: &mut [u16]) -> Answer<Option<(u64, Delivery)>> {
-    let shape = shape(format, depth)?;
+pub fn next(judge: &mut Judge, format: Format, symbols: &[u16], start: u64, rows: &mut [u16]) -> Answer<Option<(u64, Delivery)>> {
+    let shape = shape(format)?;
     refuse_unless(symbols.len() <= LIMIT, 3)?;
     refuse_unless(rows.len() == shape.samples(), 4)?;
     refuse_unless(start <= symbols.len() as u64, 5)?;
-    let found = first(judge, shape, depth, symbols, start as usize);
+    let found = first(judge, shape, format.depth, symbols, start as usize);
     if found.is_some() {
         rows.copy_from_slice(&judge.rows[..shape.samples()]);
     }

@@ -1,20 +1,17 @@
 //! Inputs of the program: a format, a depth, and the symbols of a recording, two bytes each.
 
 use crate::{MOST, REFUSED};
-use random::Random;
 use outside::changed::random_symbols;
-use outside::spans::{made_characters, made_words, sent_symbols};
-use plain::span::{shape, symbols, Shape};
+use outside::spans::{made_characters, made_words, sent_symbols, shape_of};
+use plain::format::Format;
+use plain::span::symbols;
+use random::Random;
 
 /// An input with its name, and what must be printed for it. That is known from what was put in, so it does not rest on the reader alone.
 pub type Known = (&'static str, Vec<u8>, &'static str);
 
 fn input(format: u8, depth: u8, symbols: &[u16]) -> Vec<u8> {
     [format, depth].into_iter().chain(symbols.iter().flat_map(|s| s.to_le_bytes())).collect()
-}
-
-fn shape_of(format: u8) -> Shape {
-    shape(format.into(), 12).expect("a known format")
 }
 
 // ---- What a recording is made of.
@@ -24,9 +21,9 @@ fn noise(random: &mut Random, count: usize) -> Vec<u16> {
 }
 
 /// A span of a line, sent correctly, at either disparity.
-fn good(random: &mut Random, shape: Shape, depth: u32, line: u32) -> Vec<u16> {
+fn good(random: &mut Random, format: Format, line: u32) -> Vec<u16> {
     let positive = random.seldom(2);
-    sent_symbols(random, shape, depth, line, positive)
+    sent_symbols(random, format, line, positive)
 }
 
 /// One bit of one symbol inverted: it costs the span.
@@ -37,8 +34,9 @@ fn damaged(mut symbols: Vec<u16>) -> Vec<u16> {
 }
 
 /// A span with one wrong bit in a timing word. It is sent with legal symbols, and the CRCC is that of the right word, so it is repaired.
-fn repaired(random: &mut Random, shape: Shape, depth: u32, line: u32) -> Vec<u16> {
-    let mut words = made_words(random, shape, depth, line);
+fn repaired(random: &mut Random, format: Format, line: u32) -> Vec<u16> {
+    let shape = shape_of(format);
+    let mut words = made_words(random, format, line);
     words[1927 * shape.streams + 1] ^= 1 << 7;
     symbols(true, &made_characters(random, shape, &words)).0
 }
@@ -48,37 +46,37 @@ fn repaired(random: &mut Random, shape: Shape, depth: u32, line: u32) -> Vec<u16
 /// The stored inputs.
 pub fn stored() -> Vec<Known> {
     let random = &mut Random(1);
-    let [one, two, three] = [1, 2, 3].map(shape_of);
+    let [one, two, three] = [(1, 12), (2, 10), (3, 12)].map(|(number, depth)| Format::plain(number, depth));
     let first = [
         noise(random, 500),
-        good(random, one, 12, 1125),
-        damaged(good(random, one, 12, 1)),
-        repaired(random, one, 12, 42),
-        good(random, one, 12, 43)[..one.symbols() - 1].to_vec(),
+        good(random, one, 1125),
+        damaged(good(random, one, 1)),
+        repaired(random, one, 42),
+        good(random, one, 43)[..shape_of(one).symbols() - 1].to_vec(),
     ];
     let second = [
         noise(random, 37),
-        good(random, two, 10, 1),
-        damaged(good(random, two, 10, 2)),
+        good(random, two, 1),
+        damaged(good(random, two, 2)),
         noise(random, 1),
-        good(random, two, 10, 1121),
-        good(random, two, 10, 1122)[..3000].to_vec(),
+        good(random, two, 1121),
+        good(random, two, 1122)[..3000].to_vec(),
     ];
-    let third = [noise(random, 1000), repaired(random, three, 12, 1122), good(random, three, 12, 1123)[..12_000].to_vec()];
+    let third = [noise(random, 1000), repaired(random, three, 1122), good(random, three, 1123)[..12_000].to_vec()];
     vec![
         ("format-1", input(1, 12, &first.concat()), "500 1125\n16340 42\n"),
         ("format-2", input(2, 10, &second.concat()), "37 1\n19046 1121\n"),
         ("format-3", input(3, 12, &third.concat()), "1000 1122\n"),
-        ("refused", input(4, 12, &good(random, one, 12, 42)), REFUSED),
+        ("refused", input(4, 12, &good(random, one, 42)), REFUSED),
     ]
 }
 
 /// The limits of the input, of what is read of it, and of what is known.
 pub fn edges() -> Vec<Known> {
     let random = &mut Random(2);
-    let one = shape_of(1);
-    let n = one.symbols();
-    let span = good(random, one, 10, 1125);
+    let one = Format::plain(1, 10);
+    let n = shape_of(one).symbols();
+    let span = good(random, one, 1125);
     let whole = input(1, 10, &span);
     let at = |random: &mut Random, place: usize| input(1, 10, &[noise(random, place), span.clone()].concat());
     let mut edges = vec![
@@ -108,16 +106,16 @@ pub fn edges() -> Vec<Known> {
 /// Spans sent correctly or changed in any way, whole or not, with anything between them.
 pub fn recording(random: &mut Random) -> Vec<u8> {
     let (format, depth) = (random.pick(&[1, 1, 1, 2, 2, 3]), random.pick(&[10, 12]));
-    let right = shape_of(format);
+    let right = Format::plain(format.into(), depth.into());
     let mut symbols = Vec::new();
     for _ in 0..random.below(7) {
         let (line, few) = (random.within(1, 1125), random.below(2000));
         symbols.extend(match random.below(6) {
             0 => noise(random, few),
             1 => random.numbers(few, 65_536),
-            2 => good(random, right, depth.into(), line)[..few].to_vec(),
-            3 => random_symbols(random, right, depth.into()),
-            _ => good(random, right, depth.into(), line),
+            2 => good(random, right, line)[..few].to_vec(),
+            3 => random_symbols(random, right),
+            _ => good(random, right, line),
         });
     }
     let mut bytes = input(format, depth, &symbols);

@@ -4,10 +4,11 @@
 
 mod inputs;
 
-use random::Random;
 use inputs::{edges, recording, stored, Known};
 use outside::printed::{printed, said_when_full};
+use plain::format::Format;
 use plain::recording::delivery;
+use random::Random;
 use std::process::Command;
 
 /// The most symbols that are read of an input.
@@ -20,7 +21,7 @@ fn listing(input: &[u8]) -> String {
         return REFUSED.to_string();
     };
     let symbols: Vec<u16> = bytes.chunks_exact(2).take(MOST).map(|b| u16::from_le_bytes([b[0], b[1]])).collect();
-    match delivery(format.into(), depth.into(), &symbols) {
+    match delivery(Format::plain(format.into(), depth.into()), &symbols) {
         Ok(spans) => spans.iter().map(|(place, span)| format!("{place} {}\n", span.line)).collect(),
         Err(_) => REFUSED.to_string(),
     }
