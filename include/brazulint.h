@@ -28,17 +28,20 @@
  *        3    50 Hz           4                7680               19008   1, 2, 3, 4
  *
  * Symbols have ten bits each in a uint16_t, the bit sent first lowest. Samples and rows are stored stream by stream: 1920 of stream 1, then
- * 1920 of stream 2, and so on. A link carries one component of the picture, and the format says which: BRAZULINT_G, BRAZULINT_B or
- * BRAZULINT_R. So a picture of three components (4:4:4) takes six links in formats 1 and 2, two for each component, and three links in
- * format 3. Of a span only the content bytes can say which component and which images it carries; they are sent as they are named, and
- * judged by no call.
+ * 1920 of stream 2, and so on. A link carries one component of the picture, and the format says which. So a picture of three components
+ * (4:4:4) takes six links in formats 1 and 2, two for each component, and three links in format 3: of G'B'R' (BRAZULINT_G, BRAZULINT_B,
+ * BRAZULINT_R; systems U1.1, U1.2, U1.4), or of Y'C'BC'R (BRAZULINT_Y, BRAZULINT_CB, BRAZULINT_CR; U1.8, U1.9, U1.11).
+ *
+ * Links of C'B and C'R blank at 0x800, those of G', B', R' and Y' at 0x100, in the ancillary area and on blanking lines. What is read does
+ * not depend on the component: received, these words are not judged by their value, and a recording of C'B is also read as Y'. Of a span
+ * only the content bytes can say which component and which images it carries; they are sent as they are named, and judged by no call.
  *
  * The sampling structure is BRAZULINT_444 and the size of the picture BRAZULINT_4K; no other is known yet. A format of which any field is
  * unknown is refused with 1 by every call that takes one, and 0 is unknown in each: a field that was forgotten is never guessed.
  *
  * The depth is 10 or 12 bits. At depth 10 a sample is sent shifted left by two, and what comes back is the shifted word of twelve bits: 4
  * is delivered as 16 and 1019 as 4076. So the rows of lines 42 to 1121 are shifted right by two to have the samples again. Blanking is not
- * shifted: at either depth it is given as 0x100, sent as 0x100 and delivered as 0x100.
+ * shifted: at either depth it is given, sent and delivered as 0x100, or as 0x800.
  *
  * The running disparity is a bool: true is positive. It is false before a fresh signal; after that, it is what the previous call answered.
  *
@@ -203,7 +206,7 @@ static inline const char *brazulint_refusal_text(uint32_t number) {
 /* ---- Formats and lines */
 
 enum { BRAZULINT_120_HZ = 1, BRAZULINT_100_HZ = 2, BRAZULINT_50_HZ = 3 };
-enum { BRAZULINT_G = 1, BRAZULINT_B = 2, BRAZULINT_R = 3 };
+enum { BRAZULINT_G = 1, BRAZULINT_B = 2, BRAZULINT_R = 3, BRAZULINT_Y = 4, BRAZULINT_CB = 5, BRAZULINT_CR = 6 };
 enum { BRAZULINT_444 = 1 };
 enum { BRAZULINT_4K = 1 };
 
@@ -211,7 +214,7 @@ enum { BRAZULINT_4K = 1 };
 typedef struct {
     uint32_t number;    /* BRAZULINT_120_HZ, BRAZULINT_100_HZ, BRAZULINT_50_HZ */
     uint32_t depth;     /* 10, 12 */
-    uint32_t component; /* what the link carries: BRAZULINT_G, BRAZULINT_B, BRAZULINT_R */
+    uint32_t component; /* what the link carries: BRAZULINT_G, BRAZULINT_B, BRAZULINT_R, BRAZULINT_Y, BRAZULINT_CB, BRAZULINT_CR */
     uint32_t structure; /* BRAZULINT_444 */
     uint32_t size;      /* BRAZULINT_4K */
 } brazulint_format;
@@ -269,7 +272,7 @@ typedef struct {
 
 /*
  * Sends a span into `symbols`, which has room for exactly one. On lines 42 to 1121 samples are 4 to 1019 at depth 10 and 16 to 4079 at
- * depth 12; on any other line each is 0x100.
+ * depth 12; on any other line each is the component's blanking word, 0x800 for C'B and C'R and 0x100 for any other, at either depth.
  */
 BRAZULINT_MUST_USE brazulint_send_answer brazulint_send(brazulint_format format, brazulint_request request,
                                                         const uint16_t *samples, size_t sample_count,
@@ -278,7 +281,7 @@ BRAZULINT_MUST_USE brazulint_send_answer brazulint_send(brazulint_format format,
 /* The row that a stream line carries: true for the picture (lines 42 to 1121), false for blanking (any other number). Refuses nothing. */
 BRAZULINT_MUST_USE bool brazulint_carries_picture(brazulint_stream_line line);
 
-/* Fills a row with the blanking samples of all streams. Answers 0, or the refusal: 1, 4. */
+/* Fills a row with the blanking samples of all streams, which are those of the component. Answers 0, or the refusal: 1, 4. */
 BRAZULINT_MUST_USE uint32_t brazulint_fill_blanking(brazulint_format format, uint16_t *row, size_t row_room);
 
 /* ---- Receiving */

@@ -206,6 +206,32 @@ static void sending(void) {
     IS(brazulint_fill_blanking(HZ_120, rows, SAMPLES) == 0 && rows[0] == 0x100 && rows[SAMPLES - 1] == 0x100);
 }
 
+/* Whether all of a row is this word. */
+static bool is_all(const uint16_t *row, uint16_t word) {
+    for (size_t i = 0; i < SAMPLES; i++)
+        if (row[i] != word) return false;
+    return true;
+}
+
+/* The blanking word of each component at either depth. It is read as Y' too; a link that blanks at the other word refuses to send it. */
+static void blanking(void) {
+    static uint16_t blank[SAMPLES];
+    for (uint32_t component = BRAZULINT_G; component <= BRAZULINT_CR; component++) {
+        const bool difference = component == BRAZULINT_CB || component == BRAZULINT_CR;
+        for (uint32_t depth = 10; depth <= 12; depth += 2) {
+            brazulint_format format = plain(BRAZULINT_120_HZ, depth);
+            format.component = component;
+            IS(brazulint_fill_blanking(format, blank, SAMPLES) == 0 && is_all(blank, difference ? 0x800 : 0x100));
+            IS(brazulint_send(format, unnamed(1122), blank, SAMPLES, symbols, SYMBOLS).number == 0);
+            format.component = BRAZULINT_Y;
+            IS(brazulint_read(format, symbols, SYMBOLS, rows, SAMPLES).number == 0 && is_all(rows, difference ? 0x800 : 0x100));
+            format.component = difference ? BRAZULINT_Y : BRAZULINT_CB;
+            brazulint_send_answer s = brazulint_send(format, unnamed(1122), blank, SAMPLES, symbols, SYMBOLS);
+            IS(s.number == BRAZULINT_NOT_ALLOWED && s.place == 0 && !s.positive_after);
+        }
+    }
+}
+
 /* Whether every call that takes a format refuses this one with 1, and leaves what it was lent. */
 static bool is_refused(brazulint_format format) {
     lend(symbols, SYMBOLS);
@@ -219,7 +245,7 @@ static bool is_refused(brazulint_format format) {
 
 /* One field of a format unknown: 0, one above the known, and the known one if it were cut to eight bits or to sixteen. */
 static void unknown_fields(void) {
-    const uint32_t above[5] = {4, 13, 4, 2, 2};
+    const uint32_t above[5] = {4, 13, 7, 2, 2};
     for (size_t field = 0; field < 5; field++) {
         uint32_t fields[5];
         memcpy(fields, &HZ_120, sizeof fields);
@@ -344,6 +370,7 @@ static void *all(void *unused) {
     code();
     pictures();
     sending();
+    blanking();
     unknown_fields();
     receiving();
     repairs();

@@ -13,7 +13,7 @@ use Rattle.span.specs.declared.format.Format.{Format}
 use Rattle.span.specs.Format.{isKnown, shapeOf, streams, samplesIn, symbolsIn}
 use Rattle.span.specs.Span.{spanSymbols, spanAfter}
 use Rattle.span.specs.Stream.{Request}
-use Rattle.span.specs.Numbers.{IsFormat, Symbols}
+use Rattle.span.specs.Numbers.{IsFormat, Symbols, Blank}
 use Rattle.window.specs.declared.delivery.Delivery.{Delivery}
 use Rattle.window.specs.Encoded.{requestOf}
 use Rattle.window.specs.Paper.{wordOfWindow}
@@ -24,7 +24,8 @@ use Rattle.window.specs.Tests.{lineRead, repairCount}
 use Rattle.window.specs.Words.{wordAt}
 use Rattle.window.proofs.SentAgain.{sendable-again, sent-again}
 use Rattle.line.specs.Stream.{isActive}
-use Rattle.span.specs.Sample.{allowed}
+use Rattle.span.specs.Sample.{allowed, blankWord}
+use Rattle.span.proofs.Numbers.{blank-is}
 use Rattle.ground.proofs.Ranges.{outside}
 use Rattle.window.proofs.Accepting.{delivers, none-fails}
 use Rattle.window.proofs.RoundTrip.{round-trip}
@@ -43,8 +44,8 @@ may-be-sent d f a room good e =
 -- ---- what was read, sent again
 module _ (f : Format) (w : List ℕ) (r : Delivery) (known : IsFormat f) (long : Symbols f (length w)) (e : readSpan f w ≡ given r)
     (untouched : r .repairs .count ≡ 0)
-    (area : (j t : ℕ) → 1932 ≤ j → j < 1932 + shapeOf f .ancillary → t < streams (shapeOf f) → wordOfWindow f w j t ≡ 0x100)
-    (line : (42 ≤ r .line .0 → r .line .0 ≤ 1121 → ⊥) → (j t : ℕ) → 4 ≤ j → j < 1924 → t < streams (shapeOf f) → wordOfWindow f w j t ≡ 0x100) where
+    (area : (j t : ℕ) → 1932 ≤ j → j < 1932 + shapeOf f .ancillary → t < streams (shapeOf f) → Blank f (wordOfWindow f w j t))
+    (line : (42 ≤ r .line .0 → r .line .0 ≤ 1121 → ⊥) → (j t : ℕ) → 4 ≤ j → j < 1924 → t < streams (shapeOf f) → Blank f (wordOfWindow f w j t)) where
   abbrev asked : Request
   asked = requestOf f r (pictureOf f w)
 
@@ -67,17 +68,20 @@ module _ (f : Format) (w : List ℕ) (r : Delivery) (known : IsFormat f) (long :
   none-wrong = sym (ap (λ (d : Delivery). d .repairs .count) is-answer) ∙ untouched
 
   blank-line : isActive (lineRead (streams (shapeOf f)) (wordAt (shapeOf f) w)) ≡ false → (j t : ℕ) → 4 ≤ j → j < 1924 → t < streams (shapeOf f)
-      → wordOfWindow f w j t ≡ 0x100
+      → wordOfWindow f w j t ≡ blankWord f
   unfolding deliveryOf
-  blank-line off =
+  blank-line off j t p q l =
       let same : r .line .0 ≡ lineRead (streams (shapeOf f)) (wordAt (shapeOf f) w) = ap (λ (d : Delivery). d .line .0) is-answer in
-      line (outside 42 1121 (r .line .0) (ap isActive same ∙ off))
+      blank-is f known _ (line (outside 42 1121 (r .line .0) (ap isActive same ∙ off)) j t p q l)
+
+  blank-area : (j t : ℕ) → 1932 ≤ j → j < 1932 + shapeOf f .ancillary → t < streams (shapeOf f) → wordOfWindow f w j t ≡ blankWord f
+  blank-area j t p q l = blank-is f known _ (area j t p q l)
 
   good : Sendable f asked
-  good = sendable-again f w k r e size none-wrong area blank-line
+  good = sendable-again f w k r e size none-wrong blank-area blank-line
 
   same-window : w ≡ spanSymbols (r .before) f asked
-  same-window = sent-again f w k r e size none-wrong area blank-line ∙ ap (λ (d : Disparity). spanSymbols d f asked) (sym before-is)
+  same-window = sent-again f w k r e size none-wrong blank-area blank-line ∙ ap (λ (d : Disparity). spanSymbols d f asked) (sym before-is)
 
   after-is : spanAfter (r .before) f asked ≡ r .after
   after-is =

@@ -7,10 +7,10 @@ use mathlib.Core.Option.{Option, none, some}
 use Prim.Native.Nat.{ℕ, suc, _+_, _*_, _/_, _%_, _≤_, _<_}
 use native.Mathlib.Nat.{zero-add}
 use native.Mathlib.Omega.{arith}
-use lib.Dec.{eqb}
+use lib.Dec.{eqb, ltb}
 use lib.ListN.{length, getD, set, take, drop, replicate, length-replicate, getD-replicate, length-append, length-set, length-take, length-drop, take-append-drop}
 use lib.Seq.{ext-getD, getD-set-same, getD-set-other}
-use borrow.Author.Tests.{eq-eqb, ne-eqb, eqb-true, eqb-false}
+use borrow.Author.Tests.{eq-eqb, ne-eqb, eqb-true, eqb-false, lt-ltb, le-ltb, ltb-true, ltb-false}
 use Rattle.ground.specs.Answer.{Answer, refused, given}
 use Rattle.ground.specs.Bit.{inverted}
 use Rattle.ground.specs.Range.{within}
@@ -33,10 +33,10 @@ use Rattle.recording.proofs.Readings.{span-whole}
 use Rattle.delivery.proofs.Steps.{too-few}
 use Rattle.recording.specs.Steps.{runFrom}
 use Rattle.span.specs.Length.{lengthsOf}
-use Rattle.span.specs.Numbers.{IsFormat, Symbols, Samples}
+use Rattle.span.specs.Numbers.{IsFormat, Symbols, Samples, Blank}
 use Rattle.request.specs.Send.{request, sendOf, sentBuffer}
 use Rattle.demands.specs.Demands.{IsRow}
-use Rattle.demands.specs.Examples.{lowestSample, onLine42, blankLine, threeLines, IsNext, At, Examples}
+use Rattle.demands.specs.Examples.{lowestSample, blankSample, otherSample, onLine42, blankLine, threeLines, IsNext, At, Examples}
 use Rattle.demands.specs.Form.{MaySend, Sending, WasSent, sentSymbols, readingOf, spanFound, onward, stepsFrom, DeliveredFrom}
 use Rattle.demands.specs.Live.{arrived, liveFrom, PieceFits}
 use Rattle.demands.proofs.Demands.{demand-1, demand-3}
@@ -112,10 +112,16 @@ module _ (f : Format) (n m : ℕ) (known : IsFormat f) (symbols : Symbols f n) (
   sent-42 : (d : Disparity) → WasSent f (onLine42 f m d)
   sent-42 d = answered d 42 (lowestSample f) (omega arith) (omega arith) lowest-may
 
-  sent-blank : (line : ℕ) → 1 ≤ line → line ≤ 41 → WasSent f (blankLine m line)
+  blank-may : Blank f (blankSample f)
+  blank-may = record {
+    is100 = λ h. simp (lt-ltb (f .component) 5 (omega arith));
+    is800 = λ h. simp (le-ltb (f .component) 5 h);
+  }
+
+  sent-blank : (line : ℕ) → 1 ≤ line → line ≤ 41 → WasSent f (blankLine f m line)
   sent-blank line p q =
-      answered Negative line 0x100 p (omega arith)
-      (record { ten = λ _ h _. absurd (omega arith); twelve = λ _ h _. absurd (omega arith); blanking = λ _. refl })
+      answered Negative line (blankSample f) p (omega arith)
+      (record { ten = λ _ h _. absurd (omega arith); twelve = λ _ h _. absurd (omega arith); blanking = λ _. blank-may })
 
   -- ---- the calls, out of what the demands say of steps
 
@@ -289,7 +295,7 @@ module _ (f : Format) (n m : ℕ) (known : IsFormat f) (symbols : Symbols f n) (
   -- ---- three spans, with a bit of the second inverted
   module _ (i k : ℕ) (h : i < n) (l : k < 10) where
     abbrev line : ℕ → Sending
-    line = blankLine m
+    line = blankLine f m
 
     abbrev three : List ℕ
     three = threeLines f m i k
@@ -385,8 +391,45 @@ module _ (f : Format) (n m : ℕ) (known : IsFormat f) (symbols : Symbols f n) (
         let e-i : sendOf d f wrong (length entry) ≡ refused 6 i = e ∙ ap (λ (j : ℕ). refused 6 j) first in
         (rw room at e-i, send .1 .untouched 6 i e-i)
 
+  -- ---- the blanking words exchanged
+  other-blank : (line : ℕ) → line ≤ 41 → MaySend f line (otherSample f) → ⊥
+  other-blank line q may =
+      let blank = may .blanking (λ a b. omega arith) in
+      on-test (ltb (f .component) 5)
+      (λ t.
+      let is : otherSample f ≡ 0x800 = simp t in
+      let h = ltb-true (f .component) 5 t in
+      omega (arith, is, blank .is100 (omega arith)))
+      (λ t.
+      let is : otherSample f ≡ 0x100 = simp t in
+      omega (arith, is, blank .is800 (ltb-false (f .component) 5 t)))
+
+  module _ (d : Disparity) (line : ℕ) (entry : List ℕ) (p : 1 ≤ line) (q : line ≤ 41) (room : length entry ≡ n) where
+    abbrev exchanged : Request
+    exchanged = request line NoneNamed (replicate m (otherSample f))
+
+    exchanged-long : length (exchanged .samples) ≡ m
+    exchanged-long = length-replicate m (otherSample f)
+
+    never : (k : ℕ) → k < m → MaySend f line (getD (exchanged .samples) k 0) → ⊥
+    never k h may = other-blank line q (rw (getD-replicate m k (otherSample f) 0 h) at may)
+
+    exchanged-6 : (sendOf d f exchanged n ≡ refused 6 0) × (sentBuffer d f exchanged entry ≡ entry)
+    exchanged-6 =
+        let some : 0 < m = ⊎-elim (λ x. omega (arith, x .1)) (⊎-elim (λ x. omega (arith, x .1)) (λ x. omega (arith, x .1))) samples in
+        let send = demand-1 .send d f exchanged entry in
+        let (k, (b, out, before), e) =
+        send .0 .1 known .1 (p, omega arith) .1 (rw exchanged-long samples) .1 (rw room symbols) .0
+        (λ all. never 0 some (all 0 (omega (arith, exchanged-long)))) in
+        let first : k ≡ 0 =
+        on-test (eqb k 0) (eqb-true k 0)
+        (λ t. absurd (never 0 some (before 0 (omega (arith, eqb-false k 0 t))))) in
+        let e-0 : sendOf d f exchanged (length entry) ≡ refused 6 0 = e ∙ ap (λ (j : ℕ). refused 6 j) first in
+        (rw room at e-0, send .1 .untouched 6 0 e-0)
+
   at-format : At f n m
   at-format = record {
+    exchanged6 = exchanged-6;
     row = row;
     sent42 = sent-42;
     sentBlank = sent-blank;
@@ -410,7 +453,7 @@ examples = record {
   noFormat4 = no-format (formatFrom 4 12 1 1 1) (λ k. omega (arith, k .to));
   noDepth11 = no-format (formatFrom 1 11 1 1 1) (λ k. ⊎-elim (λ x. omega (arith, x)) (λ x. omega (arith, x)) (k .bits));
   noComponent0 = no-format (formatFrom 1 12 0 1 1) (λ k. omega (arith, k .component .0));
-  noComponent4 = no-format (formatFrom 1 12 4 1 1) (λ k. omega (arith, k .component .1));
+  noComponent7 = no-format (formatFrom 1 12 7 1 1) (λ k. omega (arith, k .component .1));
   noStructure0 = no-format (formatFrom 1 12 1 0 1) (λ k. omega (arith, k .structure));
   noSize0 = no-format (formatFrom 1 12 1 1 0) (λ k. omega (arith, k .size));
   divides = divides;

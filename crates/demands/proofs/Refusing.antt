@@ -32,13 +32,13 @@ use Rattle.picture.specs.Place.{placedOf}
 use Rattle.dividing.specs.Row.{areRows, splitOf, joinOf}
 use Rattle.line.specs.Stream.{isActive}
 use Rattle.span.specs.declared.format.Format.{Format}
-use Rattle.span.specs.Format.{isKnown, numbered, shapeOf, streams, samplesIn, pairsIn, symbolsIn}
+use Rattle.span.specs.Format.{isKnown, shapeOf, streams, samplesIn, pairsIn, symbolsIn}
 use Rattle.span.specs.Length.{lengthsOf}
-use Rattle.span.specs.Sample.{allowed}
+use Rattle.span.specs.Sample.{allowed, blankWord}
 use Rattle.span.specs.Stream.{Request}
 use Rattle.span.specs.Numbers.{IsFormat, Symbols, Samples}
 use Rattle.span.proofs.Formats.{is-known, known-told}
-use Rattle.span.proofs.Numbers.{symbols-are, samples-are, symbols-told, samples-told}
+use Rattle.span.proofs.Numbers.{symbols-are, samples-are, symbols-told, samples-told, blank-told, blank-is}
 use Rattle.span.specs.Blanking.{fillOf}
 use Rattle.request.specs.Send.{firstForbidden, sendOf}
 use Rattle.window.specs.Read.{placed, spanTests as testsOf, pictureOf, judgeOf, readOf, rowsLeft}
@@ -294,7 +294,7 @@ module _ (f : Format) (known : IsFormat f) (x : ℕ) where
       told ok = record {
         ten = λ e p q. in-range 4 1019 x .told (simp (is-within 42 1121 n p q, eq-eqb (f .depth) 10 e) at ok);
         twelve = λ e p q. in-range 16 4079 x .told (simp (is-within 42 1121 n p q, twelve-is e) at ok);
-        blanking = λ out. eqb-true x 0x100 (simp (not-within 42 1121 n out) at ok);
+        blanking = λ out. blank-told f known x (eqb-true x (blankWord f) (simp (not-within 42 1121 n out) at ok));
       }
 
       holds : MaySend f n x → allowed f n t x ≡ true
@@ -307,7 +307,7 @@ module _ (f : Format) (known : IsFormat f) (x : ℕ) where
           (λ e. simp (active, eq-eqb (f .depth) 10 e) (in-range 4 1019 x .holds (m .ten e p q)))
           (λ e. simp (active, twelve-is e) (in-range 16 4079 x .holds (m .twelve e p q)))
           (known .bits))
-          (λ out. simp out (eq-eqb x 0x100 (m .blanking (outside 42 1121 n out))))
+          (λ out. simp out (eq-eqb x (blankWord f) (blank-is f known x (m .blanking (outside 42 1121 n out)))))
 
 -- ---- calls with a format
 

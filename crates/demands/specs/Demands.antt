@@ -43,7 +43,7 @@ use Rattle.span.specs.Image.{imageOf}
 use Rattle.span.specs.Length.{lengthsOf}
 use Rattle.span.specs.Span.{spanWords, spanSymbols, spanAfter}
 use Rattle.span.specs.Stream.{Request}
-use Rattle.span.specs.Numbers.{IsFormat, Symbols, Samples}
+use Rattle.span.specs.Numbers.{IsFormat, Symbols, Samples, Blank}
 use Rattle.way_back.specs.Back.{backOf}
 use Rattle.way_back.specs.Paper.{WayBackPaper}
 use Rattle.way_back.specs.Undone.{Undone}
@@ -230,8 +230,8 @@ pub record Demand2 : Type 1 where
       → readSpan f w ≡ given r
       → let word = wordOfWindow f w in
       r .repairs .count ≡ 0
-      → ((j t : ℕ) → 1932 ≤ j → j < 1932 + shapeOf f .ancillary → t < streams (shapeOf f) → word j t ≡ 0x100)
-      → ((42 ≤ r .line .0 → r .line .0 ≤ 1121 → ⊥) → (j t : ℕ) → 4 ≤ j → j < 1924 → t < streams (shapeOf f) → word j t ≡ 0x100)
+      → ((j t : ℕ) → 1932 ≤ j → j < 1932 + shapeOf f .ancillary → t < streams (shapeOf f) → Blank f (word j t))
+      → ((42 ≤ r .line .0 → r .line .0 ≤ 1121 → ⊥) → (j t : ℕ) → 4 ≤ j → j < 1924 → t < streams (shapeOf f) → Blank f (word j t))
       → let a = requestOf f r (pictureOf f w) in
       (sendOf (r .before) f a (length w) ≡ given (r .after)) × (w ≡ spanSymbols (r .before) f a)
   -- one wrong bit of a timing word is repaired, and its number told; two are refused: by the single call, and in a span at the first such
@@ -325,9 +325,9 @@ pub record Demand2 : Type 1 where
 
 -- ==== 3 ====
 
--- One format and depth at both ends, the recording within the finder's limit: a sent span that stands whole anywhere in it is delivered
--- with its line number and exactly its picture words, whatever stands around it. In a recording of sent spans alone with one bit inverted,
--- exactly the other spans are delivered, and nothing else is.
+-- One format, one sample depth and one component at both ends, the whole record f, and the recording within the finder's limit: a sent span
+-- that stands whole anywhere in it is delivered with its line number and exactly its picture words, whatever stands around it. In a
+-- recording of sent spans alone with one bit inverted, exactly the other spans are delivered, and nothing else is.
 pub record Demand3 : Type 1 where
   -- the finder answers q if and only if q is at or after the start, the reader accepts there, and accepts at no place between
   pub foundIf :

@@ -1,4 +1,4 @@
--- Examples that meet what the demands ask for, at each format and depth, with their numbers. Each is derived from the demands alone
+-- Examples that meet what the demands ask for, at each known format, with their numbers. Each is derived from the demands alone
 -- (`proofs/Examples`), so none of them is empty: not a demand whose good call may be refused, nor one that delivers nothing, nor one
 -- with a condition that nothing meets.
 -- Assumes nothing.
@@ -7,7 +7,7 @@ use mathlib.Core.Path.{_≡_}
 use mathlib.Core.Bool.{cond}
 use mathlib.Core.List.{List, [], _∷_, _++_}
 use mathlib.Core.Option.{none, some}
-use lib.Dec.{eqb}
+use lib.Dec.{eqb, ltb}
 use lib.ListN.{length, getD, set, take, drop, replicate}
 use Rattle.ground.specs.Answer.{refused, given}
 use Rattle.ground.specs.Bit.{inverted}
@@ -37,18 +37,25 @@ use Rattle.demands.specs.Live.{liveFrom}
 abbrev pub lowestSample : Format → ℕ
 lowestSample f = cond (eqb (f .depth) 10) 4 16
 
+-- the only sample that may be sent on a blanking line, 100, or 800 on a link of C'B or C'R; and the other of the two
+abbrev pub blankSample : Format → ℕ
+blankSample f = cond (ltb (f .component) 5) 0x100 0x800
+
+abbrev pub otherSample : Format → ℕ
+otherSample f = cond (ltb (f .component) 5) 0x800 0x100
+
 -- a span of n symbols and m samples on line 42, the first of the picture, every sample the lowest; and one on a blanking line
 abbrev pub onLine42 : Format → ℕ → Disparity → Sending
 onLine42 f m d = record { before = d; asked = request 42 NoneNamed (replicate m (lowestSample f)) }
 
-abbrev pub blankLine : ℕ → ℕ → Sending
-blankLine m line = record { before = Negative; asked = request line NoneNamed (replicate m 0x100) }
+abbrev pub blankLine : Format → ℕ → ℕ → Sending
+blankLine f m line = record { before = Negative; asked = request line NoneNamed (replicate m (blankSample f)) }
 
 -- three spans, of lines 1, 2 and 3, with bit k of symbol i of the second inverted
 abbrev pub threeLines : Format → ℕ → ℕ → ℕ → List ℕ
 threeLines f m i k =
-    let second = sentSymbols f (blankLine m 2) in
-    sentSymbols f (blankLine m 1) ++ (set second i (inverted k (getD second i 0)) ++ sentSymbols f (blankLine m 3))
+    let second = sentSymbols f (blankLine f m 2) in
+    sentSymbols f (blankLine f m 1) ++ (set second i (inverted k (getD second i 0)) ++ sentSymbols f (blankLine f m 3))
 
 -- the answer of next span: a span at this place, of this line
 pub record IsNext (f : Format) (r : List ℕ) (start room place line : ℕ) : Type 0 where
@@ -67,7 +74,7 @@ pub record At (f : Format) (n m : ℕ) : Type 0 where
   -- a row of the picture, and calls that were sent
   pub row : IsRow f (replicate 3840 (lowestSample f))
   pub sent42 : (d : Disparity) → WasSent f (onLine42 f m d)
-  pub sentBlank : (line : ℕ) → 1 ≤ line → line ≤ 41 → WasSent f (blankLine m line)
+  pub sentBlank : (line : ℕ) → 1 ≤ line → line ≤ 41 → WasSent f (blankLine f m line)
   -- a sent span among noise, less than a span of it before and after: the calls answer it at its place, with its line and words, and then
   -- that there is none
   pub amongNoise :
@@ -120,6 +127,14 @@ pub record At (f : Format) (n m : ℕ) : Type 0 where
       → length entry ≡ n
       → let a = request 42 NoneNamed (set (replicate m (lowestSample f)) i 3) in
       (sendOf d f a n ≡ refused 6 i) × (sentBuffer d f a entry ≡ entry)
+  -- on a blanking line 800 is refused with 6 at the first sample of a link of G', B', R' or Y', and 100 at that of one of C'B or C'R
+  pub exchanged6 :
+      (d : Disparity) (line : ℕ) (entry : List ℕ)
+      → 1 ≤ line
+      → line ≤ 41
+      → length entry ≡ n
+      → let a = request line NoneNamed (replicate m (otherSample f)) in
+      (sendOf d f a n ≡ refused 6 0) × (sentBuffer d f a entry ≡ entry)
   -- as many zeros as a span has symbols are refused with 20 at the first, and the rows are zero afterwards
   pub refused20 :
       (rows : List ℕ)
@@ -137,7 +152,7 @@ pub record Examples : Type 0 where
   pub noFormat4 : lengthsOf (formatFrom 4 12 1 1 1) ≡ refused 1 0
   pub noDepth11 : lengthsOf (formatFrom 1 11 1 1 1) ≡ refused 1 0
   pub noComponent0 : lengthsOf (formatFrom 1 12 0 1 1) ≡ refused 1 0
-  pub noComponent4 : lengthsOf (formatFrom 1 12 4 1 1) ≡ refused 1 0
+  pub noComponent7 : lengthsOf (formatFrom 1 12 7 1 1) ≡ refused 1 0
   pub noStructure0 : lengthsOf (formatFrom 1 12 1 0 1) ≡ refused 1 0
   pub noSize0 : lengthsOf (formatFrom 1 12 1 1 0) ≡ refused 1 0
   -- a row is divided, and what was in the two rows is gone

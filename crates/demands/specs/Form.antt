@@ -14,7 +14,7 @@ use Rattle.symbol.specs.declared.disparity.Disparity.{Disparity}
 use Rattle.span.specs.declared.format.Format.{Format}
 use Rattle.span.specs.Content.{contentOf}
 use Rattle.span.specs.Format.{shapeOf, streams}
-use Rattle.span.specs.Numbers.{Samples}
+use Rattle.span.specs.Numbers.{Samples, Blank}
 use Rattle.span.specs.Span.{spanSymbols, spanAfter}
 use Rattle.span.specs.Stream.{Request, picture}
 use Rattle.window.specs.Encoded.{AreContent}
@@ -31,7 +31,7 @@ use Rattle.window.specs.Read.{noRepairs}
 pub record MaySend (f : Format) (n x : ℕ) : Type 0 where
   pub ten : f .depth ≡ 10 → 42 ≤ n → n ≤ 1121 → (4 ≤ x) × (x ≤ 1019)
   pub twelve : f .depth ≡ 12 → 42 ≤ n → n ≤ 1121 → (16 ≤ x) × (x ≤ 4079)
-  pub blanking : (42 ≤ n → n ≤ 1121 → ⊥) → x ≡ 0x100
+  pub blanking : (42 ≤ n → n ≤ 1121 → ⊥) → Blank f x
 
 -- ---- refusals
 

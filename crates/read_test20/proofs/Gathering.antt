@@ -1,4 +1,4 @@
--- Bits gathered by or, characters that are known, and blanking words in a run of symbols.
+-- Bits gathered by or, characters that are known, and fill words in a run of symbols.
 -- Assumes nothing.
 use mathlib.Core.Path.{_≡_, refl, sym, ap, ap₂, _∙_}
 use mathlib.Core.Bool.{true, not, _&&_}
@@ -20,7 +20,7 @@ use Rattle.decoder.specs.Inside.Mask.{legalBy, maskOf, ofMask}
 use Rattle.decoder.proofs.Masks.{mask-again}
 use Rattle.window.specs.Scan.{meant, symbolAt, runningAt}
 use Rattle.window.proofs.Symbols.{meant-of, running-on}
-use Rattle.read_test20.specs.Inside.Blank.{blankBy}
+use Rattle.read_test20.specs.Inside.Fill.{fillBy}
 use Rattle.read_test20.specs.Inside.Run.{suitsBy, suits, RunInv}
 use Rattle.read_test20.proofs.Runs.{further}
 
@@ -70,27 +70,27 @@ module _ (w : List ℕ) where
       let next : runningAt w (i + 1) ≡ afterOf d c = ap (runningAt w) (add-one i) ∙ running-on w i ∙ rw (same, is, means) refl in
       further w low high g (rw (same, is, legal, means) (is-within low high c above below)) (ap maskOf (sym next))
 
-  -- ---- two blanking words
+  -- ---- two fill words
 
   -- none of the three does
-  pub blank-flat : (d : Disparity) → (afterOf d 0x00 ≡ d) × (afterOf d 0x01 ≡ d) × (afterOf d 0x10 ≡ d)
+  pub fill-flat : (d : Disparity) → (afterOf d 0x00 ≡ d) × (afterOf d 0x01 ≡ d) × (afterOf d 0x10 ≡ d)
   unfolding afterOf
-  blank-flat Negative = (refl, refl, refl)
-  blank-flat Positive = (refl, refl, refl)
+  fill-flat Negative = (refl, refl, refl)
+  fill-flat Positive = (refl, refl, refl)
 
   three : {from i : ℕ} (d : Disparity) → RunInv w 0 255 from i (maskOf d)
       → symbolAt w i ≡ symbolOf d 0x00 → symbolAt w (i + 1) ≡ symbolOf d 0x01 → symbolAt w (i + 1 + 1) ≡ symbolOf d 0x10
       → RunInv w 0 255 from (i + 1 + 1 + 1) (maskOf d)
   three d g x y z =
-      let flat = blank-flat d in
+      let flat = fill-flat d in
       let first = rw (flat .0) at (char-step 0 255 d 0x00 (omega arith) (omega arith) (omega arith) g x) in
       let second = rw (flat .1) at (char-step 0 255 d 0x01 (omega arith) (omega arith) (omega arith) first y) in
       rw (flat .2) at (char-step 0 255 d 0x10 (omega arith) (omega arith) (omega arith) second z)
 
-  pub blank-step : {from i mask : ℕ} → RunInv w 0 255 from i mask
-      → symbolAt w i ≡ blankBy mask .first → symbolAt w (i + 1) ≡ blankBy mask .second → symbolAt w (i + 2) ≡ blankBy mask .third
+  pub fill-step : {from i mask : ℕ} → RunInv w 0 255 from i mask
+      → symbolAt w i ≡ fillBy mask .first → symbolAt w (i + 1) ≡ fillBy mask .second → symbolAt w (i + 2) ≡ fillBy mask .third
       → RunInv w 0 255 from (i + 3) mask
-  blank-step {from} {i} {mask} g x y z =
+  fill-step {from} {i} {mask} g x y z =
       let d = ofMask mask in
       let bit : mask ≡ maskOf d = g .bit ∙ ap maskOf (sym (mask-again (runningAt w i)) ∙ ap ofMask (sym (g .bit))) in
       let third : i + 2 ≡ i + 1 + 1 = omega arith in

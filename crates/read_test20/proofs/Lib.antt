@@ -1,8 +1,9 @@
-pub mod Blanks
+pub mod Fills
 pub mod Gathering
 pub mod Getting
 pub mod Kept
 pub mod Passing
+pub mod Repeating
 pub mod Runs
 pub mod Seeing
 pub mod Streams

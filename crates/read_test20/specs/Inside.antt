@@ -1,4 +1,4 @@
-pub mod Blank
+pub mod Fill
 pub mod Picture
 pub mod Run
 pub mod See

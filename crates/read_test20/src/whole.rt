@@ -17,7 +17,7 @@ ghost use Rattle.window.specs.Scan.{startOf, runningAt};
 ghost use Rattle.window.specs.Inside.Fill.{fillRight};
 ghost use Rattle.window.specs.Inside.Given.{Given};
 ghost use Rattle.read_test20.specs.declared.whole.Outcome.the-variants.{Faulty};
-ghost use Rattle.read_test20.specs.Inside.Blank.{AreBlank};
+ghost use Rattle.read_test20.specs.Inside.Fill.{AreFill};
 ghost use Rattle.read_test20.specs.Inside.Run.{RunInv, ScanInv, place20};
 ghost use Rattle.read_test20.specs.Inside.See.{TenBits, AreBytes, maskBy};
 ghost use Rattle.read_test20.specs.Inside.Whole.{Twice, AllHold, PassedWindow, PassedIf, takenIf, rowsIf, wholeIn, wholeIf, rowsWhole, Begun, EavHolds, Tied, RunTo, Ending};
@@ -127,15 +127,15 @@ fn is_eav(symbols: &[u16], at: usize, flips: u32) -> bool
     false
 }
 
-// What comes after the picture: whether its symbols are valid, whether the last of its runs is blanking words, and what is gathered after it.
+// What comes after the picture: whether its symbols are valid, whether the fill is right, and what is gathered after it.
 struct Ended {
     whole: bool,
     filled: bool,
     flips: u32,
 }
 
-// A run of words: usually blanking words, otherwise any bytes. In haste nothing but blanking words is examined.
-fn run_of(
+// The fill: usually fill words, otherwise any bytes. In haste nothing but fill words is examined.
+fn see_fill(
     t: &[u16; 1024],
     symbols: &[u16],
     from: usize,
@@ -150,11 +150,11 @@ fn run_of(
     requires { ⌜ (to - from) % 3 ≡ 0 ⌝ }
     requires { ⌜ Tied (now symbols) from flips ⌝ }
     ensures whole { λ r. ⌜ (r .whole ≡ true → RunTo (now (symbols .entry)) from to (r .flips)) ⌝ }
-    ensures blank { λ r. ⌜ (r .filled ≡ true → AreBlank (now (symbols .entry)) from to flips) ⌝ }
-    ensures filled { λ r. ⌜ (AreBlank (now (symbols .entry)) from to flips → r .filled ≡ true) ⌝ }
-    ensures kept { λ r. ⌜ (AreBytes (now (symbols .entry)) from to → (haste ≡ true → AreBlank (now (symbols .entry)) from to flips) → r .whole ≡ true) ⌝ }
+    ensures fill { λ r. ⌜ (r .filled ≡ true → AreFill (now (symbols .entry)) from to flips) ⌝ }
+    ensures filled { λ r. ⌜ (AreFill (now (symbols .entry)) from to flips → r .filled ≡ true) ⌝ }
+    ensures kept { λ r. ⌜ (AreBytes (now (symbols .entry)) from to → (haste ≡ true → AreFill (now (symbols .entry)) from to flips) → r .whole ≡ true) ⌝ }
 {
-    if crate::blank::are_blank(symbols, from, to, flips) {
+    if crate::fill::are_fill(symbols, from, to, flips) {
         return Ended {
             whole: true,
             filled: true,
@@ -197,11 +197,11 @@ fn tail_of(t: &[u16; 1024], p: Shape, symbols: &[u16], flips: u32, haste: bool) 
 {
     let from = span::layout::ANCILLARY_SYMBOL * p.stream_pairs;
     let fill = symbols.len() - 3 * p.fill_pairs;
-    let area = run_of(t, symbols, from, fill, flips, false);
-    if !area.whole {
+    let area = crate::area::see_area(t, symbols, from, fill, flips);
+    if !crate::see::passes(area.good) {
         return unended();
     }
-    run_of(t, symbols, fill, symbols.len(), area.flips, haste)
+    see_fill(t, symbols, fill, symbols.len(), area.flips, haste)
 }
 
 // The EAV, the line number and the CRCC, and what follows them.

@@ -8,7 +8,9 @@ use lib.ListN.{length}
 use borrow.Author.Tests.{eq-eqb, ne-eqb, le-leb, lt-leb}
 use Rattle.ground.specs.Answer.{refused, given}
 use Rattle.span.specs.declared.format.Format.{Format}
-use Rattle.span.specs.Format.{numbered, shapeOf, samplesIn, symbolsIn}
+use Rattle.span.specs.Format.{formatFrom, shapeOf, samplesIn, symbolsIn}
+use Rattle.window.specs.Read.{deliveryOf, pictureOf, readSpan}
+use Rattle.window.specs.Tests.{holds25, holds26}
 use Rattle.span.specs.Numbers.{IsFormat, Samples, Symbols}
 use Rattle.span.proofs.Formats.{is-known, unknown}
 use Rattle.span.proofs.Numbers.{symbols-are, samples-are, samples-told}
@@ -17,19 +19,9 @@ use Rattle.delivery.proofs.Keeping.{kept-start, kept-last}
 use Rattle.recording.specs.declared.answer.Spanned.{Spanned}
 use Rattle.recording.specs.Call.{nextOf, endOr, afterNext}
 use Rattle.recording.specs.Paper.{RecordingPaper}
-use Rattle.recording.specs.Recording.{limit}
+use Rattle.recording.specs.Recording.{limit, reading, deliveryFrom}
 use Rattle.recording.proofs.Calling.{find-meets-1, find-meets-3, find-meets-5}
 use Rattle.recording.proofs.Readings.{is-read, not-read, reading-told}
-
--- rows of a span's length, by the table of formats
-module _ (f : Format) (known : IsFormat f) (room : ℕ) where
-  has-room : Samples f room → room ≡ samplesIn (shapeOf f)
-  unfolding shapeOf
-  has-room h = samples-are f room h
-
-  room-told : room ≡ samplesIn (shapeOf f) → Samples f room
-  unfolding shapeOf
-  room-told e = samples-told f room known e
 
 -- the refusals of the next span by the room alone
 module _ (f : Format) (r : List ℕ) (start room : ℕ) where
@@ -46,18 +38,17 @@ module _ (f : Format) (r : List ℕ) (start room : ℕ) where
       unfolding limit
       next-4 x =
           simp
-          (is-known f k, le-leb (length r) 2097152 short, ne-eqb room (samplesIn (shapeOf f)) (λ e. x (room-told f k room e)))
+          (is-known f k, le-leb (length r) 2097152 short, ne-eqb room (samplesIn (shapeOf f)) (λ e. x (samples-told f room k e)))
 
       next-5 : Samples f room → length r < start → nextOf f r start room ≡ refused 5 0
       unfolding limit
       next-5 h b =
           simp
-          (is-known f k, le-leb (length r) 2097152 short, eq-eqb room (samplesIn (shapeOf f)) (has-room f k room h), lt-leb start (length r) b)
+          (is-known f k, le-leb (length r) 2097152 short, eq-eqb room (samplesIn (shapeOf f)) (samples-are f room h), lt-leb start (length r) b)
 
 -- the place after
 module _ (f : Format) (r : List ℕ) (start room n : ℕ) (long : Symbols f n) where
   span-long : n ≡ symbolsIn (shapeOf f)
-  unfolding shapeOf
   span-long = symbols-are f n long
 
   after-span : (s : Spanned) → nextOf f r start room ≡ given (some s) → afterNext f r start room ≡ s .place + n
@@ -70,6 +61,11 @@ module _ (f : Format) (r : List ℕ) (start room n : ℕ) (long : Symbols f n) w
       let at : afterNext f r start room ≡ keptFrom n (length r) start =
       ap (endOr (symbolsIn (shapeOf f)) (length r) start) e ∙ ap (λ (k : ℕ). keptFrom k (length r) start) (sym span-long) in
       (λ h. at ∙ kept-start n (length r) start h, λ h. ap (λ (k : ℕ). k + n) at ∙ kept-last n (length r) start h)
+
+component-unread : (number depth structure size c e : ℕ) (r : List ℕ) (p : ℕ)
+    → deliveryFrom (formatFrom number depth c structure size) r p ≡ deliveryFrom (formatFrom number depth e structure size) r p
+unfolding reading readSpan pictureOf shapeOf holds25 holds26 deliveryOf
+component-unread number depth structure size c e r p = refl
 
 pub recording-paper : RecordingPaper
 unfolding limit
@@ -88,4 +84,5 @@ recording-paper = record {
   afterSpan = λ f r start room n s long e. after-span f r start room n long s e;
   afterNone = λ f r start room n long e. after-none f r start room n long e;
   afterRefusal = λ f r start room number place e. ap (endOr (symbolsIn (shapeOf f)) (length r) start) e;
+  componentUnread = component-unread;
 }

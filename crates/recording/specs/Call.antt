@@ -27,7 +27,7 @@ paperFound UnknownFormat = refused 1 0
 paperFound WrongInput = refused 3 0
 paperFound WrongStart = refused 5 0
 
--- 1 for an unknown format or depth, 3 for a recording that is too long, 5 for a start beyond it
+-- 1 for an unknown format, 3 for a recording that is too long, 5 for a start beyond it
 abbrev pub findRows : Format → List ℕ → ℕ → List Row
 findRows f r start = unless 1 (isKnown f) ∷ unless 3 (leb (length r) limit) ∷ unless 5 (leb start (length r)) ∷ []
 

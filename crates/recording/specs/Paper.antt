@@ -7,13 +7,13 @@ use Prim.Native.Nat.{ℕ, _+_, _≤_, _<_}
 use lib.ListN.{length}
 use Rattle.ground.specs.Answer.{refused, given}
 use Rattle.span.specs.declared.format.Format.{Format}
-use Rattle.span.specs.Format.{shapeOf, symbolsIn}
+use Rattle.span.specs.Format.{formatFrom, shapeOf, symbolsIn}
 use Rattle.span.specs.Numbers.{IsFormat, Samples, Symbols}
 use Rattle.window.specs.declared.delivery.Delivery.{Delivery}
 use Rattle.window.specs.Read.{pictureOf, readSpan}
 use Rattle.recording.specs.declared.answer.Spanned.{Spanned}
 use Rattle.recording.specs.Call.{findOf, nextOf, afterNext}
-use Rattle.recording.specs.Recording.{limit, Reading, reading}
+use Rattle.recording.specs.Recording.{limit, Reading, reading, deliveryFrom}
 
 pub record RecordingPaper : Type 0 where
   -- the finder takes a recording of at most 2,097,152 symbols
@@ -74,3 +74,7 @@ pub record RecordingPaper : Type 0 where
       (f : Format) (r : List ℕ) (start room number place : ℕ)
       → nextOf f r start room ≡ refused number place
       → afterNext f r start room ≡ start
+  -- what is delivered does not depend on the component: a recording of C'B is also delivered as one of Y'
+  pub componentUnread :
+      (number depth structure size c e : ℕ) (r : List ℕ) (p : ℕ)
+      → deliveryFrom (formatFrom number depth c structure size) r p ≡ deliveryFrom (formatFrom number depth e structure size) r p

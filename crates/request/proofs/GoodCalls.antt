@@ -27,7 +27,7 @@ use Rattle.span.specs.Sample.{blankWord}
 use Rattle.span.specs.Span.{spanAfter}
 use Rattle.span.specs.Stream.{Request}
 use Rattle.span.proofs.Formats.{is-known, known-told}
-use Rattle.span.proofs.Numbers.{symbols-are, samples-are, symbols-told, samples-told}
+use Rattle.span.proofs.Numbers.{symbols-are, samples-are, symbols-told, samples-told, blank-told, blank-is}
 use Rattle.request.specs.Laws.{GoodCall, chosenRequest}
 use Rattle.request.specs.Send.{sendOf}
 use Rattle.request.specs.Inside.Check.{firstOutside}
@@ -48,7 +48,7 @@ module _ (f : Format) (n x : ℕ) where
       let other : f .depth ≡ 10 → ⊥ = λ ten. omega arith in
       simp (active, ne-eqb (f .depth) 10 other)
 
-  in-blanking : isActive n ≡ false → inBounds ≡ within 0x100 0x100 x
+  in-blanking : isActive n ≡ false → inBounds ≡ within (blankWord f) (blankWord f) x
   in-blanking t = simp t
 
 -- an answer that is given is no refusal
@@ -72,8 +72,8 @@ module _ (d : Disparity) (f : Format) (a : Request) (room : ℕ) where
       (λ e. let b = g .twelve e p q i h in at-twelve f n x e t ∙ is-within 16 4079 x (b .0) (b .1))
       (g .format .bits))
       (λ t.
-      let e = g .blanking (outside 42 1121 n t) i h in
-      in-blanking f n x t ∙ is-within 0x100 0x100 x (omega arith) (omega arith))
+      let e : x ≡ blankWord f = blank-is f (g .format) x (g .blanking (outside 42 1121 n t) i h) in
+      in-blanking f n x t ∙ is-within (blankWord f) (blankWord f) x (omega arith) (omega arith))
 
   -- a good call is sent
   pub good-is-sent : GoodCall f (a .line) (a .samples) room → sendOf d f a room ≡ given (spanAfter d f a)
@@ -138,7 +138,7 @@ module _ (d : Disparity) (f : Format) (a : Request) (room : ℕ) where
               (from-low 16 4079 _ t, to-high 16 4079 _ t);
           blanking = λ x i h.
               let t = sym (in-blanking f n _ (not-within 42 1121 n x)) ∙ was-inside i h in
-              omega (arith, from-low 0x100 0x100 _ t, to-high 0x100 0x100 _ t);
+              blank-told f k _ (omega (arith, from-low (blankWord f) (blankWord f) _ t, to-high (blankWord f) (blankWord f) _ t));
         }
 
 -- ---- the row that the choice gives
@@ -177,7 +177,9 @@ module _ (d : Disparity) (f : Format) (content : Content) (picture : List ℕ) (
         last = high;
         ten = λ e a b i h. absurd (outside 42 1121 n t a b);
         twelve = λ e a b i h. absurd (outside 42 1121 n t a b);
-        blanking = λ x i h. getD-table (samplesIn (shapeOf f)) (λ k. blankWord f) i 0 (omega (arith, length-table (samplesIn (shapeOf f)) (λ k. blankWord f)));
+        blanking = λ x i h.
+            blank-told f (g .format) _
+            (getD-table (samplesIn (shapeOf f)) (λ k. blankWord f) i 0 (omega (arith, length-table (samplesIn (shapeOf f)) (λ k. blankWord f))));
       }))
 
   pub chosen-is-sent : sendOf d f (chosenRequest f content picture n) room ≡ given (spanAfter d f (chosenRequest f content picture n))

@@ -11,7 +11,7 @@ use Rattle.picture.specs.Choice.{rowOn}
 use Rattle.span.specs.declared.content.Content.{Content}
 use Rattle.span.specs.declared.format.Format.{Format}
 use Rattle.span.specs.Blanking.{blankRow}
-use Rattle.span.specs.Numbers.{IsFormat, Symbols, Samples}
+use Rattle.span.specs.Numbers.{IsFormat, Symbols, Samples, Blank}
 use Rattle.span.specs.Span.{spanAfter}
 use Rattle.span.specs.Stream.{Request}
 use Rattle.request.specs.Send.{request, paperSent, sendOf}
@@ -25,7 +25,7 @@ pub record GoodCall (f : Format) (n : ℕ) (xs : List ℕ) (room : ℕ) : Type 0
   pub last : n ≤ 1125
   pub ten : f .depth ≡ 10 → 42 ≤ n → n ≤ 1121 → (i : ℕ) → i < length xs → (4 ≤ getD xs i 0) × (getD xs i 0 ≤ 1019)
   pub twelve : f .depth ≡ 12 → 42 ≤ n → n ≤ 1121 → (i : ℕ) → i < length xs → (16 ≤ getD xs i 0) × (getD xs i 0 ≤ 4079)
-  pub blanking : (42 ≤ n → n ≤ 1121 → ⊥) → (i : ℕ) → i < length xs → getD xs i 0 ≡ 0x100
+  pub blanking : (42 ≤ n → n ≤ 1121 → ⊥) → (i : ℕ) → i < length xs → Blank f (getD xs i 0)
 
 -- what is asked for on line n with the row that the choice gives of a picture row and a blanking row
 abbrev pub chosenRequest : Format → Content → List ℕ → ℕ → Request

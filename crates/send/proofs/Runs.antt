@@ -14,6 +14,8 @@ use Rattle.symbol.specs.declared.disparity.Disparity.the-variants.{Negative, Po
 use Rattle.symbol.specs.Code.{afterOf}
 use Rattle.encoder.specs.Inside.Tables.{offsetOf, ofOffset}
 use Rattle.span.specs.declared.format.Format.{Format}
+use Rattle.span.specs.Format.{isDifference}
+use Rattle.ground.proofs.Cases.{on-test}
 use Rattle.span.specs.declared.format.Shape.{Shape}
 use Rattle.span.specs.Encoding.{symbolsFrom, afterRun}
 use Rattle.span.specs.Sample.{blankWord}
@@ -146,7 +148,7 @@ zero-stays = kept refl refl
 
 pub blank-stays : (f : Format) → KeepsDisparity (blankWord f)
 unfolding afterRun bytesOf afterOf
-blank-stays f = kept refl refl
+blank-stays f = on-test (isDifference f) (λ t. rw t (kept refl refl)) (λ t. rw t (kept refl refl))
 
 pub fill-stays : KeepsDisparity fillWord
 unfolding afterRun bytesOf afterOf

@@ -1,6 +1,6 @@
 -- Which formats are known, in the paper's own numbers, and what every shape has in common.
 -- Assumes nothing.
-use mathlib.Core.Path.{_≡_, refl, ap, _∙_}
+use mathlib.Core.Path.{_≡_, refl, ap}
 use mathlib.Core.Bool.{Bool, true, false, _&&_, _||_}
 use mathlib.Core.Logic.{_⊎_, inl, inr, ⊎-elim}
 use Prim.Native.Nat.{ℕ, zero, suc, _+_, _*_, _≤_}
@@ -8,13 +8,12 @@ use native.Mathlib.Nat.{mul-le-mul-left}
 use native.Mathlib.Omega.{arith}
 use lib.Dec.{eqb}
 use borrow.Author.Tests.{eq-eqb, eqb-true}
-use Rattle.ground.specs.Range.{within}
 use Rattle.ground.proofs.Cases.{on-test}
 use Rattle.ground.proofs.Ranges.{is-within, from-low, to-high}
 use Rattle.ground.proofs.Tests.{both-left, both-right}
 use Rattle.span.specs.declared.format.Format.{Format}
 use Rattle.span.specs.declared.format.Shape.{Shape}
-use Rattle.span.specs.Format.{isDepth, isKnown, tableRow, numbered, shapeOf}
+use Rattle.span.specs.Format.{isNumber, isDepth, isComponent, isStructure, isSize, isKnown, tableRow, numbered, shapeOf}
 use Rattle.span.specs.Numbers.{IsFormat}
 use Rattle.span.specs.Inside.Format.{Small}
 use Rattle.span.specs.Layout.{ancillaryStart}
@@ -28,38 +27,62 @@ right-of : (a b : Bool) → b ≡ true → (a || b) ≡ true
 right-of true b t = refl
 right-of false b t = t
 
+pub number-known : {n : ℕ} → 1 ≤ n → n ≤ 3 → isNumber n ≡ true
+number-known {n} p q = is-within _ _ n (omega arith) (omega arith)
+
 pub depth-known : {depth : ℕ} → (depth ≡ 10) ⊎ (depth ≡ 12) → isDepth depth ≡ true
 depth-known {depth} bits =
     ⊎-elim (λ e. ap (λ (t : Bool). t || eqb depth 12) (eq-eqb _ _ e)) (λ e. right-of (eqb depth 10) (eqb depth 12) (eq-eqb _ _ e)) bits
 
+pub component-known : {c : ℕ} → 1 ≤ c → c ≤ 6 → isComponent c ≡ true
+component-known {c} p q = is-within _ _ c (omega arith) (omega arith)
+
+pub structure-known : {s : ℕ} → s ≡ 1 → isStructure s ≡ true
+structure-known e = rw e refl
+
+size-known : {s : ℕ} → s ≡ 1 → isSize s ≡ true
+size-known e = rw e refl
+
+-- and no others
+number-told : {n : ℕ} → isNumber n ≡ true → (1 ≤ n) × (n ≤ 3)
+number-told t = (omega (arith, from-low _ _ _ t), omega (arith, to-high _ _ _ t))
+
+component-told : {c : ℕ} → isComponent c ≡ true → (1 ≤ c) × (c ≤ 6)
+component-told t = (omega (arith, from-low _ _ _ t), omega (arith, to-high _ _ _ t))
+
+structure-told : {s : ℕ} → isStructure s ≡ true → s ≡ 1
+structure-told {s} t = eqb-true s _ t
+
+size-told : {s : ℕ} → isSize s ≡ true → s ≡ 1
+size-told {s} t = eqb-true s _ t
+
 module _ (f : Format) where
   abbrev sampling : Bool
-  sampling = eqb (f .structure) 1 && eqb (f .size) 1
+  sampling = isStructure (f .structure) && isSize (f .size)
 
   abbrev carrying : Bool
-  carrying = within 1 3 (f .component) && sampling
+  carrying = isComponent (f .component) && sampling
 
   pub is-known : IsFormat f → isKnown f ≡ true
   is-known k =
       simp
-      (is-within 1 3 (f .number) (k .from) (k .to), depth-known (k .bits), is-within 1 3 (f .component) (k .component .0) (k .component .1), eq-eqb (f .structure) 1 (k .structure), eq-eqb (f .size) 1 (k .size))
+      (number-known (k .from) (k .to), depth-known (k .bits), component-known (k .component .0) (k .component .1), structure-known (k .structure), size-known (k .size))
 
   pub known-told : isKnown f ≡ true → IsFormat f
   known-told t =
-      let in-range = both-left (within 1 3 (f .number)) (isDepth (f .depth) && carrying) t in
-      let deep = both-right (within 1 3 (f .number)) (isDepth (f .depth) && carrying) t in
+      let number = number-told (both-left (isNumber (f .number)) (isDepth (f .depth) && carrying) t) in
+      let deep = both-right (isNumber (f .number)) (isDepth (f .depth) && carrying) t in
       let carries = both-right (isDepth (f .depth)) carrying deep in
-      let component = both-left (within 1 3 (f .component)) sampling carries in
-      let sampled = both-right (within 1 3 (f .component)) sampling carries in
+      let sampled = both-right (isComponent (f .component)) sampling carries in
       record {
-        from = from-low _ _ _ in-range;
-        to = to-high _ _ _ in-range;
+        from = number .0;
+        to = number .1;
         bits =
             ⊎-elim (λ e. inl (eqb-true _ _ e)) (λ e. inr (eqb-true _ _ e))
             (either (eqb (f .depth) 10) (eqb (f .depth) 12) (both-left (isDepth (f .depth)) carrying deep));
-        component = (from-low _ _ _ component, to-high _ _ _ component);
-        structure = eqb-true _ _ (both-left (eqb (f .structure) 1) (eqb (f .size) 1) sampled);
-        size = eqb-true _ _ (both-right (eqb (f .structure) 1) (eqb (f .size) 1) sampled);
+        component = component-told (both-left (isComponent (f .component)) sampling carries);
+        structure = structure-told (both-left (isStructure (f .structure)) (isSize (f .size)) sampled);
+        size = size-told (both-right (isStructure (f .structure)) (isSize (f .size)) sampled);
       }
 
   pub unknown : (IsFormat f → ⊥) → isKnown f ≡ false

@@ -1,18 +1,18 @@
 -- How long a span is: its words, characters and symbols; and document 01's table of formats.
 -- Assumes nothing.
-use mathlib.Core.Path.{_≡_, refl, _∙_}
+use mathlib.Core.Path.{_≡_, _∙_}
 use mathlib.Core.Bool.{true}
 use mathlib.Core.List.{[], _∷_}
 use Prim.Native.Nat.{ℕ, zero, suc, _+_, _*_, _≤_}
 use native.Mathlib.Omega.{arith}
-use lib.ListN.{length, replicate, length-append, length-replicate}
+use lib.ListN.{length, length-append, length-replicate}
 use Rattle.symbol.specs.declared.disparity.Disparity.{Disparity}
 use Rattle.span.specs.declared.format.Format.{Format}
 use Rattle.span.specs.declared.format.Shape.{Shape}
 use Rattle.span.specs.Content.{contentOf}
 use Rattle.span.specs.Format.{isKnown, numbered, shapeOf, streams, pairsIn, symbolsIn, eavAt}
 use Rattle.span.specs.Paper.{columns}
-use Rattle.span.specs.Span.{interleaved, bytes, wordsFromSav, wordsFromEav, spanWords, charsFromSav, charsFromEav, spanChars, spanSymbols, fillWord}
+use Rattle.span.specs.Span.{interleaved, bytes, wordsFromSav, wordsFromEav, spanWords, charsFromSav, charsFromEav, spanChars, spanSymbols}
 use Rattle.span.specs.Stream.{Request, fromSav, fromEav}
 use Rattle.span.specs.Layout.{eavStart}
 use Rattle.span.proofs.Encoding.{length-symbols}
@@ -64,7 +64,7 @@ module _ (f : Format) (a : Request) where
   unfolding wordsFromEav
   length-words-eav =
       let n = 8 + shapeOf f .ancillary in
-      length-append (interleaved (streams (shapeOf f)) n (fromEav f a)) (replicate (2 * shapeOf f .«fill_pairs») fillWord)
+      length-append (interleaved (streams (shapeOf f)) n (fromEav f a)) _
       ∙ rw (length-interleaved (streams (shapeOf f)) n (fromEav f a), length-replicate)
 
   pub length-words : length (spanWords f a) ≡ 2 * pairsIn (shapeOf f)

@@ -8,7 +8,7 @@ use native.Mathlib.Omega.{arith}
 use lib.ListN.{length, getD, replicate, length-append}
 use lib.Seq.{ext-getD}
 use lib.Dec.{ltb}
-use borrow.Author.Tests.{eq-eqb, ne-eqb, lt-ltb, ltb-true, ltb-false}
+use borrow.Author.Tests.{eq-eqb, eqb-true, ne-eqb, lt-ltb, ltb-true, ltb-false}
 use Rattle.ground.specs.Written.{table}
 use Rattle.ground.proofs.Cases.{on-test}
 use Rattle.ground.proofs.Ranges.{is-within, not-within}
@@ -23,7 +23,7 @@ use Rattle.span.specs.declared.format.Format.{Format}
 use Rattle.span.specs.Format.{numbered, shapeOf, streams, samplesIn, pairsIn}
 use Rattle.span.specs.Numbers.{IsFormat}
 use Rattle.span.specs.Paper.{Active, wordOf, SpanPaper}
-use Rattle.span.specs.Sample.{sampleWord}
+use Rattle.span.specs.Sample.{blankWord, sampleWord}
 use Rattle.span.specs.Span.{spanWords, spanChars, bytesListed}
 use Rattle.span.specs.Stream.{Request, sav, picture, eav, lineNumber, register, crcc, ancillary}
 use Rattle.span.proofs.Blank.{fill-meets-1, fill-meets-4}
@@ -32,6 +32,7 @@ use Rattle.span.proofs.Formats.{is-known, unknown}
 use Rattle.span.proofs.Images.{images-of-120, images-of-100, images-of-50}
 use Rattle.span.proofs.LengthCalls.{lengths-refused, lengths-of-120, lengths-of-100, lengths-of-50}
 use Rattle.span.proofs.Lengths.{table-of-formats, known-has-streams, length-of-symbols}
+use Rattle.span.proofs.Numbers.{blank-told, blank-is}
 use Rattle.span.proofs.Places.{sav-words, picture-word, eav-words, line-number-words, crcc-words, ancillary-blank, fill-word, char-at-sync-sav, char-at-sync-eav, char-at, span-symbol-at, word-at-sav, word-at-eav}
 use Rattle.span.proofs.Signals.{signal-is}
 
@@ -175,6 +176,8 @@ module _ (f : Format) (a : Request) (known : IsFormat f) (few : f .number ≤ 2)
 
 pub span-paper : SpanPaper
 span-paper = record {
+  fieldsAsGiven = λ number depth component structure size. (refl, refl, refl, refl, refl);
+  plainIs = λ number depth. refl;
   tableOfFormats = table-of-formats;
   lengths120 = lengths-of-120;
   lengths100 = lengths-of-100;
@@ -188,7 +191,10 @@ span-paper = record {
   images50 = images-of-50;
   namedAsGiven = named-as-given;
   noneNamedZeros = none-named-zeros;
-  blankRowIs = λ f m e. sym (replicate-table (samplesIn (shapeOf f)) 0x100) ∙ ap (λ (k : ℕ). replicate k 0x100) (sym e);
+  blankWordIs = λ f k. blank-told f k (blankWord f) refl;
+  blankAllowed = λ f k n t x out b. simp (not-within 42 1121 n (λ p q. out (p, q))) (eq-eqb x (blankWord f) (blank-is f k x b));
+  blankAlone = λ f k n t x out ok. blank-told f k x (eqb-true x (blankWord f) (simp (not-within 42 1121 n (λ p q. out (p, q))) at ok));
+  blankRowIs = λ f k m w e b. sym (replicate-table (samplesIn (shapeOf f)) (blankWord f)) ∙ ap₂ replicate (sym e) (sym (blank-is f k w b));
   savWords = λ f a t l. let w = sav-words f a t l in (w .0, w .1, w .2);
   savActive = sav-active;
   savBlanking = sav-blanking;
@@ -201,7 +207,7 @@ span-paper = record {
   lineNumberWords = line-number;
   lineNumberLast = line-number-last;
   crccPair = crcc-pair;
-  ancillaryBlank = ancillary-blank;
+  ancillaryBlank = λ f a t k l i h. blank-told f k _ (ancillary-blank f a t l i h);
   fillWords = fill-word;
   savChars = char-at-sync-sav;
   eavChars = λ f a k. char-at-sync-eav f a (has-streams f k);

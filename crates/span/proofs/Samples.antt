@@ -12,6 +12,7 @@ use Rattle.ground.proofs.Cases.{on-test}
 use Rattle.ground.proofs.Ranges.{is-within, from-low, to-high}
 use Rattle.line.specs.Stream.{isActive}
 use Rattle.span.specs.declared.format.Format.{Format}
+use Rattle.span.specs.Format.{isDifference}
 use Rattle.span.specs.Numbers.{IsFormat}
 use Rattle.span.specs.Sample.{blankWord, allowed, sampleWord}
 use Rattle.span.specs.Inside.Sample.{boundsOf}
@@ -28,6 +29,10 @@ one-number b x =
     same-test (eqb x b) (within b b x)
     (λ t. let e : x ≡ b = eqb-true x b t in is-within b b x (omega arith) (omega arith))
     (λ t. eq-eqb x b (omega (arith, from-low _ _ _ t, to-high _ _ _ t)))
+
+-- the blanking word has twelve bits
+pub blank-below : (f : Format) → blankWord f < 4096
+blank-below f = on-test (isDifference f) (λ t. simp t (omega arith)) (λ t. simp t (omega arith))
 
 module _ (f : Format) (k : IsFormat f) (n t x : ℕ) where
   pub allowed-is : allowed f n t x ≡ within (boundsOf f n .low) (boundsOf f n .high) x
@@ -53,7 +58,7 @@ module _ (f : Format) (k : IsFormat f) (n t x : ℕ) where
       on-test (eqb (f .depth) 10)
       (λ ten. let h : x ≤ 1019 = simp (active, ten) at (high-is ok) in simp (active, ten) (omega arith))
       (λ twelve. let h : x ≤ 4079 = simp (active, twelve) at (high-is ok) in simp (active, twelve) (omega arith)))
-      (λ blanking. let h : x ≤ blankWord f = simp blanking at (high-is ok) in simp blanking (omega arith))
+      (λ blanking. let h : x ≤ blankWord f = simp blanking at (high-is ok) in simp blanking (omega (arith, h, blank-below f)))
 
   -- and that word is sent for it
   pub word-is : allowed f n t x ≡ true → sampleWord f n t x ≡ x * boundsOf f n .factor

@@ -10,23 +10,41 @@ use Rattle.span.specs.declared.format.Format.{Format}
 use Rattle.span.specs.declared.format.Shape.{Shape}
 use Rattle.span.specs.Layout.{ancillaryStart}
 
--- a format as a caller writes it: number, depth, component, structure, size. The one place where its record is made.
+-- a format as a caller writes it: number (1, 2, 3: 120, 100, 50 Hz), depth, component (1 G', 2 B', 3 R', 4 Y', 5 C'B, 6 C'R), structure (1:
+-- 4:4:4) and size (1: 4K). 0 is unknown in every field. This is the one place where its record is made.
 abbrev pub formatFrom : ℕ → ℕ → ℕ → ℕ → ℕ → Format
 formatFrom number depth component structure size =
     record { number = number; depth = depth; component = component; structure = structure; size = size }
 
--- that of document 01's base: component 1 is G', structure 1 is 4:4:4, size 1 is 4K
+-- that of document 01's base: G', 4:4:4, 4K
 abbrev pub plainFormat : ℕ → ℕ → Format
 plainFormat number depth = formatFrom number depth 1 1 1
+
+-- 120, 100 and 50 Hz; 10 and 12 bits; G', B', R', Y', C'B and C'R; 4:4:4; 4K
+abbrev pub isNumber : ℕ → Bool
+isNumber number = within 1 3 number
 
 abbrev pub isDepth : ℕ → Bool
 isDepth depth = eqb depth 10 || eqb depth 12
 
--- formats 1 to 3, at 10 or 12 bits, of G', B' and R' (1 to 3), 4:4:4, 4K
+abbrev pub isComponent : ℕ → Bool
+isComponent component = within 1 6 component
+
+abbrev pub isStructure : ℕ → Bool
+isStructure structure = eqb structure 1
+
+abbrev pub isSize : ℕ → Bool
+isSize size = eqb size 1
+
+-- the formats that there are: U1.1, .2, .4 and U1.8, .9, .11 of 004's table 2
 abbrev pub isKnown : Format → Bool
 isKnown f =
-    within 1 3 (f .number)
-    && (isDepth (f .depth) && (within 1 3 (f .component) && (eqb (f .structure) 1 && eqb (f .size) 1)))
+    isNumber (f .number)
+    && (isDepth (f .depth) && (isComponent (f .component) && (isStructure (f .structure) && isSize (f .size))))
+
+-- the link carries a colour difference, C'B or C'R
+abbrev pub isDifference : Format → Bool
+isDifference f = within 5 6 (f .component)
 
 -- a row of the table: s, the ancillary words per stream, the fill words. s and the fill are even and kept as pairs, since the link
 -- takes words two at a time.

@@ -13,7 +13,7 @@ abbrev pub paperLengths : Lengths → Answer SpanLengths
 paperLengths (Known l) = given l
 paperLengths Unknown = refused 1 0
 
--- the samples and symbols of a span; 1 for an unknown format or depth
+-- the samples and symbols of a span; 1 for an unknown format
 abbrev pub lengthsOf : Format → Answer SpanLengths
 lengthsOf f =
     checked (unless 1 (isKnown f) ∷ []) (record { samples = samplesIn (shapeOf f); symbols = symbolsIn (shapeOf f) })

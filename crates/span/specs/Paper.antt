@@ -3,6 +3,7 @@
 -- Assumes nothing.
 use Prim.Native.Nat.{ℕ, _+_, _*_, _≤_, _<_}
 use mathlib.Core.Path.{_≡_}
+use mathlib.Core.Bool.{true}
 use mathlib.Core.List.{List, [], _∷_, _++_}
 use lib.ListN.{length, getD, take, replicate}
 use Rattle.ground.specs.Answer.{refused, given}
@@ -21,10 +22,11 @@ use Rattle.span.specs.declared.format.Format.{Format}
 use Rattle.span.specs.Blanking.{fillOf, blankRow}
 use Rattle.span.specs.Content.{contentOf}
 use Rattle.span.specs.Encoding.{symbolsFrom, afterRun}
-use Rattle.span.specs.Format.{shapeOf, streams, samplesIn, pairsIn, symbolsIn}
+use Rattle.span.specs.Format.{formatFrom, plainFormat, shapeOf, streams, samplesIn, pairsIn, symbolsIn}
 use Rattle.span.specs.Image.{imageOf}
 use Rattle.span.specs.Length.{lengthsOf}
-use Rattle.span.specs.Numbers.{IsFormat}
+use Rattle.span.specs.Numbers.{IsFormat, Blank}
+use Rattle.span.specs.Sample.{blankWord, allowed}
 use Rattle.span.specs.Span.{bytesListed, spanWords, spanChars, spanSymbols, signal}
 use Rattle.span.specs.Stream.{Request}
 
@@ -54,6 +56,12 @@ abbrev pub Active : ℕ → Type 0
 Active n = (42 ≤ n) × (n ≤ 1121)
 
 pub record SpanPaper : Type 0 where
+  -- a format has its fields as they were given, and the plain one is of G', 4:4:4 and 4K
+  pub fieldsAsGiven :
+      (number depth component structure size : ℕ)
+      → let f = formatFrom number depth component structure size in
+      (f .number ≡ number) × (f .depth ≡ depth) × (f .component ≡ component) × (f .structure ≡ structure) × (f .size ≡ size)
+  pub plainIs : (number depth : ℕ) → plainFormat number depth ≡ formatFrom number depth 1 1 1
   -- document 01's table of formats: s, the ancillary words per stream, the fill words, the symbols; and 1920 samples a stream
   pub tableOfFormats :
       (f : Format)
@@ -79,8 +87,12 @@ pub record SpanPaper : Type 0 where
   -- the content bytes are those that a call names, and zeros if it names none (document 01, "Sending")
   pub namedAsGiven : (f : Format) (c : ContentBytes) → contentOf f (Named c) ≡ c
   pub noneNamedZeros : (f : Format) → contentOf f NoneNamed ≡ record { sav1 = 0; sav2 = 0; eav1 = 0; eav2 = 0 }
-  -- a row of blanking is 100 throughout, as long as the samples of a span (document 01, "Sending")
-  pub blankRowIs : (f : Format) (m : ℕ) → m ≡ samplesIn (shapeOf f) → blankRow f ≡ replicate m 0x100
+  -- 6.8: the blanking word is 100 for G', B', R' and Y', and 800 for C'B and C'R, at both depths; so is each sample that may be sent on a
+  -- blanking line, and no other may; and a row of blanking is that word throughout, as long as the samples of a span (document 01, "Sending")
+  pub blankWordIs : (f : Format) → IsFormat f → Blank f (blankWord f)
+  pub blankAllowed : (f : Format) → IsFormat f → (n t x : ℕ) → (Active n → ⊥) → Blank f x → allowed f n t x ≡ true
+  pub blankAlone : (f : Format) → IsFormat f → (n t x : ℕ) → (Active n → ⊥) → allowed f n t x ≡ true → Blank f x
+  pub blankRowIs : (f : Format) → IsFormat f → (m w : ℕ) → m ≡ samplesIn (shapeOf f) → Blank f w → blankRow f ≡ replicate m w
   -- the words of each stream: FFF 000 000, then XYZ of a SAV, 800 on lines 42 to 1121 and AB0 on any other,
   pub savWords :
       (f : Format) (a : Request) (t : ℕ)
@@ -143,13 +155,14 @@ pub record SpanPaper : Type 0 where
       → t < streams (shapeOf f)
       → let c = crc 0 (table 1926 (λ i. wordOf f a (4 + i) t)) in
       (wordOf f a 1930 t ≡ crccWords c .crcc0) × (wordOf f a 1931 t ≡ crccWords c .crcc1)
-  -- the ancillary area, 100 throughout (6.8), and after all streams the fill, 100 too (7.1)
+  -- the ancillary area, blanking words throughout (6.8), and after all streams the fill, 100 whatever the link carries (7.1)
   pub ancillaryBlank :
       (f : Format) (a : Request) (t : ℕ)
+      → IsFormat f
       → t < streams (shapeOf f)
       → (i : ℕ)
       → i < shapeOf f .ancillary
-      → wordOf f a (1932 + i) t ≡ 0x100
+      → Blank f (wordOf f a (1932 + i) t)
   pub fillWords :
       (f : Format) (a : Request) (i : ℕ)
       → i < 2 * shapeOf f .«fill_pairs»

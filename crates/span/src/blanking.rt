@@ -13,14 +13,17 @@ pub enum Filled {
     WrongOutput,
 }
 
-// The blanking word of a link's streams (004, 6.8).
+// The blanking word of a link's streams (004, 6.8), at both depths.
 pub fn blank_word(f: Format) -> u16
     ensures { λ r. ⌜ r ≡ blankWord f ⌝ }
 {
+    if crate::format::is_difference(f) {
+        return 0x800;
+    }
     0x100
 }
 
-// The fill word (004, 7.1).
+// The fill word (004, 7.1), whatever the link carries.
 pub fn fill_word() -> u16
     ensures { λ r. ⌜ r ≡ fillWord ⌝ }
 {

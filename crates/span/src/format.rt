@@ -1,6 +1,6 @@
 // Formats as the caller wrote them, and what the known ones mean (document 01, "A span").
 ghost use mathlib.Core.Path.{_≡_};
-ghost use Rattle.span.specs.Format.{formatFrom, plainFormat, isDepth, isKnown as known, shapeOf};
+ghost use Rattle.span.specs.Format.{formatFrom, plainFormat, isDepth, isKnown as known, isDifference, shapeOf};
 
 // What both ends of a link have agreed on, as the caller wrote it. Any numbers may stand here: the calls that take a format refuse an unknown
 // one. 0 is unknown in every field, so that one which was forgotten is refused and not guessed.
@@ -9,7 +9,7 @@ pub struct Format {
     number: u8,
     // 10, 12 bits.
     depth: u8,
-    // What the link carries: 1 G', 2 B', 3 R'.
+    // What the link carries: 1 G', 2 B', 3 R', 4 Y', 5 C'B, 6 C'R.
     component: u8,
     // 1: 4:4:4.
     structure: u8,
@@ -59,7 +59,7 @@ pub fn is_known(f: Format) -> bool
 {
     if ground::range::within(1, 3, f.number as u16) {
         if is_depth(f.depth) {
-            if ground::range::within(1, 3, f.component as u16) {
+            if ground::range::within(1, 6, f.component as u16) {
                 if f.structure == 1 {
                     return f.size == 1;
                 }
@@ -74,6 +74,13 @@ pub fn depth_of(f: Format) -> u8
     ensures { λ r. ⌜ r ≡ f .depth ⌝ }
 {
     f.depth
+}
+
+// Whether the link carries a colour difference, C'B or C'R.
+pub fn is_difference(f: Format) -> bool
+    ensures { λ r. ⌜ r ≡ isDifference f ⌝ }
+{
+    ground::range::within(5, 6, f.component as u16)
 }
 
 // The shape of a format; all zeros if it is unknown.

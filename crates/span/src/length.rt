@@ -11,7 +11,7 @@ pub struct SpanLengths {
 
 pub enum Lengths {
     Known(SpanLengths),
-    // 1: unknown format or depth.
+    // 1: unknown format.
     Unknown,
 }
 

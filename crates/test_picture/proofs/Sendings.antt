@@ -66,7 +66,7 @@ module _ (f : Format) (n : ℕ) where
       (λ t.
       let inside : i < samplesIn (shapeOf f) = omega (arith, samples-long) in
       rw (are-blanking t, getD-table (samplesIn (shapeOf f)) (λ k. blankWord f) i 0 inside)
-      (simp t (is-within 0x100 0x100 0x100 (omega arith) (omega arith))))
+      (simp t (is-within (blankWord f) (blankWord f) (blankWord f) (omega arith) (omega arith))))
 
   -- so a call with them is refused nothing
   pub is-sent :

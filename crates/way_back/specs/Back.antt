@@ -33,7 +33,7 @@ imageLineOn f link stream n =
 abbrev pub bringsLine : Format → ℕ → ℕ → ℕ → Bool
 bringsLine f link stream n = hasStream f link stream && isActive n
 
--- 1 for an unknown format or depth; 2 if there is no such link or stream, or the stream line carries no picture
+-- 1 for an unknown format; 2 if there is no such link or stream, or the stream line carries no picture
 abbrev pub backRows : Format → ℕ → ℕ → ℕ → List Row
 backRows f link stream n = unless 1 (isKnown f) ∷ unless 2 (bringsLine f link stream n) ∷ []
 

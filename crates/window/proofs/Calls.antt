@@ -1,18 +1,17 @@
 -- Which calls are judged and read, which number each other call meets, and what stands in the rows afterwards, in document 01's own
 -- numbers.
 -- Assumes nothing.
-use mathlib.Core.Path.{_≡_, refl, sym, ap, _∙_}
+use mathlib.Core.Path.{_≡_, ap, _∙_}
 use mathlib.Core.Bool.{Bool, true, false, cond}
 use mathlib.Core.List.{List}
-use mathlib.Core.Logic.{_⊎_, inl, inr, ⊎-elim}
-use Prim.Native.Nat.{ℕ, zero, suc, _≤_}
+use Prim.Native.Nat.{ℕ, _≤_}
 use native.Mathlib.Omega.{arith}
 use lib.Dec.{eqb}
 use lib.ListN.{length, replicate}
 use borrow.Author.Tests.{eq-eqb, ne-eqb, le-ltb}
 use Rattle.ground.specs.Answer.{Answer, refused, given}
 use Rattle.span.specs.declared.format.Format.{Format}
-use Rattle.span.specs.Format.{numbered, shapeOf, samplesIn, symbolsIn}
+use Rattle.span.specs.Format.{shapeOf, samplesIn, symbolsIn}
 use Rattle.span.specs.Numbers.{IsFormat, Symbols, Samples}
 use Rattle.span.proofs.Formats.{is-known, unknown}
 use Rattle.span.proofs.Numbers.{symbols-are, samples-are, symbols-told, samples-told}

@@ -6,7 +6,7 @@ use lib.ListN.{length}
 use Prim.Native.Nat.{ℕ, _+_}
 use Rattle.line.specs.Stream.{lineBefore}
 use Rattle.span.specs.declared.format.Format.{Format}
-use Rattle.span.specs.Format.{shapeOf, streams}
+use Rattle.span.specs.Format.{formatFrom, shapeOf, streams}
 use Rattle.span.specs.Numbers.{IsFormat}
 use Rattle.window.proofs.Accepting.{accepted-told, delivers}
 use native.Mathlib.Omega.{arith}
@@ -24,8 +24,8 @@ use Rattle.ground.specs.Answer.{given}
 use Rattle.word.specs.LineNumber.{ln0, ln1}
 use Rattle.word.specs.Word.{guarded}
 use Rattle.window.specs.declared.delivery.Delivery.{Delivery}
-use Rattle.window.specs.Read.{deliveryOf, readSpan}
-use Rattle.window.specs.Tests.{sumOf}
+use Rattle.window.specs.Read.{deliveryOf, pictureOf, readSpan}
+use Rattle.window.specs.Tests.{sumOf, holds25, holds26}
 use Rattle.window.specs.Words.{wordAt}
 use Rattle.window.specs.Rules.{Names, Follows}
 use Rattle.window.specs.Paper.{wordOfWindow, WindowPaper}
@@ -54,6 +54,14 @@ not-800 : (f : Format) (w : List ℕ) (r : Delivery) → IsFormat f → readSpan
 unfolding ln0 ln1 guarded
 not-800 f w r k e = recital f w (is-known f k) (accepted-told f w r e)
 
+-- of a format the reader asks its shape and its depth alone
+component-unread : (number depth structure size c e : ℕ) (w : List ℕ)
+    → let f = formatFrom number depth c structure size in
+    let g = formatFrom number depth e structure size in
+    (readSpan f w ≡ readSpan g w) × (pictureOf f w ≡ pictureOf g w)
+unfolding readSpan pictureOf shapeOf holds25 holds26 deliveryOf
+component-unread number depth structure size c e w = (refl, refl)
+
 pub window-paper : WindowPaper
 window-paper = record {
   disturbed = λ f a t x k. one-other f a t x (omega (arith, known-has-streams f (is-known f k)));
@@ -73,4 +81,5 @@ window-paper = record {
   bitsInOrder = λ at. (refl, refl, refl, refl, refl, refl, refl, refl, refl, refl, refl, refl);
   addUp = add-up;
   strict = λ f w r k e. strict f w (is-known f k) r e;
+  componentUnread = component-unread;
 }

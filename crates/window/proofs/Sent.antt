@@ -28,7 +28,7 @@ use Rattle.span.specs.Span.{across, interleaved, fillWord, wordsFromSav, wordsF
 use Rattle.span.specs.Stream.{Request, sav, picture, eav, lineNumber, crcc, register, ancillary, fromSav, fromEav}
 use Rattle.span.specs.Layout.{pictureStart, eavStart, lineStart, eavXyz}
 use Rattle.span.proofs.Formats.{known-told}
-use Rattle.span.proofs.Samples.{word-is, word-below}
+use Rattle.span.proofs.Samples.{blank-below, word-is, word-below}
 use Rattle.window.specs.Encoded.{wordIn}
 use Rattle.window.specs.Tests.{mayBring, wordOf, column, registerOf}
 use Rattle.word.specs.Received.{repaired}
@@ -125,7 +125,7 @@ module _ (f : Format) (a : Request) (good : Sendable f a) where
       (both-twelve (lineNumber a) (crcc f a t ++ ancillary f (a .line) t) (pair-twelve (ln0 n) (ln1 n) (ln0-below n) (ln1-below n))
       (both-twelve (crcc f a t) (ancillary f (a .line) t)
       (pair-twelve (crccWords r .crcc0) (crccWords r .crcc1) (guard-below _) (guard-below _))
-      (again-twelve (shapeOf f .ancillary) (blankWord f) (omega arith))))
+      (again-twelve (shapeOf f .ancillary) (blankWord f) (blank-below f))))
 
   -- every word has twelve bits
   pub sent-twelve-bits : (k : ℕ) → wordIn (spanWords f a) k < 4096

@@ -64,7 +64,7 @@ module _ (f : Format) (known : isKnown f ≡ true) (n t x : ℕ) (may : mayBring
       (λ b. rw b)
 
   -- which may be sent, if it is blanking on a blanking line
-  sample-allowed : (isActive n ≡ false → x ≡ 0x100) → allowed f n t (sampleOf f n x) ≡ true
+  sample-allowed : (isActive n ≡ false → x ≡ blankWord f) → allowed f n t (sampleOf f n x) ≡ true
   sample-allowed blanking =
       on-test (isActive n)
       (λ active.
@@ -73,7 +73,7 @@ module _ (f : Format) (known : isKnown f ≡ true) (n t x : ℕ) (may : mayBring
       (λ e. rw active (rw e (received-ten x (rw e at ok) .0)))
       (λ e. rw active (rw e (received-twelve x (rw e at ok) .0)))
       (known-told f known .bits))
-      (λ b. rw b (eq-eqb x 0x100 (blanking b)))
+      (λ b. rw b (eq-eqb x (blankWord f) (blanking b)))
 
 -- ---- words
 
@@ -212,7 +212,7 @@ module _ (f : Format) (known : isKnown f ≡ true) (word : ℕ → ℕ) (m : Pas
       (blankAncillary : (j t : ℕ) → ancillaryStart ≤ j → j < ancillaryStart + shapeOf f .ancillary → t < streams (shapeOf f)
       → wordOf (streams (shapeOf f)) word j t ≡ blankWord f)
       (blankLine : isActive (lineRead (streams (shapeOf f)) word) ≡ false → (j t : ℕ) → pictureStart ≤ j → j < eavStart → t < streams (shapeOf f)
-      → wordOf (streams (shapeOf f)) word j t ≡ 0x100) where
+      → wordOf (streams (shapeOf f)) word j t ≡ blankWord f) where
     -- all words of a stream
     stream-same : (t : ℕ) (l : t < s) (j : ℕ) → j < ancillaryStart + shapeOf f .ancillary → sent t l j ≡ at t l j
     stream-same t l =
@@ -312,7 +312,7 @@ module _ (f : Format) (w : List ℕ) (known : isKnown f ≡ true) (r : Delivery)
       (blankAncillary : (j t : ℕ) → ancillaryStart ≤ j → j < ancillaryStart + shapeOf f .ancillary → t < streams (shapeOf f)
       → wordOf (streams (shapeOf f)) (wordAt (shapeOf f) w) j t ≡ blankWord f)
       (blankLine : isActive (lineRead (streams (shapeOf f)) (wordAt (shapeOf f) w)) ≡ false → (j t : ℕ) → pictureStart ≤ j → j < eavStart
-      → t < streams (shapeOf f) → wordOf (streams (shapeOf f)) (wordAt (shapeOf f) w) j t ≡ 0x100) where
+      → t < streams (shapeOf f) → wordOf (streams (shapeOf f)) (wordAt (shapeOf f) w) j t ≡ blankWord f) where
     abbrev acc : Accepted f w
     acc = accepted-told f w r e
 

@@ -319,5 +319,5 @@ pub record WindowLaws : Type 0 where
       let n = lineRead s (wordAt (shapeOf f) w) in
       repairCount s (wordAt (shapeOf f) w) ≡ 0
       → ((j t : ℕ) → 1932 ≤ j → j < 1932 + shapeOf f .ancillary → t < s → word f w j t ≡ blankWord f)
-      → (isActive n ≡ false → (j t : ℕ) → 4 ≤ j → j < 1924 → t < s → word f w j t ≡ 0x100)
+      → (isActive n ≡ false → (j t : ℕ) → 4 ≤ j → j < 1924 → t < s → word f w j t ≡ blankWord f)
       → Sendable f (requestOf f r (pictureOf f w)) × (w ≡ spanSymbols (startOf w) f (requestOf f r (pictureOf f w)))

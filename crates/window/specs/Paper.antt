@@ -15,7 +15,7 @@ use Rattle.word.specs.Timing.{timingCode}
 use Rattle.span.specs.declared.content.ContentBytes.{ContentBytes}
 use Rattle.span.specs.declared.format.Format.{Format}
 use Rattle.span.specs.Encoding.{afterRun}
-use Rattle.span.specs.Format.{shapeOf, streams, pairsIn}
+use Rattle.span.specs.Format.{formatFrom, shapeOf, streams, pairsIn}
 use Rattle.span.specs.Numbers.{IsFormat, Symbols}
 use Rattle.span.specs.Span.{interleaved, bytes, spanWords}
 use Rattle.span.specs.Stream.{Request}
@@ -160,3 +160,9 @@ pub record WindowPaper : Type 0 where
       → (v h : Bool) (i : ℕ)
       → i < 4
       → getD (bytes (interleaved (2 * half) 4 (λ _. timingCode v h))) i 0 ≡ fixedByte (2 * half) i
+  -- what is read does not depend on the component that the link carries: a span of C'B is also read as one of Y'
+  pub componentUnread :
+      (number depth structure size c e : ℕ) (w : List ℕ)
+      → let f = formatFrom number depth c structure size in
+      let g = formatFrom number depth e structure size in
+      (readSpan f w ≡ readSpan g w) × (pictureOf f w ≡ pictureOf g w)

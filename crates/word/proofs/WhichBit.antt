@@ -2,12 +2,14 @@
 -- Assumes nothing.
 use mathlib.Core.Path.{_≡_, refl, sym, ap, _∙_}
 use mathlib.Core.Bool.{Bool, true, false, cond}
+use mathlib.Core.Logic.{⊎-elim}
 use mathlib.Core.Option.{Option, none, some}
-use Prim.Native.Nat.{ℕ, _^_, _≤_, _<_}
+use Prim.Native.Nat.{ℕ, zero, suc, _+_, _/_, _%_, _^_, _≤_, _<_}
+use native.Mathlib.Nat.{add-zero, zero-add, add-suc, suc-add, pow-suc, div-one, div-div-eq-div-mul, eq-zero-or-pos, pos-of-ne-zero}
 use native.Mathlib.Omega.{arith}
 use lib.Count.{onesIn, trailingZeros}
 use lib.Dec.{eqb}
-use borrow.Author.Tests.{eqb-true, eqb-false, eq-eqb, ne-eqb}
+use borrow.Author.Tests.{eqb-true, eqb-false}
 use Rattle.ground.specs.Bit.{bitIn, inverted}
 use Rattle.ground.specs.Inside.Test.{everyBelow}
 use Rattle.ground.specs.Search.{firstFrom, firstBelow}
@@ -34,22 +36,41 @@ at-told : (n : ℕ) (o : Option ℕ) → isAt n o ≡ true → o ≡ some n
 at-told n none t = let z : _≡_ {A = ℕ} 0 1 = cc in absurd (omega arith)
 at-told n (some k) t = ap some (eqb-true k n t)
 
--- the zeros below it say where it is, and alone it makes up the number
+-- the zeros below it say where it is; n is what is left of x from bit i on
+lowest-from : (x b c i n : ℕ) → b ≤ c → n < 2 ^ b → 0 < n → x / 2 ^ i ≡ n
+    → firstFrom i b (λ k. eqb (bitIn k x) 1) ≡ some (i + trailingZeros c n)
+unfolding firstFrom bitIn trailingZeros
+lowest-from x zero c i n h l p e = absurd (omega arith)
+lowest-from x (suc b) zero i n h l p e = absurd (omega arith)
+lowest-from x (suc b) (suc c) i n h l p e =
+    ⊎-elim
+    (λ (even : n % 2 ≡ 0).
+    let half : x / 2 ^ suc i ≡ n / 2 = rw (pow-suc, ← (div-div-eq-div-mul x (2 ^ i) 2), e) in
+    let up = lowest-from x b c (suc i) (n / 2) (omega arith) (omega (arith, rw pow-suc at l)) (omega arith) half in
+    let t = trailingZeros c (n / 2) in
+    rw (e, even) (up ∙ ap some (suc-add i t ∙ sym (add-suc i t))))
+    (λ (o : 0 < n % 2). let odd : n % 2 ≡ 1 = omega arith in rw (e, odd, add-zero))
+    (eq-zero-or-pos (n % 2))
+
 pub lowest-is : (x : ℕ) → x < 4096 → (x ≡ 0 → ⊥) → lowestOne x ≡ some (trailingZeros 16 x)
-unfolding firstBelow firstFrom bitIn trailingZeros
-lowest-is x h n =
-    let test : ℕ → Bool = λ x. cond (eqb x 0) true (isAt (trailingZeros 16 x) (lowestOne x)) in
-    at-told (trailingZeros 16 x) (lowestOne x) (rw (ne-eqb x 0 n) at (at-number 4096 test refl x h))
+unfolding firstBelow
+lowest-is x h n = rw zero-add at (lowest-from x 12 16 0 x (omega arith) h (pos-of-ne-zero n) (div-one x))
 
-alone : (x : ℕ) → x < 4096 → onesIn 12 x ≡ 1 → 2 ^ trailingZeros 16 x ≡ x
+-- alone it makes up the number
+alone : (b c x : ℕ) → b ≤ c → x < 2 ^ b → 0 < x → onesIn b x ≤ 1 → 2 ^ trailingZeros c x ≡ x
 unfolding onesIn trailingZeros
-alone x h e =
-    let test : ℕ → Bool = λ x. cond (eqb (onesIn 12 x) 1) (eqb (2 ^ trailingZeros 16 x) x) true in
-    eqb-true (2 ^ trailingZeros 16 x) x (rw (eq-eqb (onesIn 12 x) 1 e) at (at-number 4096 test refl x h))
-
--- a number that is not 0, with no more than one one, has one
-has-one : (x : ℕ) → x < 4096 → (x ≡ 0 → ⊥) → onesIn 12 x ≤ 1 → onesIn 12 x ≡ 1
-has-one x h n d = let l : 0 < x = omega (arith, n) in omega (arith, d, some-one 12 x h l)
+alone zero c x h l p d = absurd (omega arith)
+alone (suc b) zero x h l p d = absurd (omega arith)
+alone (suc b) (suc c) x h l p d =
+    let small : x / 2 < 2 ^ b = omega (arith, rw pow-suc at l) in
+    ⊎-elim
+    (λ (even : x % 2 ≡ 0).
+    let rest = alone b c (x / 2) (omega arith) small (omega arith) (omega arith) in
+    rw (even, pow-suc 2 (trailingZeros c (x / 2))) (omega (arith, rest)))
+    (λ (o : 0 < x % 2).
+    let odd : x % 2 ≡ 1 = omega arith in
+    ⊎-elim (λ (none : x / 2 ≡ 0). rw odd (omega arith)) (λ q. absurd (omega (arith, some-one b (x / 2) small q))) (eq-zero-or-pos (x / 2)))
+    (eq-zero-or-pos (x % 2))
 
 -- ---- two words
 
@@ -86,7 +107,7 @@ module _ (a b : ℕ) where
         let q : Bit (trailingZeros 16 x) ≡ Bit k = sym (some-bit n) ∙ e in
         let is : trailingZeros 16 x ≡ k = cc in
         let small = ⊕-below 12 a b h l in
-        let power : 2 ^ k ≡ x = rw is at (alone x small (has-one x small n d)) in (
+        let power : 2 ^ k ≡ x = rw is at (alone 12 16 x (omega arith) small (pos-of-ne-zero n) d) in (
           omega (arith, bit-below n),
           inverted-⊕ k a ∙ ap (λ (y : ℕ). a ⊕ y) power ∙ sym (⊕-assoc a a b) ∙ rw (⊕-self, zero-⊕),
         ))

@@ -22,6 +22,7 @@ pub fn given(format: Format) -> brazulint::Format {
     brazulint::Format::plain(format.number, format.depth).carrying(format.component)
 }
 
+#[derive(Clone)]
 pub struct Case {
     pub label: &'static str,
     pub format: Format,
@@ -36,7 +37,22 @@ pub const CASES: [Case; 5] = [
     Case { label: "format 1, a blanking line", format: Format::plain(1, 12), line: 1 },
 ];
 
+/// Cases in which the components are measured side by side.
+pub const BESIDE: [Case; 6] = [
+    Case { label: "format 1, 12 bits", format: Format::plain(1, 12), line: 100 },
+    Case { label: "format 2, 12 bits", format: Format::plain(2, 12), line: 100 },
+    Case { label: "format 3, 12 bits", format: Format::plain(3, 12), line: 100 },
+    Case { label: "format 1, a blanking line", format: Format::plain(1, 12), line: 1 },
+    Case { label: "format 2, a blanking line", format: Format::plain(2, 12), line: 1 },
+    Case { label: "format 3, a blanking line", format: Format::plain(3, 12), line: 1 },
+];
+
 impl Case {
+    /// The same for another component.
+    pub fn carrying(&self, component: u32) -> Case {
+        Case { format: self.format.carrying(component), ..self.clone() }
+    }
+
     pub fn shape(&self) -> Shape {
         shape_of(self.format)
     }

@@ -1,6 +1,7 @@
 //! What is measured: each operation by the library, by the version written to be fast and by the plain one. Before that, all of them are
 //! tried once on the measured input, and have to agree.
 
+pub mod components;
 mod delivering;
 mod finding;
 mod judging;
@@ -10,6 +11,9 @@ mod sending;
 
 use crate::cases::WIRE;
 use crate::timing::Three;
+
+/// One run of a version.
+type Run<'a> = Box<dyn FnMut() + 'a>;
 
 /// The speeds in one case, in millions a second: of samples for split and join, otherwise of symbols.
 pub struct Speeds {

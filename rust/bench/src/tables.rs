@@ -2,6 +2,7 @@
 
 use crate::cases::WIRE;
 use crate::growth::{Growth, LENGTHS, SHORTEST};
+use crate::operations::components::Beside;
 use crate::operations::Speeds;
 
 /// A whole number with a comma between groups of three digits.
@@ -20,6 +21,20 @@ pub fn speeds(all: &[Speeds]) -> String {
         let [over_wire, over_fast, over_plain] = [wire, fast, plain].map(|other| library / other);
         let rate = grouped(*library);
         table += &format!("| {operation} | {case} | {rate} | {over_wire:.2} | {over_fast:.2} | {over_plain:.1} |\n");
+    }
+    table
+}
+
+/// C'B beside Y'.
+pub fn components(all: &[Beside]) -> String {
+    let mut table = String::from(
+        "| operation | case | Y', library, M symbols/s | C'B, library, M symbols/s | C'B, times the speed of Y' \
+         | the same, hand-optimised | C'B, times the hand-optimised version's speed |\n|---|---|--:|--:|--:|--:|--:|\n",
+    );
+    for Beside { operation, case, library: [luma, difference], fast: [fast_luma, fast_difference] } in all {
+        let [of_library, of_fast, over_fast] = [difference / luma, fast_difference / fast_luma, difference / fast_difference];
+        let rates = [luma, difference].map(|rate| grouped(*rate)).join(" | ");
+        table += &format!("| {operation} | {case} | {rates} | {of_library:.2} | {of_fast:.2} | {over_fast:.2} |\n");
     }
     table
 }

@@ -11,7 +11,8 @@ pub struct Format {
     pub number: u32,
     /// 10 or 12 bits.
     pub depth: u32,
-    /// The component of the picture that the link carries: `Format::G`, `Format::B`, `Format::R`.
+    /// The component of the picture that the link carries: `Format::G`, `Format::B`, `Format::R`, `Format::Y`, `Format::CB`, `Format::CR`.
+    /// The last two blank at 0x800, the others at 0x100. What is read does not depend on it.
     pub component: u32,
     /// The sampling structure: `Format::SAMPLING_444`.
     pub structure: u32,
@@ -27,6 +28,9 @@ impl Format {
     pub const G: u32 = 1;
     pub const B: u32 = 2;
     pub const R: u32 = 3;
+    pub const Y: u32 = 4;
+    pub const CB: u32 = 5;
+    pub const CR: u32 = 6;
 
     pub const SAMPLING_444: u32 = 1;
     pub const SIZE_4K: u32 = 1;

@@ -92,7 +92,15 @@ pub fn carries_picture(line: StreamLine) -> bool {
     call!(brazulint4_carries_picture(line))
 }
 
-/// Fills a row with the blanking samples of all streams. Refusals 1 and 4.
+/// Fills a row with the blanking samples of all streams, which are those of the format's component. Refusals 1 and 4.
+///
+/// ```
+/// use brazulint::{fill_blanking, Format};
+///
+/// let (luma, mut row) = (Format::plain(Format::HZ_50, 10).carrying(Format::Y), [0; 7680]);
+/// assert!(fill_blanking(luma, &mut row) == Ok(()) && row == [0x100; 7680]);
+/// assert!(fill_blanking(luma.carrying(Format::CB), &mut row) == Ok(()) && row == [0x800; 7680]);
+/// ```
 pub fn fill_blanking(format: Format, row: &mut [u16]) -> Result<(), Refusal> {
     Refusal::check(call!(brazulint4_fill_blanking(format, row.as_mut_ptr(), row.len())), 0)
 }

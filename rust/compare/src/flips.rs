@@ -1,4 +1,4 @@
-//! Every bit of every symbol of whole sent spans, inverted: each such span is refused.
+//! Every bit of every symbol of whole sent spans, inverted: each such span is refused. Two of them blank at 800, two at 100.
 
 use crate::calls;
 use crate::report::{in_two, Report};
@@ -7,13 +7,13 @@ use plain::format::Format;
 use random::Random;
 
 pub fn format_1() -> Report {
-    let mut r = all_flips(Format::plain(1, 12), 700);
-    r.add(all_flips(Format::plain(1, 10), 1124));
+    let mut r = all_flips(Format::plain(1, 12).carrying(5), 700);
+    r.add(all_flips(Format::plain(1, 10).carrying(6), 1124));
     r
 }
 
 pub fn format_2() -> Report {
-    all_flips(Format::plain(2, 10), 300)
+    all_flips(Format::plain(2, 10).carrying(4), 300)
 }
 
 pub fn format_3() -> Report {

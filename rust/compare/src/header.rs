@@ -14,13 +14,16 @@ fn header_name(refusal: Refusal) -> String {
 }
 
 /// What a format is made of, by its names.
-const OF_FORMATS: [(&str, u32); 8] = [
+const OF_FORMATS: [(&str, u32); 11] = [
     ("120_HZ", Format::HZ_120),
     ("100_HZ", Format::HZ_100),
     ("50_HZ", Format::HZ_50),
     ("G", Format::G),
     ("B", Format::B),
     ("R", Format::R),
+    ("Y", Format::Y),
+    ("CB", Format::CB),
+    ("CR", Format::CR),
     ("444", Format::SAMPLING_444),
     ("4K", Format::SIZE_4K),
 ];

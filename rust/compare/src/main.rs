@@ -1,5 +1,7 @@
 //! Compares the library with the plain implementation: `compare list`, `compare NAME [--seed N] [--calls N]`, `compare night [MINUTES]`.
 
+mod areas;
+mod blanking;
 mod calls;
 mod characters;
 mod damage;
@@ -26,15 +28,17 @@ use std::process::ExitCode;
 type Comparison = fn() -> Report;
 
 /// All comparisons except the random one.
-const COMPARISONS: [(&str, Comparison); 12] = [
+const COMPARISONS: [(&str, Comparison); 14] = [
     ("header", header::run),
     ("vectors", vectors::run),
     ("characters", characters::run),
     ("words", words::run),
     ("pictures", pictures::run),
     ("sending", sending::run),
+    ("blanking", blanking::run),
     ("refused-calls", refused_calls::run),
     ("reading", reading::run),
+    ("areas", areas::run),
     ("flips-1", flips::format_1),
     ("flips-2", flips::format_2),
     ("flips-3", flips::format_3),

@@ -1,7 +1,7 @@
 //! What recordings are made of: sent spans, and things that look like spans or keep them from being found.
 
 use crate::damage::{damaged, some_xyzs, DAMAGES};
-use crate::spans::{any_sent, shape_of, Draft};
+use crate::spans::{any_carrying, any_sent, shape_of, Draft};
 use plain::code::{encode, K28_5};
 use plain::format::Format;
 use random::Random;
@@ -25,12 +25,13 @@ const PIECES: [Piece; 14] = [
     |random, format| changed(random, format, inverted),
 ];
 
-/// Random pieces, until there are that many symbols.
+/// Random pieces, until there are that many symbols. Each is of any component: reading does not depend on it.
 pub fn any_recording(random: &mut Random, format: Format, symbols: usize) -> Vec<u16> {
     let mut recording = Vec::new();
     while recording.len() < symbols {
-        let piece = random.pick(&PIECES)(random, format);
-        recording.extend(piece);
+        let piece = random.pick(&PIECES);
+        let format = any_carrying(random, format);
+        recording.extend(piece(random, format));
     }
     recording
 }

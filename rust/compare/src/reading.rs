@@ -3,7 +3,7 @@
 use crate::calls;
 use crate::damage::{bit_of_xyzs, damaged, DAMAGES};
 use crate::report::{in_two, Report};
-use crate::spans::{any_line, shape_of, Draft, EDGES, KINDS};
+use crate::spans::{any_carrying, any_line, every_second, shape_of, Draft, COMPONENTS, EDGES, KINDS};
 use plain::format::Format;
 use random::Random;
 use std::sync::atomic::{AtomicU64, Ordering};
@@ -25,6 +25,7 @@ pub struct Met {
 pub fn run() -> Report {
     let met = Met::default();
     let mut r = in_two(valid);
+    r.add(in_two(as_each_component));
     r.add(in_two(|part, r| single(part, r, &met)));
     r.add(in_two(|part, r| pairs(part, r, &met)));
     r.add(in_two(service_bits));
@@ -45,10 +46,10 @@ pub fn run() -> Report {
     r
 }
 
-/// Sent spans of every format and depth are delivered, with what was sent.
+/// Sent spans of every format, depth and component are delivered, with what was sent.
 fn valid(part: usize, r: &mut Report) {
     let mut random = Random(0xBB + part as u64);
-    for format in KINDS.into_iter().skip(part).step_by(2) {
+    for format in every_second(part) {
         let edges = EDGES.into_iter().chain([2, 43, 127, 128, 255, 256, 1123, 1124]);
         let lines: Vec<u32> = edges.chain((0..40).map(|_| random.within(1, 1125))).collect();
         for line in lines {
@@ -59,6 +60,25 @@ fn valid(part: usize, r: &mut Report) {
             calls::judge(r, format, &symbols);
             let same = read.is_ok_and(|d| (d.line, d.content, d.positive_before) == (line, draft.content, draft.positive));
             r.holds(|| format!("{format:?}, line {line} is not read as it was sent"), same);
+        }
+    }
+}
+
+/// A span is read alike as whatever component: one of C'B as Y', and as any other. Sent as it should be, and with a damage.
+fn as_each_component(part: usize, r: &mut Report) {
+    let mut random = Random(0x131 + part as u64);
+    for (format, line) in every_second(part).flat_map(|format| EDGES.map(|line| (format, line))) {
+        let (name, damage) = random.pick(&[DAMAGES[0], DAMAGES[random.0 as usize % DAMAGES.len()]]);
+        let draft = Draft::of_line(&mut random, format, line);
+        let samples = draft.shape.samples();
+        let symbols = damaged(&mut random, draft, &[damage], true);
+        r.context = format!("line {line} of component {}, damage: {name}", format.component);
+        let own = calls::read(r, format, &symbols, samples);
+        for other in COMPONENTS.map(|component| format.carrying(component)) {
+            let read = calls::read(r, other, &symbols, samples);
+            r.holds(|| format!("read as component {} it is another span", other.component), read == own);
+            calls::judge(r, other, &symbols);
+            calls::next(r, other, &symbols, 0, samples);
         }
     }
 }
@@ -88,7 +108,8 @@ fn single(part: usize, r: &mut Report, met: &Met) {
         for damage in (0..DAMAGES.len()).skip(part).step_by(2) {
             let some = [random.within(43, 1119), random.within(1, 39), random.within(42, 1121)];
             for line in EDGES.into_iter().chain(some) {
-                read_damaged(r, &mut random, kind, line, &[damage], met);
+                let format = any_carrying(&mut random, kind);
+                read_damaged(r, &mut random, format, line, &[damage], met);
             }
         }
     }
@@ -100,7 +121,8 @@ fn pairs(part: usize, r: &mut Report, met: &Met) {
     for one in (0..DAMAGES.len()).skip(part).step_by(2) {
         for two in 0..DAMAGES.len() {
             for number in 1..=3 {
-                let format = Format::plain(number, random.pick(&[10, 12]));
+                let kind = Format::plain(number, random.pick(&[10, 12]));
+                let format = any_carrying(&mut random, kind);
                 let line = if random.flip() { random.within(42, 1121) } else { random.pick(&EDGES) };
                 read_damaged(r, &mut random, format, line, &[one, two], met);
             }
@@ -112,8 +134,8 @@ fn pairs(part: usize, r: &mut Report, met: &Met) {
 /// not cover, the CRCC stays as it is; otherwise it is mended or not.
 fn service_bits(part: usize, r: &mut Report) {
     let mut random = Random(0xFF + part as u64);
-    for format in KINDS.into_iter().skip(part).step_by(2) {
-        let line = random.pick(&EDGES);
+    for kind in KINDS.into_iter().skip(part).step_by(2) {
+        let (format, line) = (any_carrying(&mut random, kind), random.pick(&EDGES));
         let draft = Draft::of_line(&mut random, format, line);
         for k in (0..4).chain(1924..1932) {
             for (t, bit) in (0..draft.shape.streams).flat_map(|t| (0..12).map(move |bit| (t, bit))) {
@@ -134,9 +156,9 @@ fn service_bits(part: usize, r: &mut Report) {
 /// those that were put in. Where there are fewer than eight XYZs, the sets come more often.
 fn timing_words(part: usize, r: &mut Report, met: &Met) {
     let mut random = Random(0x121 + part as u64);
-    for format in KINDS.into_iter().skip(part).step_by(2) {
+    for kind in KINDS.into_iter().skip(part).step_by(2) {
         for set in 0..512 {
-            let line = any_line(&mut random);
+            let (format, line) = (any_carrying(&mut random, kind), any_line(&mut random));
             let mut draft = Draft::of_line(&mut random, format, line);
             let wrong = bit_of_xyzs(&mut random, &mut draft, set);
             let mut of_bit = [0; 12];
@@ -159,15 +181,16 @@ fn row_limits(part: usize, r: &mut Report, met: &Met) {
     let mut random = Random(0x111 + part as u64);
     for kind in KINDS {
         for line in [[42, 1122], [1121, 41]][part] {
-            let draft = Draft::of_line(&mut random, kind, line);
-            for word in [0, 12, 15, 16, 17, 18, 19, 20, 0x0FF, 0x7FF, 4076, 4077, 4079, 4080, 4095] {
+            let format = any_carrying(&mut random, kind);
+            let draft = Draft::of_line(&mut random, format, line);
+            for word in [0, 12, 15, 16, 17, 18, 19, 20, 0x0FF, 0x100, 0x7FF, 0x800, 4076, 4077, 4079, 4080, 4095] {
                 for k in [4, 4 + random.below(1920), 1923] {
                     let mut changed = draft.clone();
                     let at = changed.at(k, random.below(draft.shape.streams));
                     changed.words[at] = word;
                     changed.mend();
                     r.context = format!("line {line}, word {word:#x} at {at}");
-                    read_and_judge(r, kind, &changed.symbols(), met);
+                    read_and_judge(r, format, &changed.symbols(), met);
                 }
             }
         }

@@ -4,7 +4,7 @@ use crate::calls;
 use crate::expected;
 use crate::pieces::{any_recording, any_start, inserted, inverted, lost, noise};
 use crate::report::{in_two, Report};
-use crate::spans::{any_asked, any_samples, any_sent, shape_of, KINDS};
+use crate::spans::{any_asked, any_carrying, any_samples, any_sent, shape_of, KINDS};
 use brazulint::{Content, Delivery, Live, Span, StreamLine};
 use plain::format::Format;
 use plain::span::{row_words, send, Asked};
@@ -24,7 +24,8 @@ pub fn run() -> Report {
 fn live(part: usize, r: &mut Report) {
     let mut random = Random(0x505 + part as u64);
     for round in 0..25 {
-        for format in KINDS {
+        for kind in KINDS {
+            let format = any_carrying(&mut random, kind);
             let (symbols, longest) = (random.below(80_000), [2, 100, 5_000, 20_000, 60_000][round % 5]);
             r.context = format!("round {round} of half {part}, pieces of less than {longest}");
             in_pieces(r, &mut random, format, symbols, longest);
@@ -51,8 +52,8 @@ pub fn in_pieces(r: &mut Report, random: &mut Random, format: Format, symbols: u
 fn any_recordings(part: usize, r: &mut Report) {
     let mut random = Random(0x101 + part as u64);
     for round in 0..25 {
-        for format in KINDS {
-            let symbols = random.below(60_000);
+        for kind in KINDS {
+            let (format, symbols) = (any_carrying(&mut random, kind), random.below(60_000));
             r.context = format!("round {round} of half {part}");
             search(r, &mut random, format, symbols);
         }
@@ -74,7 +75,7 @@ pub fn search(r: &mut Report, random: &mut Random, format: Format, symbols: usiz
 fn at_every_place(part: usize, r: &mut Report) {
     let mut random = Random(0x202 + part as u64);
     for place in (part..260).step_by(2) {
-        let format = KINDS[place / 2 % 6];
+        let format = any_carrying(&mut random, KINDS[place / 2 % 6]);
         let span = any_sent(&mut random, format);
         let recording = [random.numbers(place, 1024), span, noise(&mut random)].concat();
         r.context = format!("a span at {place}");
@@ -95,7 +96,7 @@ const DISTANCES: [usize; 12] = [1, 2, 3, 4, 63, 64, 65, 128, 129, 130, 200, 1000
 fn pairs(part: usize, r: &mut Report) {
     let mut random = Random(0x505 + part as u64);
     for (round, distance) in DISTANCES.into_iter().enumerate() {
-        let format = KINDS[(2 * round + part) % 6];
+        let format = any_carrying(&mut random, KINDS[(2 * round + part) % 6]);
         let (span, other) = (any_sent(&mut random, format), any_sent(&mut random, format));
         let length = span.len();
         let count = random.pick(&[distance, 700, length - 1, length + 1, 2 * length]);
@@ -147,7 +148,7 @@ fn delivery(asked: Asked, positive_after: bool) -> Delivery {
 fn one_bit(part: usize, r: &mut Report) {
     let mut random = Random(0x303 + part as u64);
     for round in 0..300 {
-        let format = KINDS[round % 6];
+        let format = any_carrying(&mut random, KINDS[round % 6]);
         let spans = chain(&mut random, format, 1 + round as u32 % 4);
         let mut recording: Vec<u16> = spans.iter().flat_map(|span| span.symbols.iter().copied()).collect();
         let at = random.below(recording.len());
@@ -182,7 +183,7 @@ fn delivers<'a>(r: &mut Report, format: Format, recording: &[u16], spans: impl I
 fn one_symbol(part: usize, r: &mut Report) {
     let mut random = Random(0x404 + part as u64);
     for round in 0..90 {
-        let format = KINDS[round % 6];
+        let format = any_carrying(&mut random, KINDS[round % 6]);
         let spans = chain(&mut random, format, 2);
         let recording: Vec<u16> = spans.into_iter().flat_map(|span| span.symbols).collect();
         let change = [inserted, lost, inverted][round / 6 % 3];

@@ -3,7 +3,7 @@
 use crate::calls;
 use crate::expected;
 use crate::report::{in_two, Report};
-use crate::spans::{any_asked, any_samples, any_sent, shape_of, COMPONENTS, FIELDS, KINDS};
+use crate::spans::{any_asked, any_carrying, any_samples, any_sent, shape_of, COMPONENTS, FIELDS, KINDS};
 use brazulint::{raw, Request, StreamLine};
 use plain::format::Format;
 use plain::recording::LIMIT;
@@ -14,7 +14,7 @@ use std::ptr::{null, null_mut};
 const NUMBERS: [u32; 9] = [0, 1, 2, 3, 4, 5, 257, 65_537, u32::MAX];
 const DEPTHS: [u32; 10] = [0, 8, 10, 11, 12, 14, 266, 268, 65_546, u32::MAX];
 /// One above the highest known number of each field.
-const ABOVE: [u32; 5] = [4, 13, 4, 2, 2];
+const ABOVE: [u32; 5] = [4, 13, 7, 2, 2];
 const LINES: [u32; 10] = [0, 1, 41, 42, 1121, 1122, 1125, 1126, 65_578, u32::MAX];
 const SAMPLES: [usize; 7] = [0, 3839, 3840, 3841, 7679, 7680, 7681];
 const SYMBOLS: [usize; 10] = [0, 7919, 7920, 7921, 9503, 9504, 9505, 19_007, 19_008, 19_009];
@@ -96,16 +96,20 @@ fn every_call(r: &mut Report, format: Format, samples: &[u16], span: &[u16]) {
 /// Every format, line and length; samples that may be sent on the line, or not.
 fn sends(part: usize, r: &mut Report) {
     let mut random = Random(0x66 + part as u64);
-    let blanking = [0x100; 7681];
-    let zeros = [0; 7681];
+    let [zeros, blanking, of_differences] = [0, 0x100, 0x800].map(|word| [word; 7681]);
     each_kind(part, |format| {
         for line in LINES {
             for count in SAMPLES {
                 let room = random.pick(&SYMBOLS);
                 let other = random.pick(&SYMBOLS);
-                for (given, room) in
-                    [(&blanking, room), (&zeros, room), (&zeros, other), (&blanking, 7920), (&zeros, 9504), (&zeros, 19_008)]
-                {
+                for (given, room) in [
+                    (&blanking, room),
+                    (&of_differences, room),
+                    (&zeros, other),
+                    (&blanking, 7920),
+                    (&of_differences, 9504),
+                    (&zeros, 19_008),
+                ] {
                     let positive = random.flip();
                     let asked = any_asked(&mut random, format, line, positive);
                     let _ = calls::send(r, asked, &given[..count], room);
@@ -118,10 +122,11 @@ fn sends(part: usize, r: &mut Report) {
 /// Good samples with one or two that are just outside what may be sent, or far outside.
 fn samples(part: usize, r: &mut Report) {
     let mut random = Random(0x77 + part as u64);
-    for format in KINDS.into_iter().skip(part).step_by(2) {
+    for kind in KINDS.into_iter().skip(part).step_by(2) {
         for line in [1, 41, 42, 600, 1121, 1122, 1125] {
+            let format = any_carrying(&mut random, kind);
             let good = any_samples(&mut random, format, line);
-            for value in [0, 3, 4, 15, 16, 0xFF, 0x100, 0x101, 1019, 1020, 4079, 4080, 4095, 4096, 0x1100, 65_535] {
+            for value in [0, 3, 4, 15, 16, 0xFF, 0x100, 0x101, 1019, 1020, 0x7FF, 0x800, 0x801, 4079, 4080, 4095, 4096, 0x1100, 65_535] {
                 let middle = random.below(good.len());
                 for places in [[0, 0], [good.len() - 1; 2], [middle; 2], [middle, 1919], [1920, good.len() - 1]] {
                     let mut given = good.clone();

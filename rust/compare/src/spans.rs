@@ -2,15 +2,15 @@
 
 use plain::format::Format;
 use plain::span::{characters, row_words, shape, symbols, words, Asked, Shape};
-use plain::words::{crcc_of, is_active, nearest, BLANKING};
+use plain::words::{blanking, crcc_of, is_active, nearest};
 use random::Random;
 
 /// Every format at every depth, of G'.
 pub const KINDS: [Format; 6] =
     [Format::plain(1, 10), Format::plain(1, 12), Format::plain(2, 10), Format::plain(2, 12), Format::plain(3, 10), Format::plain(3, 12)];
 
-/// The components that a link may carry.
-pub const COMPONENTS: [u32; 3] = [1, 2, 3];
+/// The components that a link may carry: G', B', R', Y', C'B, C'R.
+pub const COMPONENTS: [u32; 6] = [1, 2, 3, 4, 5, 6];
 
 /// The fields of a format, in the order of the header.
 pub const FIELDS: [fn(&mut Format) -> &mut u32; 5] =
@@ -23,9 +23,20 @@ pub fn shape_of(format: Format) -> Shape {
     shape(format).expect("a known format")
 }
 
-/// A kind that is known, of any component.
+/// A kind, of any component.
+pub fn any_carrying(random: &mut Random, kind: Format) -> Format {
+    kind.carrying(random.pick(&COMPONENTS))
+}
+
+/// Any kind, of any component.
 pub fn any_kind(random: &mut Random) -> Format {
-    random.pick(&KINDS).carrying(random.pick(&COMPONENTS))
+    let kind = random.pick(&KINDS);
+    any_carrying(random, kind)
+}
+
+/// Every second kind, with every component.
+pub fn every_second(part: usize) -> impl Iterator<Item = Format> {
+    KINDS.into_iter().skip(part).step_by(2).flat_map(|kind| COMPONENTS.map(|component| kind.carrying(component)))
 }
 
 /// A line: an edge, or any.
@@ -44,7 +55,7 @@ pub fn any_content(random: &mut Random) -> [u8; 4] {
 pub fn any_samples(random: &mut Random, format: Format, line: u32) -> Vec<u16> {
     let count = shape_of(format).samples();
     if !is_active(line) {
-        return vec![BLANKING; count];
+        return vec![blanking(format); count];
     }
     let (low, high) = if format.depth == 10 { (4, 1019) } else { (16, 4079) };
     let mut sample = || match random.below(8) {

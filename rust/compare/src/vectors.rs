@@ -88,6 +88,7 @@ pub fn run() -> Report {
     words(&mut r);
     places(&mut r);
     limits(&mut r);
+    blanking(&mut r);
     r
 }
 
@@ -175,5 +176,26 @@ fn limits(r: &mut Report) {
         r.answer(|| format!("send of {sample} on line {line}"), (answer.number, answer.place), (number, place));
         let content = Some(any_content(&mut random));
         let _ = calls::send(r, Asked { format, line, positive: false, content }, &samples, 7920);
+    }
+}
+
+/// 004, 6.8, by the printed forms: two words of 800 are the bytes 00 08 80, two of 100 are 00 01 10, and neither changes the disparity. So
+/// the ancillary area of a span of format 1, from symbol 5796 on, is one of these three again and again, and so is the fill, from 6600 on.
+fn blanking(r: &mut Report) {
+    let forms = |bytes: [(u32, u32); 3]| {
+        let of = |(x, y)| BYTES.iter().find(|byte| (byte.0, byte.1) == (x, y)).expect("a byte that is printed");
+        [bytes.map(|byte| symbol(of(byte).2) as u16), bytes.map(|byte| symbol(of(byte).3) as u16)]
+    };
+    let (of_100, of_800) = (forms([(0, 0), (1, 0), (16, 0)]), forms([(0, 0), (8, 0), (0, 4)]));
+    assert_eq!(of_800, [[0x0B9, 0x0A7, 0x139], [0x346, 0x358, 0x2C6]]);
+    for (component, area) in [(1, of_100), (2, of_100), (3, of_100), (4, of_100), (5, of_800), (6, of_800)] {
+        let (format, mut symbols) = (Format::plain(1, 12).carrying(component), [0; 7920]);
+        for sample in (16..4080).step_by(331) {
+            let sent = send(format, Request::new(StreamLine(42), false), &[sample; 3840], &mut symbols);
+            let sign = usize::from(sent.positive_after);
+            let right = symbols[5796..6600].chunks(3).all(|three| three == area[sign]);
+            r.holds(|| format!("component {component}: another ancillary area"), sent.number == 0 && right);
+            r.holds(|| format!("component {component}: another fill"), symbols[6600..].chunks(3).all(|three| three == of_100[sign]));
+        }
     }
 }

@@ -4,7 +4,7 @@ use crate::spans::{made_characters, made_words, shape_of};
 use plain::code::encode;
 use plain::format::Format;
 use plain::span::{symbols, Shape, ROW};
-use plain::words::{crcc_of, is_active, words_of, xyz, BLANKING};
+use plain::words::{crcc_of, is_active, words_of, xyz};
 use random::Random;
 
 // Where the parts of a stream begin, in words (01, "A span").
@@ -45,7 +45,7 @@ fn change_word(random: &mut Random, word: u16) -> u16 {
         3 => word ^ bit ^ other,
         4 => random.pick(&legal) ^ random.pick(&[0, bit]),
         5 => random.pick(&[ln0, ln1]),
-        6 => random.pick(&[0, 15, 16, 17, BLANKING, 4076, 4079, 4080, 0xFFF]),
+        6 => random.pick(&[0, 15, 16, 17, 0x100, 0x800, 4076, 4079, 4080, 0xFFF]),
         _ => any,
     }
 }

@@ -2,7 +2,7 @@
 
 use plain::format::Format;
 use plain::span::{characters, shape, symbols, words, Shape, ROW};
-use plain::words::{is_active, BLANKING};
+use plain::words::{blanking, is_active};
 use random::Random;
 
 /// The shape of a format that is known.
@@ -14,7 +14,7 @@ pub fn shape_of(format: Format) -> Shape {
 /// in the order in which the words are sent, so that the stored inputs stay what they are.
 fn rows(random: &mut Random, format: Format, line: u32) -> Vec<u16> {
     let (ends_alone, shape) = (random.seldom(4), shape_of(format));
-    let mut rows = vec![BLANKING; shape.samples()];
+    let mut rows = vec![blanking(format); shape.samples()];
     if !is_active(line) {
         return rows;
     }

@@ -7,7 +7,7 @@ pub struct Format {
     pub number: u32,
     /// 10, 12: the bits of a sample.
     pub depth: u32,
-    /// 1, 2, 3: G', B', R'.
+    /// 1 to 6: G', B', R', Y', C'B, C'R.
     pub component: u32,
     /// 1: 4:4:4.
     pub structure: u32,
@@ -28,7 +28,7 @@ impl Format {
 
     /// Whether every field is one of the numbers above.
     pub fn is_known(self) -> bool {
-        let link = (1..=3).contains(&self.number) && [10, 12].contains(&self.depth) && (1..=3).contains(&self.component);
+        let link = (1..=3).contains(&self.number) && [10, 12].contains(&self.depth) && (1..=6).contains(&self.component);
         link && self.structure == 1 && self.size == 1
     }
 }

@@ -1,6 +1,6 @@
-//! The link code of a 10G video link, from document 004 (GY/T 347.2-2021) and document 01 (the scope), and by the readings of
-//! docs/DECISIONS.md where these leave room: it shares no table and no line with the library that it is compared with. It is plain before
-//! it is fast: every definition goes place by place.
+//! The link code of a 10G video link, from document 004 (GY/T 347.2-2021), document 01 (the scope) and document 02 (its changes), and by the
+//! readings of docs/DECISIONS.md where these leave room: it shares no table and no line with the library that it is compared with. It is
+//! plain before it is fast: every definition goes place by place.
 
 pub mod code;
 pub mod format;

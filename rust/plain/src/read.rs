@@ -3,7 +3,7 @@
 use crate::code::{encode, meaning, K28_5, K29_7};
 use crate::format::Format;
 use crate::span::{shape, Shape, ROW};
-use crate::words::{crcc_of, differ, is_active, line_before, named, nearest, Repaired, BLANKING};
+use crate::words::{crcc_of, differ, is_active, line_before, named, nearest, Repaired, FILL};
 use crate::{refuse_unless, Answer};
 
 /// What a span says about itself, and its rows stream by stream.
@@ -144,7 +144,7 @@ fn test_samples(words: &Words, depth: u32, line: u32) -> Answer<()> {
 
 /// 26: the fill comes after all streams.
 fn test_fill(shape: Shape, words: &Words) -> Answer<()> {
-    match (shape.words_before_fill()..shape.words()).find(|&place| words.all[place] != BLANKING) {
+    match (shape.words_before_fill()..shape.words()).find(|&place| words.all[place] != FILL) {
         Some(place) => Err((26, place as u64)),
         None => Ok(()),
     }

@@ -2,7 +2,7 @@
 
 use crate::code::{encode, K28_5, K29_7};
 use crate::format::Format;
-use crate::words::{crcc_of, is_active, line_after, line_words, timing_code, BLANKING};
+use crate::words::{blanking, crcc_of, is_active, line_after, line_words, timing_code, FILL};
 use crate::{refuse_unless, Answer};
 
 /// Samples of a line of one stream.
@@ -53,23 +53,23 @@ pub fn shape(format: Format) -> Answer<Shape> {
 
 /// The words of one stream, from the SAV of a line up to the fill. EAV, line number and CRCC are those of the next line; the CRCC runs from
 /// after the SAV to the last line word (004, 6.4).
-fn stream(shape: Shape, line: u32, row: &[u16]) -> Answer<Vec<u16>> {
+fn stream(format: Format, line: u32, row: &[u16]) -> Answer<Vec<u16>> {
     let next = line_after(line);
     let mut words = timing_code(line, false).to_vec();
     words.extend(row);
     words.extend(timing_code(next, true));
     words.extend(line_words(next)?);
     words.extend(crcc_of(&words[4..]).words);
-    words.extend(vec![BLANKING; shape.ancillary]);
+    words.extend(vec![blanking(format); shape(format)?.ancillary]);
     Ok(words)
 }
 
 /// The words of a span: the streams word by word, stream 1 first, and the fill after them. The rows have twelve-bit words.
 pub fn words(format: Format, line: u32, rows: &[u16]) -> Answer<Vec<u16>> {
-    let shape = shape(format)?;
-    let streams = rows.chunks(ROW).map(|row| stream(shape, line, row)).collect::<Answer<Vec<_>>>()?;
+    let fill = shape(format)?.fill;
+    let streams = rows.chunks(ROW).map(|row| stream(format, line, row)).collect::<Answer<Vec<_>>>()?;
     let mut words: Vec<u16> = (0..streams[0].len()).flat_map(|k| streams.iter().map(move |stream| stream[k])).collect();
-    words.extend(vec![BLANKING; shape.fill]);
+    words.extend(vec![FILL; fill]);
     Ok(words)
 }
 
@@ -104,7 +104,7 @@ pub fn symbols(positive: bool, characters: &[u16]) -> (Vec<u16>, bool) {
 /// may not be sent (01, "Words of a stream" and "Sending").
 fn word_of(format: Format, line: u32, sample: u16) -> Option<u16> {
     match (is_active(line), format.depth) {
-        (false, _) => (sample == BLANKING).then_some(sample),
+        (false, _) => (sample == blanking(format)).then_some(sample),
         (true, 10) => (4..=1019).contains(&sample).then_some(sample << 2),
         (true, _) => (16..=4079).contains(&sample).then_some(sample),
     }
@@ -141,9 +141,9 @@ pub fn lengths(format: Format) -> Answer<[usize; 2]> {
     shape(format).map(|shape| [shape.samples(), shape.symbols()])
 }
 
-/// The row sent on a blanking line, of all streams: 100 (hex) at either depth.
+/// The row sent on a blanking line, of all streams.
 pub fn blanking_row(format: Format, room: usize) -> Answer<Vec<u16>> {
     let shape = shape(format)?;
     refuse_unless(room == shape.samples(), 4)?;
-    Ok(vec![BLANKING; room])
+    Ok(vec![blanking(format); room])
 }

@@ -3,7 +3,7 @@
 use crate::format::Format;
 use crate::picture::place;
 use crate::span::{shape, ROW};
-use crate::words::{is_active, BLANKING};
+use crate::words::{blanking, is_active};
 
 /// The twelve-bit code of a sample of a picture line.
 pub fn code(line: u32, sample: u32) -> u16 {
@@ -15,7 +15,7 @@ pub fn code(line: u32, sample: u32) -> u16 {
 /// images that the link does not carry are left out.
 pub fn samples(format: Format, line: u32) -> Vec<u16> {
     let shape = shape(format).expect("a known format");
-    let mut rows = vec![BLANKING; shape.samples()];
+    let mut rows = vec![blanking(format); shape.samples()];
     if is_active(line) {
         for picture_line in [2 * (line - 41) - 1, 2 * (line - 41)] {
             for sample in 0..3840 {

@@ -1,9 +1,19 @@
 //! The words of a stream: timing, line number, CRCC (004, 6.2 to 6.4).
 
+use crate::format::Format;
 use crate::{refuse_unless, Answer};
 
-/// 004, 6.8: the word sent where there is nothing else to send.
-pub const BLANKING: u16 = 0x100;
+/// 004, 7.1.1 and 7.1.2: the word of the fill, whatever the component.
+pub const FILL: u16 = 0x100;
+
+/// 004, 6.8: the word sent in the ancillary area and on blanking lines, 800 for C'B and C'R and 100 for Y', G', B' and R'. It has twelve bits at
+/// either depth.
+pub fn blanking(format: Format) -> u16 {
+    match format.component {
+        5 | 6 => 0x800,
+        _ => 0x100,
+    }
+}
 
 /// 004, table 5.
 pub fn is_active(line: u32) -> bool {

@@ -4,7 +4,7 @@ use super::words::{crcc_words, line_words, step, xyz};
 use plain::code::{encode, K28_5, K29_7};
 use plain::format::Format;
 use plain::span::{shape, Asked};
-use plain::words::{is_active, line_after, BLANKING};
+use plain::words::{blanking, is_active, line_after, FILL};
 use plain::{refuse_unless, Answer};
 
 /// Symbols at negative disparity, then at positive, and what a character flips in the offset between them.
@@ -68,11 +68,12 @@ impl Writer<'_> {
         (0..S / 2).for_each(|_| self.pair(xyz, xyz));
     }
 
-    /// `count` symbols of blanking: its three symbols leave the disparity unchanged. Sound if there is room for them.
+    /// `count` symbols of a word that leaves the disparity unchanged with its three symbols, as blanking and fill do. Sound if there is room
+    /// for them, and the word is below 4096.
     #[inline(always)]
-    unsafe fn blanks(&mut self, count: usize) {
+    unsafe fn run(&mut self, word: u16, count: usize) {
         let (start, offset) = (self.at, self.offset);
-        self.pair(BLANKING, BLANKING);
+        self.pair(word, word);
         debug_assert_eq!(self.offset, offset);
         let three: [u16; 3] = [0, 1, 2].map(|i| *self.symbols.get_unchecked(start + i));
         let many: [u16; 24] = std::array::from_fn(|i| three[i % 3]);
@@ -100,9 +101,9 @@ unsafe fn picture<const S: usize>(out: &mut Writer, samples: &[u16], shift: u32)
     registers
 }
 
-/// A span of S streams; gives the disparity after it. Sound if nothing in the request is to be refused.
+/// A span of S streams, with so many symbols of fill; gives the disparity after it. Sound if nothing in the request is to be refused.
 #[inline(never)]
-unsafe fn span<const S: usize>(tables: &Tables, asked: Asked, samples: &[u16], shift: u32, symbols: &mut [u16]) -> bool {
+unsafe fn span<const S: usize>(tables: &Tables, asked: Asked, samples: &[u16], shift: u32, fill: usize, symbols: &mut [u16]) -> bool {
     let [sav1, sav2, eav1, eav2] = asked.content.unwrap_or([0; 4]);
     let (next, room) = (line_after(asked.line), symbols.len());
     let mut out = Writer { tables, symbols, at: 0, offset: if asked.positive { 268 } else { 0 } };
@@ -119,14 +120,15 @@ unsafe fn span<const S: usize>(tables: &Tables, asked: Asked, samples: &[u16], s
     for k in 0..2 {
         (0..S).step_by(2).for_each(|t| out.pair(crcc[t][k], crcc[t + 1][k]));
     }
-    out.blanks(room - out.at);
+    out.run(blanking(asked.format), room - fill - out.at);
+    out.run(FILL, fill);
     out.offset == 268
 }
 
 /// The lowest and the highest sample allowed, and by how much samples are shifted (004, 6.1 and 6.8).
 pub fn allowed(format: Format, line: u32) -> (u16, u16, u32) {
     match (is_active(line), format.depth) {
-        (false, _) => (BLANKING, BLANKING, 0),
+        (false, _) => (blanking(format), blanking(format), 0),
         (true, 10) => (4, 1019, 2),
         (true, _) => (16, 4079, 0),
     }
@@ -145,11 +147,12 @@ pub fn send(tables: &Tables, asked: Asked, samples: &[u16], symbols: &mut [u16])
         let place = samples.iter().position(|&x| beyond(x) != 0);
         return Err((6, place.expect("one was bad") as u64));
     }
+    let fill = shape.fill / 2 * 3;
     // Sound: everything was checked above.
     Ok(unsafe {
         match shape.streams {
-            2 => span::<2>(tables, asked, samples, shift, symbols),
-            _ => span::<4>(tables, asked, samples, shift, symbols),
+            2 => span::<2>(tables, asked, samples, shift, fill, symbols),
+            _ => span::<4>(tables, asked, samples, shift, fill, symbols),
         }
     })
 }

@@ -1,10 +1,10 @@
 //! A recording of many spans delivered, by steps of the next span.
 
-use super::Speeds;
+use super::{Run, Speeds};
 use crate::agreement::same;
 use crate::cases::{given, Case, CASES};
 use crate::fast::read::judge::Judge;
-use crate::fast::read::{recording, tables};
+use crate::fast::read::{recording, tables, Tables};
 use crate::timing::Three;
 use brazulint::Delivery;
 use outside::spans::sent_symbols;
@@ -12,10 +12,10 @@ use plain::read::Delivered;
 use random::Random;
 
 const SPANS: usize = 100;
-const TURNS: usize = 500;
+pub(super) const TURNS: usize = 500;
 
 /// Spans one after another, of forty lines that are all active or all blanking as the case says.
-fn recorded(case: &Case) -> Vec<u16> {
+pub(super) fn recorded(case: &Case) -> Vec<u16> {
     let mut random = Random(7);
     let span = |k| sent_symbols(&mut random, case.format, case.line + k as u32 % 40, k % 2 == 1);
     (0..SPANS).flat_map(span).collect()
@@ -62,21 +62,25 @@ fn steps<T>(mut next: impl FnMut(u64) -> Option<(u64, T)>) {
     assert_eq!(count, SPANS);
 }
 
-fn measured(judge: &mut Judge, case: &Case) -> Speeds {
-    let symbols = recorded(case);
-    agree(judge, case, &symbols);
+/// The runs of the library and of the fast version over a recording, on which they agree.
+pub(super) fn runs<'a>(tables: &'a Tables, case: &'a Case, symbols: &'a [u16]) -> [Run<'a>; 2] {
+    let mut judge = Judge::new(tables);
+    agree(&mut judge, case, symbols);
     let [mut rows, mut other] = [(); 2].map(|()| vec![0; case.shape().samples()]);
-    let three = Three::time(
-        TURNS,
-        || steps(|start| by_library(case, &symbols, start, &mut rows)),
-        || steps(|start| by_fast(judge, case, &symbols, start, &mut other)),
-        || steps(|start| by_plain(case, &symbols, start)),
-    );
+    [
+        Box::new(move || steps(|start| by_library(case, symbols, start, &mut rows))),
+        Box::new(move || steps(|start| by_fast(&mut judge, case, symbols, start, &mut other))),
+    ]
+}
+
+fn measured(tables: &Tables, case: &Case) -> Speeds {
+    let symbols = recorded(case);
+    let [library, fast] = runs(tables, case, &symbols);
+    let three = Three::time(TURNS, library, fast, || steps(|start| by_plain(case, &symbols, start)));
     Speeds::of_symbols("deliver", case.label, three, symbols.len())
 }
 
 pub fn measure() -> Vec<Speeds> {
     let tables = tables();
-    let mut judge = Judge::new(&tables);
-    CASES.iter().map(|case| measured(&mut judge, case)).collect()
+    CASES.iter().map(|case| measured(&tables, case)).collect()
 }

@@ -1,10 +1,10 @@
 //! Spans judged: what reading would answer, without rows.
 
-use super::Speeds;
+use super::{Run, Speeds};
 use crate::agreement::same;
 use crate::cases::{given, Case, CASES, SPANS, TURNS};
 use crate::fast::read::judge::Judge;
-use crate::fast::read::tables;
+use crate::fast::read::{tables, Tables};
 use crate::timing::Three;
 use brazulint::Delivery;
 use plain::read::Delivered;
@@ -28,20 +28,24 @@ fn agree(judge: &mut Judge, case: &Case, symbols: &[u16]) {
     assert!(same(&by_fast(judge, case, symbols), &expected), "{}: the fast version", case.label);
 }
 
-fn measured(judge: &mut Judge, case: &Case) -> Speeds {
-    let (spans, shape) = (case.sent(), case.shape());
-    spans.iter().for_each(|symbols| agree(judge, case, symbols));
-    let three = Three::time(
-        TURNS,
-        || spans.iter().for_each(|symbols| _ = by_library(case, symbols)),
-        || spans.iter().for_each(|symbols| _ = by_fast(judge, case, symbols)),
-        || spans.iter().for_each(|symbols| _ = black_box(by_plain(case, symbols))),
-    );
-    Speeds::of_symbols("judge", case.label, three, SPANS * shape.symbols())
+/// The runs of the library and of the fast version over these spans, on which they agree.
+pub(super) fn runs<'a>(tables: &'a Tables, case: &'a Case, spans: &'a [Vec<u16>]) -> [Run<'a>; 2] {
+    let mut judge = Judge::new(tables);
+    spans.iter().for_each(|symbols| agree(&mut judge, case, symbols));
+    [
+        Box::new(move || spans.iter().for_each(|symbols| _ = by_library(case, symbols))),
+        Box::new(move || spans.iter().for_each(|symbols| _ = by_fast(&mut judge, case, symbols))),
+    ]
+}
+
+fn measured(tables: &Tables, case: &Case) -> Speeds {
+    let spans = case.sent();
+    let [library, fast] = runs(tables, case, &spans);
+    let three = Three::time(TURNS, library, fast, || spans.iter().for_each(|symbols| _ = black_box(by_plain(case, symbols))));
+    Speeds::of_symbols("judge", case.label, three, SPANS * case.shape().symbols())
 }
 
 pub fn measure() -> Vec<Speeds> {
     let tables = tables();
-    let mut judge = Judge::new(&tables);
-    CASES.iter().map(|case| measured(&mut judge, case)).collect()
+    CASES.iter().map(|case| measured(&tables, case)).collect()
 }

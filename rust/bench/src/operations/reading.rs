@@ -1,6 +1,6 @@
 //! Spans read (004, clauses 6 and 7.1; 01, "Receiving and finding").
 
-use super::Speeds;
+use super::{Run, Speeds};
 use crate::agreement::same;
 use crate::cases::{given, Case, CASES, SPANS, TURNS};
 use crate::fast::read::{read, tables, Tables};
@@ -28,17 +28,21 @@ fn agree(tables: &Tables, case: &Case, symbols: &[u16]) {
     assert!(same(&by_fast(tables, case, symbols, &mut quick), &expected) && quick == expected.rows, "{}: the fast version", case.label);
 }
 
-fn measured(tables: &Tables, case: &Case) -> Speeds {
-    let (spans, shape) = (case.sent(), case.shape());
+/// The runs of the library and of the fast version over these spans, on which they agree.
+pub(super) fn runs<'a>(tables: &'a Tables, case: &'a Case, spans: &'a [Vec<u16>]) -> [Run<'a>; 2] {
     spans.iter().for_each(|symbols| agree(tables, case, symbols));
-    let [mut rows, mut other] = [(); 2].map(|()| vec![0; shape.samples()]);
-    let three = Three::time(
-        TURNS,
-        || spans.iter().for_each(|symbols| _ = by_library(case, symbols, &mut rows)),
-        || spans.iter().for_each(|symbols| _ = by_fast(tables, case, symbols, &mut other)),
-        || spans.iter().for_each(|symbols| _ = black_box(by_plain(case, symbols))),
-    );
-    Speeds::of_symbols("read", case.label, three, SPANS * shape.symbols())
+    let [mut rows, mut other] = [(); 2].map(|()| vec![0; case.shape().samples()]);
+    [
+        Box::new(move || spans.iter().for_each(|symbols| _ = by_library(case, symbols, &mut rows))),
+        Box::new(move || spans.iter().for_each(|symbols| _ = by_fast(tables, case, symbols, &mut other))),
+    ]
+}
+
+fn measured(tables: &Tables, case: &Case) -> Speeds {
+    let spans = case.sent();
+    let [library, fast] = runs(tables, case, &spans);
+    let three = Three::time(TURNS, library, fast, || spans.iter().for_each(|symbols| _ = black_box(by_plain(case, symbols))));
+    Speeds::of_symbols("read", case.label, three, SPANS * case.shape().symbols())
 }
 
 pub fn measure() -> Vec<Speeds> {

@@ -1,6 +1,6 @@
 //! Spans sent (004, clauses 6 and 7.1; 01, "A span" and "Sending").
 
-use super::Speeds;
+use super::{Run, Speeds};
 use crate::cases::{given, Case, CASES, SPANS, TURNS};
 use crate::fast::send::{allowed, send, tables, Tables};
 use crate::timing::Three;
@@ -51,16 +51,20 @@ fn spans(case: &Case, mut send: impl FnMut(Asked) -> bool) {
     (0..SPANS).fold(false, |positive, _| send(asked(case, positive)));
 }
 
-fn measured(tables: &Tables, case: &Case) -> Speeds {
+/// The runs of the library and of the fast version, which agree.
+pub(super) fn runs<'a>(tables: &'a Tables, case: &'a Case) -> [Run<'a>; 2] {
     let (samples, room) = (samples(case), case.shape().symbols());
     agree(tables, case, &samples);
-    let [mut symbols, mut other] = [(); 2].map(|()| vec![0; room]);
-    let three = Three::time(
-        TURNS,
-        || spans(case, |asked| by_library(asked, &samples, &mut symbols)),
-        || spans(case, |asked| by_fast(tables, asked, &samples, &mut other)),
-        || spans(case, |asked| black_box(by_plain(asked, &samples, room)).1),
-    );
+    let ([mut symbols, mut other], same) = ([(); 2].map(|()| vec![0; room]), samples.clone());
+    [
+        Box::new(move || spans(case, |asked| by_library(asked, &samples, &mut symbols))),
+        Box::new(move || spans(case, |asked| by_fast(tables, asked, &same, &mut other))),
+    ]
+}
+
+fn measured(tables: &Tables, case: &Case) -> Speeds {
+    let ([library, fast], samples, room) = (runs(tables, case), samples(case), case.shape().symbols());
+    let three = Three::time(TURNS, library, fast, || spans(case, |asked| black_box(by_plain(asked, &samples, room)).1));
     Speeds::of_symbols("send", case.label, three, SPANS * room)
 }
 

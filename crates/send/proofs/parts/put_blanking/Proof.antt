@@ -25,7 +25,9 @@ put-long-run-requires : tie.Need-put-long-run-requires
 put-long-run-requires c κs =
     let s = c .before .before .before .before .before in
     let area = long-area (s .pre .1 .1 .1 .0) (s .pre .1 .1 .0) in
-    (s .pre .0, (s .pre .1 .0, (s .pre .1 .1 .1 .1 .1 .0, (s .pre .1 .1 .1 .1 .0, (omega (arith, area), omega (arith, s .pre .1 .1 .1 .1 .1 .1))))))
+    let blank = s .pre .1 .1 .1 .1 .0 in
+    let fill = keeps-too (c .before .fill-word .ensures) fill-stays in
+    (s .pre .0, (s .pre .1 .0, (s .pre .1 .1 .1 .1 .1 .0, (search (blank, fill), (omega (arith, area), omega (arith, s .pre .1 .1 .1 .1 .1 .1))))))
 
 mul-put-long-run : tie.Need-mul-put-long-run
 mul-put-long-run c = omega (arith, c .before .before .before .before .before .before .before .before .before .good, c .before .before .before .before .before .before .before .before .before .pre .1 .1 .1 .1 .1 .1)
@@ -37,7 +39,9 @@ put-long-run-requires-2 : tie.Need-put-long-run-requires-2
 put-long-run-requires-2 c κs =
     let s = c .before .before .before .before .before .before .before .before .before in
     let p = run-made (s .pre .1 .1 .1 .1 .1 .0) (s .args .p .«stream_pairs» * s .args .p .ancillary) (s .pre .1 .1 .1 .1 .0) (c .before .before .before .put-long-run .ensures) in
-    (s .pre .0, (s .pre .1 .0, (s .pre .1 .1 .1 .1 .1 .0, (keeps-too (c .before .before .before .before .before .fill-word .ensures) fill-stays, (omega (arith, s .pre .1 .1 .1 .0 .longFill (s .pre .1 .1 .0)), omega (arith, same-size p, s .pre .1 .1 .1 .1 .1 .1))))))
+    let blank = s .pre .1 .1 .1 .1 .0 in
+    let fill = keeps-too (c .before .before .before .before .before .fill-word .ensures) fill-stays in
+    (s .pre .0, (s .pre .1 .0, (s .pre .1 .1 .1 .1 .1 .0, (search (blank, fill), (omega (arith, s .pre .1 .1 .1 .0 .longFill (s .pre .1 .1 .0)), omega (arith, same-size p, s .pre .1 .1 .1 .1 .1 .1))))))
 
 same-length : tie.Need-same-length
 same-length c = search needs

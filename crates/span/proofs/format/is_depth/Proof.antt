@@ -1,6 +1,5 @@
 -- `span::format::is_depth` meets its contract: 10 or 12.
 -- Assumes nothing.
-use mathlib.Core.Path.{sym}
 use native.Mathlib.Omega.{arith}
 use borrow.Author.Tests.{eq-eqb, ne-eqb}
 use Rattle.span.proofs.format.is_depth.Statement.{statement}

@@ -2,21 +2,18 @@
 -- Assumes nothing.
 use mathlib.Core.Path.{_≡_, sym, _∙_}
 use mathlib.Core.Bool.{true, true≢false}
-use lib.Dec.{eqb}
 use borrow.Author.Needs.{needs}
-use borrow.Author.Tests.{eq-eqb}
 use native.Mathlib.Omega.{arith}
 use Rattle.ground.proofs.Ranges.{outside}
-use Rattle.ground.specs.Range.{within}
 use Rattle.span.specs.declared.format.Format.{Format}
-use Rattle.span.specs.Format.{isDepth, isKnown}
-use Rattle.span.proofs.Formats.{depth-known, unknown}
+use Rattle.span.specs.Format.{isNumber, isDepth, isComponent, isStructure, isSize, isKnown}
+use Rattle.span.proofs.Formats.{depth-known, structure-known, unknown}
 use Rattle.span.proofs.format.is_known.Statement.{statement}
 use Rattle.span.proofs.format.is_known.Tie as tie
 
 -- all but the size hold: the test of the size decides
-size-left : (f : Format) → within 1 3 (f .number) ≡ true → isDepth (f .depth) ≡ true → within 1 3 (f .component) ≡ true → eqb (f .structure) 1 ≡ true
-    → isKnown f ≡ eqb (f .size) 1
+size-left : (f : Format) → isNumber (f .number) ≡ true → isDepth (f .depth) ≡ true → isComponent (f .component) ≡ true → isStructure (f .structure) ≡ true
+    → isKnown f ≡ isSize (f .size)
 size-left f a b c d = simp (a, b, c, d)
 
 cast-within : tie.Need-cast-within
@@ -43,7 +40,7 @@ returns c =
     sym
     (size-left f (sym (number .within .ensures) ∙ depth .before .if1 .taken) (sym (depth .is-depth .ensures) ∙ component .before .before .if2 .taken)
     (sym (component .within2 .ensures) ∙ c .before .before .before .if3 .taken)
-    (eq-eqb (f .structure) 1 (omega (arith, c .before .if4 .taken))))
+    (structure-known {s = f .structure} (omega (arith, c .before .if4 .taken))))
 
 returns-2 : tie.Need-returns-2
 returns-2 c =
