@@ -112,11 +112,6 @@ module _ (w : List ℕ) (from flips : ℕ) where
               ap (symbolAt w) at ∙ again 2 q (omega arith) ∙ ap (symbolAt w) begin ∙ b .third 0 (omega arith);
         }
 
-  -- of none there is nothing to say
-  pub none-fill : (to : ℕ) → from ≡ to → AreFill w from to flips
-  none-fill to e =
-      record { first = λ q h. absurd (omega arith); second = λ q h. absurd (omega arith); third = λ q h. absurd (omega arith) }
-
   module _ (to : ℕ) (b : AreFill w from to flips) where
     pub first-three : from + 3 ≤ to → AreFill w from (from + 3) flips
     first-three h =

@@ -46,17 +46,14 @@ fn begins_fill(symbols: &[u16], from: usize, flips: u32) -> bool
     false
 }
 
-// Whether all symbols from one place to another are: the first three, and each later one equal to the one three before it.
+// Whether all symbols from one place to another are fill words: the first three, and each later one equal to the one three before it.
 pub(crate) fn are_fill(symbols: &[u16], from: usize, to: usize, flips: u32) -> bool
-    requires { ⌜ from ≤ to ⌝ }
+    requires { ⌜ from + 3 ≤ to ⌝ }
     requires { ⌜ to ≤ length (now symbols) ⌝ }
     requires { ⌜ (to - from) % 3 ≡ 0 ⌝ }
     ensures sound { λ r. ⌜ (r ≡ true → AreFill (now (symbols .entry)) from to flips) ⌝ }
     ensures kept { λ r. ⌜ (AreFill (now (symbols .entry)) from to flips → r ≡ true) ⌝ }
 {
-    if from == to {
-        return true;
-    }
     if begins_fill(symbols, from, flips) {
         return repeats(symbols, from, to);
     }

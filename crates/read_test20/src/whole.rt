@@ -145,7 +145,7 @@ fn see_fill(
 ) -> Ended
     requires { ⌜ now t ≡ decodingTable ⌝ }
     requires { ⌜ TenBits (now symbols) ⌝ }
-    requires { ⌜ from ≤ to ⌝ }
+    requires { ⌜ from + 3 ≤ to ⌝ }
     requires { ⌜ to ≤ length (now symbols) ⌝ }
     requires { ⌜ (to - from) % 3 ≡ 0 ⌝ }
     requires { ⌜ Tied (now symbols) from flips ⌝ }

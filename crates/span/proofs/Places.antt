@@ -6,7 +6,7 @@ use mathlib.Core.List.{List, _++_}
 use Prim.Native.Nat.{ℕ, _+_, _-_, _*_, _/_, _%_, _≤_, _<_}
 use native.Mathlib.Nat.{mul-le-mul-left}
 use native.Mathlib.Omega.{arith}
-use lib.ListN.{getD, take, replicate, getD-replicate}
+use lib.ListN.{getD, take, getD-replicate}
 use Rattle.ground.proofs.Writing.{getD-table, getD-first, getD-second}
 use Rattle.line.specs.Stream.{vOf, lineAfter}
 use Rattle.symbol.specs.declared.disparity.Disparity.{Disparity}
@@ -63,8 +63,8 @@ module _ (f : Format) (a : Request) where
       let e : s * (ancillaryStart + shapeOf f .ancillary) + i ≡ s * eavStart + (s * n + i) = omega arith in
       ap (λ (k : ℕ). getD (spanWords f a) k 0) e
       ∙ after-sav (s * n + i)
-      ∙ getD-second (interleaved s n (fromEav f a)) (replicate g fillWord) (s * n) i 0 (length-interleaved s n (fromEav f a))
-      ∙ getD-replicate g i fillWord 0 h
+      ∙ getD-second (interleaved s n (fromEav f a)) _ (s * n) i 0 (length-interleaved s n (fromEav f a))
+      ∙ getD-replicate g i _ 0 h
 
   module _ (t : ℕ) (l : t < streams (shapeOf f)) where
     -- word j from the SAV on
@@ -85,7 +85,7 @@ module _ (f : Format) (a : Request) where
         let e : s * (eavStart + j) + t ≡ s * eavStart + (s * j + t) = omega arith in
         ap (λ (k : ℕ). getD (spanWords f a) k 0) e
         ∙ after-sav (s * j + t)
-        ∙ getD-first (interleaved s n (fromEav f a)) (replicate g fillWord) (s * n) (s * j + t) 0
+        ∙ getD-first (interleaved s n (fromEav f a)) _ (s * n) (s * j + t) 0
         (length-interleaved s n (fromEav f a)) (inside s n j t h l)
         ∙ interleaved-at s n (fromEav f a) j t h l
 
@@ -137,7 +137,7 @@ module _ (f : Format) (a : Request) where
 
     pub ancillary-blank : (i : ℕ) → i < shapeOf f .ancillary → wordAt f a (ancillaryStart + i) t ≡ blankWord f
     unfolding ancillary
-    ancillary-blank i h = ancillary-word i h ∙ getD-replicate (shapeOf f .ancillary) i (blankWord f) 0 h
+    ancillary-blank i h = ancillary-word i h ∙ getD-replicate (shapeOf f .ancillary) i _ 0 h
 
 -- ---- characters
 

@@ -40,7 +40,7 @@ see-run-requires : tie.Need-see-run-requires
 see-run-requires c κs =
     let s = c .before .before .before .before in
     let tied = s .pre .1 .1 .1 .1 .1 in
-    (s .pre .0, (s .pre .1 .0, (s .pre .1 .1 .0, (s .pre .1 .1 .1 .0, see-begin (s .args .symbols .now) _ _ (tied .fits) (tied .bit)))))
+    (s .pre .0, (s .pre .1 .0, (omega (arith, s .pre .1 .1 .0), (s .pre .1 .1 .1 .0, see-begin (s .args .symbols .now) _ _ (tied .fits) (tied .bit)))))
 
 passes-requires : tie.Need-passes-requires
 passes-requires c κs = search needs

@@ -52,7 +52,8 @@ see-fill-requires c κs =
     let s = passed .before .before .before .before .before in
     let area = passed .before .see-area .ensures in
     let going = area .clean (sym (passed .passes .ensures) ∙ not-false _ (c .if1 .left)) in
-    (s .pre .0 .table, (s .pre .1 .0, (omega arith, (omega arith, (omega (arith, s .pre .0 .long), record { fits = area .fits; bit = going .bit })))))
+    let fill = s .pre .0 .small .longFill (s .pre .0 .half) in
+    (s .pre .0 .table, (s .pre .1 .0, (omega (arith, s .pre .0 .long, fill), (omega arith, (omega (arith, s .pre .0 .long), record { fits = area .fits; bit = going .bit })))))
 
 returns-2 : tie.Need-returns-2
 returns-2 c =
