@@ -22,39 +22,26 @@
  *
  * FORMATS
  *
- *   number   rate     streams s   samples in a span   symbols in a span
- *        1   120 Hz           2                3840                7920
- *        2   100 Hz           2                3840                9504
- *        3    50 Hz           4                7680               19008
+ *   number   rate     streams s   samples in a span   symbols in a span   images in streams 1 to s
+ *        1   120 Hz           2                3840                7920   1 and 2, or 3 and 4
+ *        2   100 Hz           2                3840                9504   1 and 2, or 3 and 4
+ *        3    50 Hz           4                7680               19008   1, 2, 3, 4
  *
  * Symbols have ten bits each in a uint16_t, the bit sent first lowest. Samples and rows are stored stream by stream: 1920 of stream 1, then
- * 1920 of stream 2, and so on. A link carries one component of the picture, and the format says which, and how the picture is sampled:
+ * 1920 of stream 2, and so on. A link carries one component of the picture, and the format says which. So a picture of three components
+ * (4:4:4) takes six links in formats 1 and 2, two for each component, and three links in format 3: of G'B'R' (BRAZULINT_G, BRAZULINT_B,
+ * BRAZULINT_R; systems U1.1, U1.2, U1.4), or of Y'C'BC'R (BRAZULINT_Y, BRAZULINT_CB, BRAZULINT_CR; U1.8, U1.9, U1.11).
  *
- *   structure       component    basic images in streams 1 to s      links of a picture     systems in
- *                                formats 1 and 2     format 3        in formats 1, 2, 3     formats 1, 2, 3
- *   BRAZULINT_444   G' B' R'     1 2, and 3 4        1 2 3 4         6, 6, 3                U1.1, U1.2, U1.4
- *   BRAZULINT_444   Y' C'B C'R   1 2, and 3 4        1 2 3 4         6, 6, 3                U1.8, U1.9, U1.11
- *   BRAZULINT_422   Y'           1 2, and 3 4        1 2 3 4         4, 4, 3                U1.15, U1.16, U1.18
- *                   C'B C'R      1 3                 1 - 3 -
- *   BRAZULINT_420   Y'           1 2, and 3 4        1 2 3 4         4, 4, 3                U1.22, U1.23, U1.25
- *                   C'B C'R      1 -                 1 - - -
+ * Links of C'B and C'R blank at 0x800, those of G', B', R' and Y' at 0x100, in the ancillary area and on blanking lines. What is read does
+ * not depend on the component: received, these words are not judged by their value, and a recording of C'B is also read as Y'. Of a span
+ * only the content bytes can say which component and which images it carries; they are sent as they are named, and judged by no call.
  *
- * "1 2, and 3 4" is two links of the component, any other entry is one. A stream "-" is made up, for want of an image: each of its samples is
- * 0x800, on every line and at either depth, and is given, sent and delivered so. Any other is refused, with 6 when sent and with 27 when
- * received. So a caller fills a whole row with brazulint_fill_blanking, which gives 0x800 for C'B and C'R, and puts the images into their
- * streams.
- *
- * Links of C'B and C'R blank at 0x800, those of G', B', R' and Y' at 0x100, in the ancillary area and on blanking lines. What is read
- * depends on component and structure only by which streams are made up: other words are not judged by the component, a recording of C'B in
- * 4:4:4 is also read as Y', and one of Y' in 4:2:2 as Y' in 4:4:4. Of a span only the content bytes can say which component and which images
- * it carries; they are sent as they are named, and judged by no call.
- *
- * The size of the picture is BRAZULINT_4K; no other is known yet. A format of which any field is unknown, or whose structure lacks the
- * component, is refused with 1 by every call that takes one, and 0 is unknown in each field: one that was forgotten is never guessed.
+ * The sampling structure is BRAZULINT_444 and the size of the picture BRAZULINT_4K; no other is known yet. A format of which any field is
+ * unknown is refused with 1 by every call that takes one, and 0 is unknown in each: a field that was forgotten is never guessed.
  *
  * The depth is 10 or 12 bits. At depth 10 a sample is sent shifted left by two, and what comes back is the shifted word of twelve bits: 4
- * is delivered as 16 and 1019 as 4076. So the rows of lines 42 to 1121 are shifted right by two to have the samples again. Blanking and
- * made-up streams are not shifted: at either depth they are given, sent and delivered as 0x100, or as 0x800.
+ * is delivered as 16 and 1019 as 4076. So the rows of lines 42 to 1121 are shifted right by two to have the samples again. Blanking is not
+ * shifted: at either depth it is given, sent and delivered as 0x100, or as 0x800.
  *
  * The running disparity is a bool: true is positive. It is false before a fresh signal; after that, it is what the previous call answered.
  *
@@ -174,7 +161,7 @@ BRAZULINT_MUST_USE uint32_t brazulint_version(void);
 
 enum {
     BRAZULINT_DONE = 0,
-    BRAZULINT_UNKNOWN_FORMAT = 1, /* unknown format: its number, depth, component, structure or size; a structure without the component */
+    BRAZULINT_UNKNOWN_FORMAT = 1, /* unknown format: its number, depth, component, structure or size */
     BRAZULINT_NO_LINE = 2,        /* no such stream line (1 to 1125), picture line (1 to 2160) or sample (0 to 3839); no such link or stream */
     BRAZULINT_WRONG_INPUT = 3,    /* an input of the wrong length; a recording that is too long */
     BRAZULINT_WRONG_OUTPUT = 4,   /* an output of the wrong length */
@@ -190,8 +177,7 @@ enum {
     BRAZULINT_WRONG_V = 23,      /* V does not fit the line */
     BRAZULINT_WRONG_CRCC = 24,   /* a CRCC word is not the one computed */
     BRAZULINT_WRONG_SAMPLE = 25, /* on an active line a word that no sample has */
-    BRAZULINT_WRONG_FILL = 26,   /* a fill word is not 0x100 */
-    BRAZULINT_WRONG_MADE_UP = 27 /* a word of a made-up stream is not 0x800 */
+    BRAZULINT_WRONG_FILL = 26    /* a fill word is not 0x100 */
 };
 
 /* A refusal in words; "done" for 0, and "not a refusal" for a number that is none. */
@@ -213,7 +199,6 @@ static inline const char *brazulint_refusal_text(uint32_t number) {
     case BRAZULINT_WRONG_CRCC: return "a CRCC word is not the one computed";
     case BRAZULINT_WRONG_SAMPLE: return "on an active line a word that no sample has";
     case BRAZULINT_WRONG_FILL: return "a fill word is not 0x100";
-    case BRAZULINT_WRONG_MADE_UP: return "a word of a made-up stream is not 0x800";
     default: return "not a refusal";
     }
 }
@@ -222,7 +207,7 @@ static inline const char *brazulint_refusal_text(uint32_t number) {
 
 enum { BRAZULINT_120_HZ = 1, BRAZULINT_100_HZ = 2, BRAZULINT_50_HZ = 3 };
 enum { BRAZULINT_G = 1, BRAZULINT_B = 2, BRAZULINT_R = 3, BRAZULINT_Y = 4, BRAZULINT_CB = 5, BRAZULINT_CR = 6 };
-enum { BRAZULINT_444 = 1, BRAZULINT_422 = 2, BRAZULINT_420 = 3 };
+enum { BRAZULINT_444 = 1 };
 enum { BRAZULINT_4K = 1 };
 
 /* A format, by value, first in each call that takes one. 0 in any field is refused. */
@@ -230,7 +215,7 @@ typedef struct {
     uint32_t number;    /* BRAZULINT_120_HZ, BRAZULINT_100_HZ, BRAZULINT_50_HZ */
     uint32_t depth;     /* 10, 12 */
     uint32_t component; /* what the link carries: BRAZULINT_G, BRAZULINT_B, BRAZULINT_R, BRAZULINT_Y, BRAZULINT_CB, BRAZULINT_CR */
-    uint32_t structure; /* BRAZULINT_444; BRAZULINT_422, BRAZULINT_420, which have the last three components alone */
+    uint32_t structure; /* BRAZULINT_444 */
     uint32_t size;      /* BRAZULINT_4K */
 } brazulint_format;
 
@@ -287,8 +272,7 @@ typedef struct {
 
 /*
  * Sends a span into `symbols`, which has room for exactly one. On lines 42 to 1121 samples are 4 to 1019 at depth 10 and 16 to 4079 at
- * depth 12; on any other line each is the component's blanking word, 0x800 for C'B and C'R and 0x100 for any other, at either depth. Those
- * of a made-up stream are 0x800 on every line.
+ * depth 12; on any other line each is the component's blanking word, 0x800 for C'B and C'R and 0x100 for any other, at either depth.
  */
 BRAZULINT_MUST_USE brazulint_send_answer brazulint_send(brazulint_format format, brazulint_request request,
                                                         const uint16_t *samples, size_t sample_count,
@@ -297,10 +281,7 @@ BRAZULINT_MUST_USE brazulint_send_answer brazulint_send(brazulint_format format,
 /* The row that a stream line carries: true for the picture (lines 42 to 1121), false for blanking (any other number). Refuses nothing. */
 BRAZULINT_MUST_USE bool brazulint_carries_picture(brazulint_stream_line line);
 
-/*
- * Fills a row with the blanking samples of all streams, which are those of the component; of a made-up stream these are all its samples.
- * Answers 0, or the refusal: 1, 4.
- */
+/* Fills a row with the blanking samples of all streams, which are those of the component. Answers 0, or the refusal: 1, 4. */
 BRAZULINT_MUST_USE uint32_t brazulint_fill_blanking(brazulint_format format, uint16_t *row, size_t row_room);
 
 /* ---- Receiving */
@@ -316,14 +297,14 @@ typedef struct {
 } brazulint_delivery;
 
 typedef struct {
-    uint32_t number; /* 1, 3, 4, 20 to 27 */
-    uint64_t place;  /* for 20 a symbol, for 21 to 27 an interleaved word */
+    uint32_t number; /* 1, 3, 4, 20 to 26 */
+    uint64_t place;  /* for 20 a symbol, for 21 to 26 an interleaved word */
     brazulint_delivery delivery;
 } brazulint_read_answer;
 
 /*
  * Reads exactly one span into `rows`, which has room for exactly a span's samples: twelve-bit words as received (at depth 10 not shifted
- * back). After 20 to 27 the rows are all zero.
+ * back). After 20 to 26 the rows are all zero.
  */
 BRAZULINT_MUST_USE brazulint_read_answer brazulint_read(brazulint_format format, const uint16_t *symbols, size_t symbol_count,
                                                         uint16_t *rows, size_t row_room);
@@ -390,10 +371,9 @@ typedef struct {
 } brazulint_way_back_answer;
 
 /*
- * The way back: which line of the picture a stream line brings. `link` says which of the links of its component it is, 1 or 2 where there are
- * two, and else 1; `stream` counts from 1. A link or stream that there is not, a stream that is made up, and a stream line that carries no
- * picture are refused with 2. It undoes brazulint_place: a sample's stream line, on the link and stream of its image, brings the sample's
- * line.
+ * The way back: which line of the picture a stream line brings. `link` says which of the links of its component it is, 1 or 2 in formats 1 and
+ * 2, and 1 in format 3; `stream` counts from 1. A link or stream that there is not, and a stream line that carries no picture, are refused
+ * with 2. It undoes brazulint_place: a sample's stream line, on the link and stream of its image, brings the sample's line.
  */
 BRAZULINT_MUST_USE brazulint_way_back_answer brazulint_way_back(brazulint_format format, uint32_t link, uint32_t stream,
                                                                 brazulint_stream_line line);

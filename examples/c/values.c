@@ -67,13 +67,6 @@ static brazulint_format plain(uint32_t number, uint32_t depth) {
     return format;
 }
 
-/* The same format for another component and structure. */
-static brazulint_format sampled(brazulint_format format, uint32_t component, uint32_t structure) {
-    format.component = component;
-    format.structure = structure;
-    return format;
-}
-
 static brazulint_lengths_answer lengths(uint32_t number, uint32_t depth) { return brazulint_lengths(plain(number, depth)); }
 
 static void formats(void) {
@@ -95,7 +88,7 @@ static void formats(void) {
 static void refusals(void) {
     const char *none = brazulint_refusal_text(UINT32_MAX);
     for (uint32_t number = 0; number < 30; number++) {
-        bool known = number <= BRAZULINT_BEYOND_REPAIR || (number >= BRAZULINT_WRONG_SYMBOL && number <= BRAZULINT_WRONG_MADE_UP);
+        bool known = number <= BRAZULINT_BEYOND_REPAIR || (number >= BRAZULINT_WRONG_SYMBOL && number <= BRAZULINT_WRONG_FILL);
         IS((strcmp(brazulint_refusal_text(number), none) != 0) == known);
         for (uint32_t other = 0; known && other < number; other++)
             IS(strcmp(brazulint_refusal_text(number), brazulint_refusal_text(other)) != 0);
@@ -165,11 +158,6 @@ static void pictures(void) {
     IS(w.number == 0 && w.image == 4 && w.line.number == 2160);
     w = brazulint_way_back(HZ_120, 3, 1, (brazulint_stream_line){128});
     IS(w.number == 2 && w.image == 0 && w.line.number == 0);
-    w = brazulint_way_back(sampled(HZ_120, BRAZULINT_CB, BRAZULINT_422), 1, 2, (brazulint_stream_line){128});
-    IS(w.number == 0 && w.image == 3 && w.line.number == 174);
-    IS(brazulint_way_back(sampled(HZ_120, BRAZULINT_CR, BRAZULINT_422), 2, 1, (brazulint_stream_line){128}).number == 2);
-    IS(brazulint_way_back(sampled(HZ_120, BRAZULINT_CR, BRAZULINT_420), 1, 2, (brazulint_stream_line){128}).number == 2);
-    IS(brazulint_way_back(sampled(HZ_120, BRAZULINT_Y, BRAZULINT_420), 2, 2, (brazulint_stream_line){128}).image == 4);
     IS(brazulint_way_back(plain(0, 12), 1, 1, (brazulint_stream_line){42}).number == 1);
     IS(brazulint_way_back(HZ_120, 1, 65537, (brazulint_stream_line){42}).number == 2);
     for (size_t i = 0; i < 3840; i++) row[i] = (uint16_t)(40000 + i);
@@ -244,52 +232,6 @@ static void blanking(void) {
     }
 }
 
-/* The samples and the symbols of a span of any format. */
-static uint16_t row[BRAZULINT_MOST_SAMPLES], span[BRAZULINT_MOST_SYMBOLS];
-
-static brazulint_send_answer send_row(brazulint_format format, uint32_t line) {
-    const brazulint_lengths_answer l = brazulint_lengths(format);
-    return brazulint_send(format, unnamed(line), row, l.samples, span, l.symbols);
-}
-
-/* Whether the span meets this refusal, or none if it is 0, in all calls that read it, and what is lent is left as it should be. */
-static bool meets(brazulint_format format, uint32_t number, uint64_t place) {
-    static uint16_t back[BRAZULINT_MOST_SAMPLES];
-    const brazulint_lengths_answer l = brazulint_lengths(format);
-    lend(back, l.samples);
-    const bool next = brazulint_next(format, span, l.symbols, 0, back, l.samples).found;
-    const bool found = brazulint_find(format, span, l.symbols, 0).found && !untouched(back, l.samples);
-    brazulint_read_answer j = brazulint_judge(format, span, l.symbols), r = brazulint_read(format, span, l.symbols, back, l.samples);
-    return found == (number == 0) && next == found && zero(back, l.samples) != found && j.number == number && j.place == place &&
-           r.number == number && r.place == place;
-}
-
-/* Made-up streams: 0x800 is sent in them and nothing else, at either depth unshifted. What 4:4:4 sends there is refused with 27. */
-static void made_up(void) {
-    const brazulint_format full = sampled(plain(BRAZULINT_50_HZ, 10), BRAZULINT_CB, BRAZULINT_444);
-    const brazulint_format half = sampled(full, BRAZULINT_CB, BRAZULINT_422), quarter = sampled(full, BRAZULINT_CB, BRAZULINT_420);
-    IS(brazulint_fill_blanking(half, row, 7680) == 0 && row[0] == 0x800 && row[1920] == 0x800 && row[7679] == 0x800);
-    for (size_t i = 0; i < 1920; i++) row[i] = row[3840 + i] = 0x201; /* streams 1 and 3, sent as 0x804 */
-    IS(send_row(half, 42).number == 0 && meets(half, 0, 0) && meets(full, 0, 0));
-    IS(meets(quarter, BRAZULINT_WRONG_MADE_UP, 18)); /* which has stream 3 for made up */
-    row[1920] = 0x801;
-    brazulint_send_answer s = send_row(half, 42);
-    IS(s.number == BRAZULINT_NOT_ALLOWED && s.place == 1920);
-    row[1920] = 0x800;
-    row[1921] = row[5760] = 0x200; /* 0x800 if it were shifted */
-    s = send_row(half, 42);
-    IS(s.number == BRAZULINT_NOT_ALLOWED && s.place == 1921);
-    for (size_t i = 0; i < 7680; i++) row[i] = 0x200;
-    IS(send_row(full, 42).number == 0 && meets(half, 0, 0) && meets(quarter, 0, 0));
-    row[1921] = row[5760] = 0x201; /* words 21 and 19 */
-    IS(send_row(full, 42).number == 0 && meets(half, 27, 19) && meets(quarter, 27, 19));
-    row[1920] = 0x201;
-    IS(send_row(full, 42).number == 0 && meets(half, 27, 17));
-    const brazulint_format luma = sampled(HZ_120, BRAZULINT_Y, BRAZULINT_420);
-    IS(brazulint_fill_blanking(luma, row, SAMPLES) == 0 && send_row(luma, 1).number == 0 && meets(luma, 0, 0));
-    IS(meets(sampled(HZ_120, BRAZULINT_CB, BRAZULINT_420), 27, 9)); /* on a blanking line too */
-}
-
 /* Whether every call that takes a format refuses this one with 1, and leaves what it was lent. */
 static bool is_refused(brazulint_format format) {
     lend(symbols, SYMBOLS);
@@ -303,7 +245,7 @@ static bool is_refused(brazulint_format format) {
 
 /* One field of a format unknown: 0, one above the known, and the known one if it were cut to eight bits or to sixteen. */
 static void unknown_fields(void) {
-    const uint32_t above[5] = {4, 13, 7, 4, 2};
+    const uint32_t above[5] = {4, 13, 7, 2, 2};
     for (size_t field = 0; field < 5; field++) {
         uint32_t fields[5];
         memcpy(fields, &HZ_120, sizeof fields);
@@ -315,9 +257,6 @@ static void unknown_fields(void) {
             IS(is_refused(format));
         }
     }
-    for (uint32_t structure = BRAZULINT_422; structure <= BRAZULINT_420; structure++)
-        for (uint32_t component = BRAZULINT_G; component <= BRAZULINT_R; component++) /* which it lacks */
-            IS(is_refused(sampled(HZ_120, component, structure)));
 }
 
 static bool has_content(brazulint_delivery d, brazulint_content c) {
@@ -432,7 +371,6 @@ static void *all(void *unused) {
     pictures();
     sending();
     blanking();
-    made_up();
     unknown_fields();
     receiving();
     repairs();

@@ -62,7 +62,7 @@ use Rattle.demands.specs.Form.{Sending, WasSent, reading_of, DeliveredFrom, Deli
 use Rattle.demands.specs.Demands.{Demand1, Delivers, Demand2, Demand3, Beyond}
 use Rattle.demands.proofs.Again.{again}
 use Rattle.demands.proofs.Delivering.{steps_are, delivered, accepted, anywhere, alone, damaged, nothing, fewer, one_inverted, beginning, found_none, found_and_read}
-use Rattle.demands.proofs.PictureBack.{link_good, rows_back, made_up_back, image_places, images_two, images_four, two_good, two_back, four_good, four_back}
+use Rattle.demands.proofs.PictureBack.{images_two, images_four, two_good, two_back, four_good, four_back}
 use Rattle.recording.proofs.Steps.{refused_stays, end_stays, steps_deliver}
 use Rattle.demands.proofs.Refusing.{known_says, samples_say, meaning_tried, decode_tried, repair_tried, line_words_tried, read_line_words_tried, crcc_tried, pack_tried, place_tried, back_tried, lent, split_tried, join_tried, lengths_tried, fill_tried, send_tried, judge_tried, read_tried, rows_left_lem, find_tried, next_tried, next_some}
 use Rattle.demands.proofs.Sendings.{row_holds, sendable, sent_crcc}
@@ -196,24 +196,17 @@ demand_2 = record {
       let same : w u ≡ (u + 1) % 2 = which u p q in
       let agree = place_agrees whole u l j p q r s t in
       (agree.0, rw same at agree.1);
-  rows_back = λ f content row l known p q are bytes. (
+  picture_of_two = λ f content whole pair l known few a b p q row bytes. (
+    images_two f pair l known few a b p q,
     _,
-    delivers f known l content _ bytes (link_good f row l known p q are),
-    rows_back f row l known p q are content,
-    made_up_back f row l known p q are content,
+    delivers f known l content _ bytes (two_good f whole l known few p q row),
+    two_back f whole l known few p q row content,
   );
-  image_places = λ f link t u l j known e. image_places f link t u l j e;
-  picture_of_two = λ f content whole pair l known all few a b p q row bytes. (
-    images_two f pair l known all few a b p q,
-    _,
-    delivers f known l content _ bytes (two_good f whole l known all few p q row),
-    two_back f whole l known all few p q row content,
-  );
-  picture_of_four = λ f content odd even l known all three p q first second bytes.
-      let back = four_back f odd even l known all three p q first second content in (
-        images_four f l known all three p q,
+  picture_of_four = λ f content odd even l known three p q first second bytes.
+      let back = four_back f odd even l known three p q first second content in (
+        images_four f l three p q,
         _,
-        delivers f known l content _ bytes (four_good f odd even l known all three p q first second),
+        delivers f known l content _ bytes (four_good f odd even l known three p q first second),
         back.0,
         back.1,
       );

@@ -1,7 +1,6 @@
 -- The examples, derived from the demands.
 -- Assumes nothing.
 use mathlib.Core.Path.{◌≡◌, refl, sym, ap, ◌∙◌}
-use mathlib.Core.Bool.{false, cond, true≢false}
 use mathlib.Core.List.{List, [], ◌∷◌, ◌++◌, append-nil}
 use mathlib.Core.Logic.{⊎_elim}
 use mathlib.Core.Option.{Option, none, some}
@@ -17,15 +16,13 @@ use Rattle.ground.specs.Bit.{inverted}
 use Rattle.ground.specs.Range.{within}
 use Rattle.ground.specs.Written.{upto}
 use Rattle.ground.proofs.Cases.{on_test}
-use Rattle.ground.proofs.Writing.{length_table, get_d_table, length_upto, get_d_upto}
+use Rattle.ground.proofs.Writing.{get_d_table, length_upto, get_d_upto}
 use Rattle.symbol.specs.declared.disparity.Disparity.{Disparity}
 use Rattle.symbol.specs.declared.disparity.Disparity.TheVariants.{Negative}
 use Rattle.span.specs.declared.content.Content.TheVariants.{NoneNamed}
 use Rattle.span.specs.declared.format.Format.{Format}
 use Rattle.span.specs.Format.{format_from, shape_of, streams, symbols_in}
-use Rattle.span.specs.Image.{made_up}
 use Rattle.span.specs.Sample.{sample_word}
-use Rattle.span.proofs.Images.{made_up_is}
 use Rattle.span.specs.Stream.{Request, picture}
 use Rattle.window.specs.declared.delivery.Delivery.{Delivery}
 use Rattle.delivery.specs.Delivery.{Found, moved_by, concatenated, placed_from, Each}
@@ -36,10 +33,10 @@ use Rattle.recording.proofs.Readings.{span_whole}
 use Rattle.delivery.proofs.Steps.{too_few}
 use Rattle.recording.specs.Steps.{run_from}
 use Rattle.span.specs.Length.{lengths_of}
-use Rattle.span.specs.Numbers.{IsFormat, Symbols, Samples, Blank, MadeUp}
+use Rattle.span.specs.Numbers.{IsFormat, Symbols, Samples, Blank}
 use Rattle.request.specs.Send.{request, send_of, sent_buffer}
 use Rattle.demands.specs.Demands.{IsRow}
-use Rattle.demands.specs.Examples.{lowest_sample, blank_sample, other_sample, dark_samples, dark_words, on_line42, blank_line, three_lines, IsNext, At, Examples}
+use Rattle.demands.specs.Examples.{lowest_sample, blank_sample, other_sample, on_line42, blank_line, three_lines, IsNext, At, Examples}
 use Rattle.demands.specs.Form.{MaySend, Sending, WasSent, sent_symbols, reading_of, span_found, onward, steps_from, DeliveredFrom}
 use Rattle.demands.specs.Live.{arrived, live_from, PieceFits}
 use Rattle.demands.proofs.Demands.{demand_1, demand_3}
@@ -87,56 +84,33 @@ module _ (f : Format) (n m : ℕ) (known : IsFormat f) (symbols : Symbols f n) (
     twelve = λ e i h. rw (get_or-replicate 3840 i (lowest_sample f) 0 h) (omega (arith, at_twelve e), omega (arith, at_twelve e));
   }
 
-  -- a call of a line with as many samples as a span has, each of which may be sent there, is answered (demand 1)
-  answered : (d : Disparity) (line : ℕ) (xs : List ℕ) → length xs ≡ m → 1 ≤ line → line ≤ 1125
-      → ((i : ℕ) → i < m → MaySend f line (i / 1920) (get_or xs i 0))
-      → WasSent f (record { before = d; asked = request line NoneNamed xs })
-  answered d line xs size p q may =
-      let a = request line NoneNamed xs in
-      let entry : List ℕ = replicate n 0 in
-      let room : length entry ≡ n = length-replicate n 0 in
-      let tried = (demand_1.send d f a entry).0 in
+  -- a call of a line with as many samples as a span has, equal to one that may be sent there, is answered (demand 1)
+  answered : (d : Disparity) (line x : ℕ) → 1 ≤ line → line ≤ 1125 → MaySend f line x
+      → WasSent f (record { before = d; asked = request line NoneNamed (replicate m x) })
+  answered d line x p q may =
+      let a = request line NoneNamed (replicate m x) in
+      let size : length (replicate m x) ≡ m = length-replicate m x in
+      let room : length (replicate n x) ≡ n = length-replicate n x in
+      let tried = (demand_1.send d f a (replicate n x)).0 in
       let (after, e) =
-      ((((tried.1 known).1 (p, q)).1 (rw size samples)).1 (rw room symbols)).1 (λ i h. may i (omega (arith, size))) in
+      ((((tried.1 known).1 (p, q)).1 (rw size samples)).1 (rw room symbols)
+      ).1 (λ i h. rw (get_or-replicate m i x 0 (omega (arith, size))) may) in
       record {
-        room = length entry;
+        room = length (replicate n x);
         after = after;
         sent = e;
         content = record { sav1 = omega arith; sav2 = omega arith; eav1 = omega arith; eav2 = omega arith };
       }
 
-  dark_long : length (dark_samples f m) ≡ m
-  dark_long = length_table m _
-
-  dark_at : (i : ℕ) → i < m → get_or (dark_samples f m) i 0 ≡ cond (made_up f (i / 1920)) 0x800 (lowest_sample f)
-  dark_at i h = get_d_table m (λ i. cond (made_up f (i / 1920)) 0x800 (lowest_sample f)) i 0 h
-
-  present_only : (t : ℕ) → made_up f t ≡ false → MadeUp f t → ⊥
-  present_only t up is = true≢false (sym ((made_up_is f known t).holds is) ∙ up)
-
-  dark_may : (i : ℕ) → i < m → MaySend f 42 (i / 1920) (get_or (dark_samples f m) i 0)
-  dark_may i h =
-      on_test (made_up f (i / 1920))
-      (λ up.
-      let e : get_or (dark_samples f m) i 0 ≡ 0x800 = dark_at i h ∙ simp up in
-      let is = (made_up_is f known (i / 1920)).told up in
-      record {
-        ten = λ _ x. absurd (x is);
-        twelve = λ _ x. absurd (x is);
-        blanking = λ out. absurd (out (omega arith) (omega arith));
-        made_up = λ _. e;
-      })
-      (λ up.
-      let e : get_or (dark_samples f m) i 0 ≡ lowest_sample f = dark_at i h ∙ simp up in
-      record {
-        ten = λ d _ _ _. (omega (arith, e, at_ten d), omega (arith, e, at_ten d));
-        twelve = λ d _ _ _. (omega (arith, e, at_twelve d), omega (arith, e, at_twelve d));
-        blanking = λ out. absurd (out (omega arith) (omega arith));
-        made_up = λ is. absurd (present_only (i / 1920) up is);
-      })
+  lowest_may : MaySend f 42 (lowest_sample f)
+  lowest_may = record {
+    ten = λ e _ _. (omega (arith, at_ten e), omega (arith, at_ten e));
+    twelve = λ e _ _. (omega (arith, at_twelve e), omega (arith, at_twelve e));
+    blanking = λ out. absurd (out (omega arith) (omega arith));
+  }
 
   sent_42 : (d : Disparity) → WasSent f (on_line42 f m d)
-  sent_42 d = answered d 42 (dark_samples f m) dark_long (omega arith) (omega arith) dark_may
+  sent_42 d = answered d 42 (lowest_sample f) (omega arith) (omega arith) lowest_may
 
   blank_may : Blank f (blank_sample f)
   blank_may = record {
@@ -146,15 +120,8 @@ module _ (f : Format) (n m : ℕ) (known : IsFormat f) (symbols : Symbols f n) (
 
   sent_blank : (line : ℕ) → 1 ≤ line → line ≤ 41 → WasSent f (blank_line f m line)
   sent_blank line p q =
-      answered Negative line (replicate m (blank_sample f)) (length-replicate m (blank_sample f)) p (omega arith)
-      (λ i h.
-      let e = get_or-replicate m i (blank_sample f) 0 h in
-      record {
-        ten = λ _ _ h _. absurd (omega arith);
-        twelve = λ _ _ h _. absurd (omega arith);
-        blanking = λ _. rw e blank_may;
-        made_up = λ is. e ∙ blank_may.is800 is.difference;
-      })
+      answered Negative line (blank_sample f) p (omega arith)
+      (record { ten = λ _ h _. absurd (omega arith); twelve = λ _ h _. absurd (omega arith); blanking = λ _. blank_may })
 
   -- ---- the calls, out of what the demands say of steps
 
@@ -226,29 +193,29 @@ module _ (f : Format) (n m : ℕ) (known : IsFormat f) (symbols : Symbols f n) (
   as_many_words x =
       length_upto 1920 (picture f x.asked) (length_picture f x.asked) (streams (shape_of f)) ∙ sym m_is
 
-  -- the words of line 42
-  dark_word : (t j : ℕ) → j < 1920 → 1920 * t + j < m
-      → get_or (picture f (request 42 NoneNamed (dark_samples f m)) t) j 0 ≡ cond (made_up f t) 0x800 16
-  unfolding picture within
-  dark_word t j h inside =
-      let place : (1920 * t + j) / 1920 ≡ t = omega arith in
-      get_d_table 1920 (λ k. sample_word f 42 t (get_or (dark_samples f m) (1920 * t + k) 0)) j 0 h
-      ∙ ap (sample_word f 42 t) (dark_at (1920 * t + j) inside ∙ ap (λ (u : ℕ). cond (made_up f u) 0x800 (lowest_sample f)) place)
-      ∙ on_test (made_up f t)
-      (λ up. simp up)
-      (λ up.
+  -- the words of line 42 are 16
+  lowest_word : (t : ℕ) → sample_word f 42 t (lowest_sample f) ≡ 16
+  unfolding within
+  lowest_word t =
       ⊎_elim
-      (λ e. simp (up, eq-eqb f.depth 10 e))
-      (λ e. simp (up, ne_eqb f.depth 10 (λ z. omega arith)))
-      known.bits)
+      (λ e. ap (sample_word f 42 t) (at_ten e) ∙ simp (eq-eqb f.depth 10 e))
+      (λ e. ap (sample_word f 42 t) (at_twelve e) ∙ simp (ne_eqb f.depth 10 (λ z. omega arith)))
+      known.bits
 
-  dark : (d : Disparity) → (reading_of f (on_line42 f m d)).words ≡ dark_words f m
+  dark_word : (t j : ℕ) → j < 1920 → 1920 * t + j < m → get_or (picture f (request 42 NoneNamed (replicate m (lowest_sample f))) t) j 0 ≡ 16
+  unfolding picture
+  dark_word t j h inside =
+      get_d_table 1920 (λ k. sample_word f 42 t (get_or (replicate m (lowest_sample f)) (1920 * t + k) 0)) j 0 h
+      ∙ ap (sample_word f 42 t) (get_or-replicate m (1920 * t + j) (lowest_sample f) 0 inside)
+      ∙ lowest_word t
+
+  dark : (d : Disparity) → (reading_of f (on_line42 f m d)).words ≡ replicate m 16
   dark d =
       let s = streams (shape_of f) in
-      let a = request 42 NoneNamed (dark_samples f m) in
+      let a = request 42 NoneNamed (replicate m (lowest_sample f)) in
       let words = upto s (picture f a) in
       let long : length words ≡ m = as_many_words (on_line42 f m d) in
-      ext_get_or 0 words (dark_words f m) (long ∙ sym (length_table m _))
+      ext_get_or 0 words (replicate m 16) (long ∙ sym (length-replicate m 16))
       (λ i h.
       let inside : i < 1920 * s = omega (arith, long, m_is) in
       let t = i / 1920 in
@@ -257,7 +224,7 @@ module _ (f : Format) (n m : ℕ) (known : IsFormat f) (symbols : Symbols f n) (
       ap (λ (k : ℕ). get_or words k 0) place
       ∙ get_d_upto 1920 (picture f a) (length_picture f a) s t j 0 (omega arith) (omega arith)
       ∙ dark_word t j (omega arith) (omega (arith, m_is))
-      ∙ sym (get_d_table m (λ i. cond (made_up f (i / 1920)) 0x800 16) i 0 (omega (arith, m_is))))
+      ∙ sym (get_or-replicate m i 16 0 (omega (arith, m_is))))
 
   module _ (d : Disparity) (before behind rows : List ℕ) (p : length before < n) (q : length behind < n) (size : length rows ≡ m) where
     abbrev x : Sending
@@ -289,12 +256,12 @@ module _ (f : Format) (n m : ℕ) (known : IsFormat f) (symbols : Symbols f n) (
     after_42 : next_of f r (length before + n) m ≡ given none
     after_42 =
         let words = rows_next f r 0 rows in
-        let room : length words ≡ m = ap length (found_42.words ∙ dark d) ∙ length_table m _ in
+        let room : length words ≡ m = ap length (found_42.words ∙ dark d) ∙ length-replicate m 16 in
         rw room at (last r short (length before + n) words (length r) room (omega (arith, all)) found_42.more)
 
     among_noise :
         IsNext f r 0 m (length before) 42
-        × (rows_next f r 0 rows ≡ dark_words f m)
+        × (rows_next f r 0 rows ≡ replicate m 16)
         × (next_of f r (length before + n) m ≡ given none)
     among_noise = (
       record { delivery = (reading_of f x).values; answer = rw size at found_42.answer; names = refl },
@@ -317,7 +284,7 @@ module _ (f : Format) (n m : ℕ) (known : IsFormat f) (symbols : Symbols f n) (
       cut_in_two :
           (v : Delivery)
           × (v.line.0 ≡ 42)
-          × (live_from f rows 0 [] pieces ≡ record { place = length before; reading = record { values = v; words = dark_words f m } } ∷ [])
+          × (live_from f rows 0 [] pieces ≡ record { place = length before; reading = record { values = v; words = replicate m 16 } } ∷ [])
       unfolding moved_by
       cut_in_two =
           let each : Each (PieceFits f) pieces = (fits (take c r) (omega (arith, length-take c r)), (fits (drop c r) (omega (arith, length-drop c r)), tt)) in
@@ -386,56 +353,47 @@ module _ (f : Format) (n m : ℕ) (known : IsFormat f) (symbols : Symbols f n) (
           rw (size-2, end) at none_left,
         )
 
-  -- ---- a sample that may not be sent: what is refused is the lowest index at which there is one
-  module _ (d : Disparity) (xs : List ℕ) (i : ℕ) (entry : List ℕ) (size : length xs ≡ m) (h : i < m) (room : length entry ≡ n)
-      (wrong : MaySend f 42 (i / 1920) (get_or xs i 0) → ⊥) (right : (k : ℕ) → k < i → MaySend f 42 (k / 1920) (get_or xs k 0)) where
-    abbrev asks : Request
-    asks = request 42 NoneNamed xs
+  -- ---- a sample that may not be sent
+  module _ (d : Disparity) (i : ℕ) (entry : List ℕ) (h : i < m) (room : length entry ≡ n) where
+    abbrev wrong : Request
+    wrong = request 42 NoneNamed (set (replicate m (lowest_sample f)) i 3)
 
-    refused_at : (send_of d f asks n ≡ refused 6 i) × (sent_buffer d f asks entry ≡ entry)
-    refused_at =
-        let send = demand_1.send d f asks entry in
+    abbrev given_there : ℕ → ℕ
+    given_there k = get_or wrong.samples k 0
+
+    size : length wrong.samples ≡ m
+    size = length-set (replicate m (lowest_sample f)) i 3 ∙ length-replicate m (lowest_sample f)
+
+    -- at its index, and at no other, is a sample that may not be sent
+    not_there : MaySend f 42 (given_there i) → ⊥
+    not_there may =
+        let three : given_there i ≡ 3 = get_or-set_same (replicate m (lowest_sample f)) i 3 0 (omega (arith, length-replicate m (lowest_sample f))) in
+        ⊎_elim
+        (λ e. absurd (omega (arith, (may.ten e (omega arith) (omega arith)).0, three)))
+        (λ e. absurd (omega (arith, (may.twelve e (omega arith) (omega arith)).0, three)))
+        known.bits
+
+    elsewhere : (k : ℕ) → k < m → (k ≡ i → ⊥) → MaySend f 42 (given_there k)
+    elsewhere k b other =
+        let same : given_there k ≡ lowest_sample f = get_or-set_other (replicate m (lowest_sample f)) i k 3 0 other ∙ get_or-replicate m k (lowest_sample f) 0 b in
+        rw same lowest_may
+
+    refused_6 : (send_of d f wrong n ≡ refused 6 i) × (sent_buffer d f wrong entry ≡ entry)
+    refused_6 =
+        let send = demand_1.send d f wrong entry in
+        let bad : ((k : ℕ) → k < length wrong.samples → MaySend f 42 (given_there k)) → ⊥ =
+        λ all. not_there (all i (omega (arith, size))) in
         let (k, (b, out, before), e) =
-        ((((send.0.1 known).1 (omega arith, omega arith)).1 (rw size samples)).1 (rw room symbols)).0 (λ all. wrong (all i (omega (arith, size)))) in
+        ((((send.0.1 known).1 (omega arith, omega arith)).1 (rw size samples)).1 (rw room symbols)).0 bad in
         let first : k ≡ i =
-        on_test (ltb k i) (λ t. absurd (out (right k (ltb-true k i t))))
-        (λ t. on_test (ltb i k) (λ u. absurd (wrong (before i (ltb-true i k u)))) (λ u. omega (arith, ltb-false k i t, ltb-false i k u))) in
-        let e-i : send_of d f asks (length entry) ≡ refused 6 i = e ∙ ap (λ (j : ℕ). refused 6 j) first in
+        on_test (eqb k i) (eqb-true k i)
+        (λ t. absurd (out (elsewhere k (omega (arith, size)) (eqb-false k i t)))) in
+        let e-i : send_of d f wrong (length entry) ≡ refused 6 i = e ∙ ap (λ (j : ℕ). refused 6 j) first in
         (rw room at e-i, send.1.untouched 6 i e-i)
 
-  -- 3 may be sent nowhere
-  three_wrong : (t x : ℕ) → x ≡ 3 → MaySend f 42 t x → ⊥
-  three_wrong t x e may =
-      on_test (made_up f t)
-      (λ up. omega (arith, e, may.made_up ((made_up_is f known t).told up)))
-      (λ up.
-      let here = present_only t up in
-      ⊎_elim
-      (λ b. absurd (omega (arith, (may.ten b here (omega arith) (omega arith)).0, e)))
-      (λ b. absurd (omega (arith, (may.twelve b here (omega arith) (omega arith)).0, e)))
-      known.bits)
-
-  refused_6 : (d : Disparity) (i : ℕ) (entry : List ℕ) → i < m → length entry ≡ n
-      → let a = request 42 NoneNamed (set (dark_samples f m) i 3) in
-      (send_of d f a n ≡ refused 6 i) × (sent_buffer d f a entry ≡ entry)
-  refused_6 d i entry h room =
-      refused_at d (set (dark_samples f m) i 3) i entry (length-set (dark_samples f m) i 3 ∙ dark_long) h room
-      (three_wrong (i / 1920) _ (get_or-set_same (dark_samples f m) i 3 0 (omega (arith, dark_long))))
-      (λ k b. rw (get_or-set_other (dark_samples f m) i k 3 0 (λ e. omega arith)) (dark_may k (omega arith)))
-
-  made_up_6 : (d : Disparity) (i j x y : ℕ) (entry : List ℕ) → i < j → j < m → length entry ≡ n → MadeUp f (i / 1920) → (x ≡ 0x800 → ⊥)
-      → let a = request 42 NoneNamed (set (set (dark_samples f m) j y) i x) in
-      (send_of d f a n ≡ refused 6 i) × (sent_buffer d f a entry ≡ entry)
-  made_up_6 d i j x y entry b h room is other =
-      let first = set (dark_samples f m) j y in
-      let long : length first ≡ m = length-set (dark_samples f m) j y ∙ dark_long in
-      refused_at d (set first i x) i entry (length-set first i x ∙ long) (omega arith) room
-      (λ may. other (sym (get_or-set_same first i x 0 (omega (arith, long))) ∙ may.made_up is))
-      (λ k l. rw (get_or-set_other first i k x 0 (λ e. omega arith), get_or-set_other (dark_samples f m) j k y 0 (λ e. omega arith)) (dark_may k (omega arith)))
-
   -- ---- the blanking words exchanged
-  other_blank : (line t : ℕ) → line ≤ 41 → MaySend f line t (other_sample f) → ⊥
-  other_blank line t q may =
+  other_blank : (line : ℕ) → line ≤ 41 → MaySend f line (other_sample f) → ⊥
+  other_blank line q may =
       let blank = may.blanking (λ a b. omega arith) in
       on_test (ltb f.component 5)
       (λ t.
@@ -453,8 +411,8 @@ module _ (f : Format) (n m : ℕ) (known : IsFormat f) (symbols : Symbols f n) (
     exchanged_long : length exchanged.samples ≡ m
     exchanged_long = length-replicate m (other_sample f)
 
-    never : (k : ℕ) → k < m → MaySend f line (k / 1920) (get_or exchanged.samples k 0) → ⊥
-    never k h may = other_blank line (k / 1920) q (rw (get_or-replicate m k (other_sample f) 0 h) at may)
+    never : (k : ℕ) → k < m → MaySend f line (get_or exchanged.samples k 0) → ⊥
+    never k h may = other_blank line q (rw (get_or-replicate m k (other_sample f) 0 h) at may)
 
     exchanged_6 : (send_of d f exchanged n ≡ refused 6 0) × (sent_buffer d f exchanged entry ≡ entry)
     exchanged_6 =
@@ -479,7 +437,6 @@ module _ (f : Format) (n m : ℕ) (known : IsFormat f) (symbols : Symbols f n) (
     cut_in_two = cut_in_two;
     one_of_three = one_of_three;
     refused6 = refused_6;
-    made_up6 = made_up_6;
     refused20 = refused_20 f n m known symbols samples;
     crcc_stands = crcc_stands f known;
     repaired = λ d b h. one_wrong f m known d (sent_42 d) b h;
@@ -497,10 +454,7 @@ examples = record {
   no_depth11 = no_format (format_from 1 11 1 1 1) (λ k. ⊎_elim (λ x. omega (arith, x)) (λ x. omega (arith, x)) k.bits);
   no_component0 = no_format (format_from 1 12 0 1 1) (λ k. omega (arith, k.component.0));
   no_component7 = no_format (format_from 1 12 7 1 1) (λ k. omega (arith, k.component.1));
-  no_structure0 = no_format (format_from 1 12 1 0 1) (λ k. omega (arith, k.structure.0));
+  no_structure0 = no_format (format_from 1 12 1 0 1) (λ k. omega (arith, k.structure));
   no_size0 = no_format (format_from 1 12 1 1 0) (λ k. omega (arith, k.size));
-  no_rin422 = no_format (format_from 1 12 3 2 1) (λ k. omega (arith, k.has (omega arith)));
-  no_gin420 = no_format (format_from 3 10 1 3 1) (λ k. omega (arith, k.has (omega arith)));
-  no_structure4 = no_format (format_from 1 12 4 4 1) (λ k. omega (arith, k.structure.1));
   divides = divides;
 }

@@ -34,23 +34,20 @@ use Rattle.line.specs.Stream.{is_active}
 use Rattle.span.specs.declared.format.Format.{Format}
 use Rattle.span.specs.Format.{is_known, shape_of, streams, samples_in, pairs_in, symbols_in}
 use Rattle.span.specs.Length.{lengths_of}
-use Rattle.span.specs.Image.{made_up}
-use Rattle.span.specs.Sample.{allowed}
+use Rattle.span.specs.Sample.{allowed, blank_word}
 use Rattle.span.specs.Stream.{Request}
-use Rattle.span.specs.Numbers.{IsFormat, Symbols, Samples, MadeUp}
+use Rattle.span.specs.Numbers.{IsFormat, Symbols, Samples}
 use Rattle.span.proofs.Formats.{is_known_lem, known_told}
-use Rattle.span.proofs.Images.{made_up_is, not_made_up}
-use Rattle.span.proofs.Numbers.{symbols_are, samples_are, symbols_told, samples_told}
-use Rattle.span.proofs.Paper.{span_paper}
+use Rattle.span.proofs.Numbers.{symbols_are, samples_are, symbols_told, samples_told, blank_told, blank_is}
 use Rattle.span.specs.Blanking.{fill_of}
 use Rattle.request.specs.Send.{first_forbidden, send_of}
 use Rattle.window.specs.Read.{placed, span_tests as testsOf, picture_of, judge_of, read_of, rows_left}
 use Rattle.window.specs.Scan.{holds20}
-use Rattle.window.specs.Tests.{holds21, holds22, holds23, holds24, holds25, holds26, holds27}
+use Rattle.window.specs.Tests.{holds21, holds22, holds23, holds24, holds25, holds26}
 use Rattle.window.specs.Words.{word_at}
 use Rattle.ground.specs.Inside.Test.{Reflects}
 use Rattle.span.proofs.Lengths.{known_has_streams}
-use Rattle.window.proofs.Rules.{says_21, says_22, says_23, says_24, says_25, says_26, says_27}
+use Rattle.window.proofs.Rules.{says_21, says_22, says_23, says_24, says_25, says_26}
 use Rattle.window.proofs.Scanning.{says_20, holds_before}
 use Rattle.window.proofs.Accepting.{all_hold, none_fails}
 use Rattle.delivery.specs.Delivery.{next_by as next_by, find_by as find_by, read_from, found_at}
@@ -286,38 +283,31 @@ module _ (f : Format) (known : IsFormat f) (x : ℕ) where
   pub samples_say : Reflects (eqb x (samples_in (shape_of f))) (Samples f x)
   samples_say = or_so (equal x (samples_in (shape_of f))) (samples_told f x known) (samples_are f x)
 
-  -- what may be sent by stream t
-  may_send : (n t : ℕ) → Reflects (allowed f n t x) (MaySend f n t x)
+  -- what may be sent, of any stream t
+  may_send : (n t : ℕ) → Reflects (allowed f n t x) (MaySend f n x)
   may_send n t = record { told = told; holds = holds }
     where
       twelve_is : f.depth ≡ 12 → eqb f.depth 10 ≡ false
       twelve_is e = ne_eqb f.depth 10 (λ ten. omega arith)
 
-      told : allowed f n t x ≡ true → MaySend f n t x
+      told : allowed f n t x ≡ true → MaySend f n x
       told ok = record {
-        ten = λ e up p q. (in_range_lem 4 1019 x).told (simp (not_made_up f known t up, is_within 42 1121 n p q, eq-eqb f.depth 10 e) at ok);
-        twelve = λ e up p q. (in_range_lem 16 4079 x).told (simp (not_made_up f known t up, is_within 42 1121 n p q, twelve_is e) at ok);
-        blanking = λ out. span_paper.blank_alone f known n t x (λ on. out on.0 on.1) ok;
-        made_up = λ up. span_paper.made_up_alone f known n t x up ok;
+        ten = λ e p q. (in_range_lem 4 1019 x).told (simp (is_within 42 1121 n p q, eq-eqb f.depth 10 e) at ok);
+        twelve = λ e p q. (in_range_lem 16 4079 x).told (simp (is_within 42 1121 n p q, twelve_is e) at ok);
+        blanking = λ out. blank_told f known x (eqb-true x (blank_word f) (simp (not_within 42 1121 n out) at ok));
       }
 
-      holds : MaySend f n t x → allowed f n t x ≡ true
+      holds : MaySend f n x → allowed f n t x ≡ true
       holds m =
-          on_test (made_up f t)
-          (λ up.
-          let is = (made_up_is f known t).told up in
-          ap (allowed f n t) (m.made_up is) ∙ span_paper.made_up_allowed f known n t is)
-          (λ up.
-          let present : MadeUp f t → ⊥ = λ is. true≢false (sym ((made_up_is f known t).holds is) ∙ up) in
           on_test (is_active n)
           (λ active.
           let p = from_low 42 1121 n active in
           let q = to_high 42 1121 n active in
           ⊎_elim
-          (λ e. simp (up, active, eq-eqb f.depth 10 e) ((in_range_lem 4 1019 x).holds (m.ten e present p q)))
-          (λ e. simp (up, active, twelve_is e) ((in_range_lem 16 4079 x).holds (m.twelve e present p q)))
+          (λ e. simp (active, eq-eqb f.depth 10 e) ((in_range_lem 4 1019 x).holds (m.ten e p q)))
+          (λ e. simp (active, twelve_is e) ((in_range_lem 16 4079 x).holds (m.twelve e p q)))
           known.bits)
-          (λ out. let off = outside 42 1121 n out in span_paper.blank_allowed f known n t x (λ on. off on.0 on.1) (m.blanking off)))
+          (λ out. simp out (eq-eqb x (blank_word f) (blank_is f known x (m.blanking (outside 42 1121 n out)))))
 
 -- ---- calls with a format
 
@@ -350,7 +340,7 @@ send_tried d f a room =
     (λ i. may_send f known (get_or xs i 0) a.line (i / 1920)))
     (λ _. end))))))
 
--- tests 20 to 27 of a window
+-- tests 20 to 26 of a window
 tests_agree : (f : Format) (w : List ℕ) → IsFormat f → Symbols f (length w) → Agree (testsOf f w) (span_rules f w)
 tests_agree f w known long =
     let k = (known_says f).holds known in
@@ -369,8 +359,7 @@ tests_agree f w known long =
     then (at_each 23 n (placed s (holds23 s word)) (says_23 f k word numbers timings)) (λ _.
     then (at_each 24 n (placed s (holds24 s word)) (says_24 f k word timings)) (λ _.
     then (at_each 25 n (placed s (holds25 s word f)) (says_25 f k word numbers)) (λ _.
-    then (at_each 26 n (placed s (holds26 s word f)) (says_26 f k word)) (λ _.
-    then (at_each 27 n (placed s (holds27 s word f)) (says_27 f k word)) (λ _. end))))))))
+    then (at_each 26 n (placed s (holds26 s word f)) (says_26 f k word)) (λ _. end)))))))
 
 -- judging a span
 pub judge_tried : (f : Format) (w : List ℕ) → Tried (judge_of f w) (judge_rules f w)

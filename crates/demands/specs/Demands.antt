@@ -1,7 +1,7 @@
 -- The customer's three demands, in their order, and what is proved beyond them. Each is a proposition about the definitions that the
 -- contracts of the public calls name, so that what is proved of these is promised of the calls. `proofs/Demands` proves each.
 -- Assumes nothing.
-use Rattle.std.specs.Prelude.{ℕ, ◌+◌, ◌-◌, ◌*◌, ◌/◌, ◌%◌, ◌≤◌, ◌<◌, ◌≡◌, Bool, true, false, List, [], ◌∷◌, ◌++◌, map, ◌⊎◌, length, get_or, take, drop, replicate}
+use Rattle.std.specs.Prelude.{ℕ, ◌+◌, ◌-◌, ◌*◌, ◌/◌, ◌%◌, ◌≤◌, ◌<◌, ◌≡◌, Bool, true, false, List, [], ◌∷◌, ◌++◌, map, length, get_or, take, drop, replicate}
 use Rattle.std.proofs.Math.Option.{none, some}
 use Rattle.ground.specs.Answer.{refused, given}
 use Rattle.ground.specs.Bit.{inverted}
@@ -39,7 +39,7 @@ use Rattle.span.specs.Image.{image_of}
 use Rattle.span.specs.Length.{lengths_of}
 use Rattle.span.specs.Span.{span_words, span_symbols, span_after}
 use Rattle.span.specs.Stream.{Request}
-use Rattle.span.specs.Numbers.{IsFormat, Symbols, Samples, Blank, MadeUp}
+use Rattle.span.specs.Numbers.{IsFormat, Symbols, Samples, Blank}
 use Rattle.way_back.specs.Back.{back_of}
 use Rattle.way_back.specs.Paper.{WayBackPaper}
 use Rattle.way_back.specs.Undone.{Undone}
@@ -59,7 +59,7 @@ use Rattle.recording.specs.Steps.{run_from, span_step, end_step, last_rows}
 use Rattle.span.specs.Blanking.{fill_of, blank_row, filled_row}
 use Rattle.request.specs.Send.{request, send_of, sent_buffer}
 use Rattle.demands.specs.Rules.{meaning_rules, decode_rules, repair_rules, line_words_rules, read_line_words_rules, crcc_rules, pack_rules, place_rules, back_rules, split_rules, join_rules, lengths_rules, fill_rules, send_rules, judge_rules, read_rules, find_rules, next_rules}
-use Rattle.demands.specs.Form.{Tried, Lent, Rows, Sending, WasSent, sent_symbols, with_wrong_bit, reading_of, steps_from, DeliveredFrom, Delivered, link_rows, words_for}
+use Rattle.demands.specs.Form.{Tried, Lent, Rows, Sending, WasSent, sent_symbols, with_wrong_bit, reading_of, steps_from, DeliveredFrom, Delivered, words_for}
 
 -- ==== 1 ====
 
@@ -111,9 +111,9 @@ pub record Demand1 : Type 0 where
       (d : Disparity) (f : Format) (a : Request) (entry : List ℕ)
       → Tried (send_of d f a (length entry)) (send_rules f a (length entry))
       × Lent (send_of d f a (length entry)) entry (span_symbols d f a) (sent_buffer d f a entry)
-  -- judging a span: 1, 3, 20 to 27
+  -- judging a span: 1, 3, 20 to 26
   pub judge : (f : Format) (w : List ℕ) → Tried (judge_of f w) (judge_rules f w)
-  -- reading it: 1, 3, 4, 20 to 27
+  -- reading it: 1, 3, 4, 20 to 26
   pub read :
       (f : Format) (w entry : List ℕ)
       → Tried (read_of f w (length entry)) (read_rules f w (length entry))
@@ -145,23 +145,11 @@ pub record Demand1 : Type 0 where
 
 -- ==== 2 ====
 
--- a row of n samples, each of which may be sent at the depth
-pub record AreSamples (f : Format) (n : ℕ) (row : List ℕ) : Type 0 where
-  pub long : length row ≡ n
-  pub ten : f.depth ≡ 10 → (i : ℕ) → i < n → (4 ≤ get_or row i 0) × (get_or row i 0 ≤ 1019)
-  pub twelve : f.depth ≡ 12 → (i : ℕ) → i < n → (16 ≤ get_or row i 0) × (get_or row i 0 ≤ 4079)
-
--- a row of the picture
-abbrev pub IsRow : Format → List ℕ → Type 0
-IsRow f whole = AreSamples f 3840 whole
-
--- stream t of a link is there and carries an image
-abbrev pub Present : Format → ℕ → Type 0
-Present f t = (t < streams (shape_of f)) × (MadeUp f t → ⊥)
-
--- all images of the component are sent: G', B', R', Y', and in 4:4:4 C'B and C'R
-abbrev pub AllSent : Format → Type 0
-AllSent f = (f.component ≤ 4) ⊎ (f.structure ≡ 1)
+-- a row of the picture: 3840 samples, each of which may be sent at the depth
+pub record IsRow (f : Format) (whole : List ℕ) : Type 0 where
+  pub long : length whole ≡ 3840
+  pub ten : f.depth ≡ 10 → (i : ℕ) → i < 3840 → (4 ≤ get_or whole i 0) × (get_or whole i 0 ≤ 1019)
+  pub twelve : f.depth ≡ 12 → (i : ℕ) → i < 3840 → (16 ≤ get_or whole i 0) × (get_or whole i 0 ≤ 4079)
 
 -- a span of these samples, sent on stream line l + 41, is not refused; wherever it is whole in a recording it is delivered, with that line
 -- and these words
@@ -227,7 +215,7 @@ pub record Demand2 : Type 1 where
       → WasSent f x
       → (read_span f (sent_symbols f x) ≡ given (reading_of f x).values)
       × (picture_of f (sent_symbols f x) ≡ (reading_of f x).words)
-  -- what is read are exactly the encodings of words that meet rules 21 to 27, whoever made them, and how; every window that is read has the
+  -- what is read are exactly the encodings of words that meet rules 21 to 26, whoever made them, and how; every window that is read has the
   -- words of the span sent for its answer, but for one wrong bit in an XYZ and the ancillary area
   pub windows : WindowPaper
   -- and where its XYZ and its ancillary and blanking areas are as we send them, the answer may be sent, and is sent as the same window
@@ -289,37 +277,12 @@ pub record Demand2 : Type 1 where
       → (placed_of (line_from u l) (sample_from u j)
       ≡ given (record { image = u; line = record { 0 = l }; stream = record { 0 = l + 41 }; sample = j }))
       × (get_or (divided ((u + 1) % 2) 1920 whole) j 0 ≡ get_or whole (sample_from u j) 0)
-  -- the rows come back, whichever streams of a link are present: rows of the images that its streams carry, sent on stream line l + 41, are
-  -- delivered wherever they are in a recording, for each stream that is present the row that was sent, and for each that is made up 800
-  -- throughout
-  pub rows_back :
-      (f : Format) (content : Content) (row : ℕ → List ℕ) (l : ℕ)
-      → IsFormat f
-      → 1 ≤ l
-      → l ≤ 1080
-      → ((t : ℕ) → Present f t → AreSamples f 1920 (row t))
-      → AreContent (content_of f content)
-      → (words : List ℕ)
-      × Delivers f l content (link_rows f row) words
-      × ((t : ℕ) → Present f t → stream_in words t ≡ words_for f (row t))
-      × ((t : ℕ) → t < streams (shape_of f) → MadeUp f t → stream_in words t ≡ replicate 1920 0x800)
-  -- and sample j of line l of the image that a stream carries is where the place call says
-  pub image_places :
-      (f : Format) (link t u l j : ℕ)
-      → IsFormat f
-      → image_of f link t ≡ some u
-      → 1 ≤ l
-      → l ≤ 1080
-      → j ≤ 1919
-      → placed_of (line_from u l) (sample_from u j)
-      ≡ given (record { image = u; line = record { 0 = l }; stream = record { 0 = l + 41 }; sample = j })
-  -- so the picture comes back where all its images are sent. Formats 1 and 2: picture line 2l - 1 gives images 1 and 2, which one link carries (pair 1), and line 2l gives
+  -- the picture comes back. Formats 1 and 2: picture line 2l - 1 gives images 1 and 2, which one link carries (pair 1), and line 2l gives
   -- images 3 and 4, which the other carries (pair 2). The row is divided, sent on stream line l + 41 of its link, delivered wherever it is
   -- in a recording, and joined: it is the row again.
   pub picture_of_two :
       (f : Format) (content : Content) (whole : List ℕ) (pair l : ℕ)
       → IsFormat f
-      → AllSent f
       → f.number ≤ 2
       → 1 ≤ pair
       → pair ≤ 2
@@ -330,10 +293,8 @@ pub record Demand2 : Type 1 where
       → ((t j : ℕ)
       → t < 2
       → j ≤ 1919
-      → let u = 2 * (pair - 1) + t + 1 in
-      (image_of f pair t ≡ some u)
-      × (placed_of (2 * l + pair - 2) (2 * j + t)
-      ≡ given (record { image = u; line = record { 0 = l }; stream = record { 0 = l + 41 }; sample = j })))
+      → placed_of (2 * l + pair - 2) (2 * j + t)
+      ≡ given (record { image = image_of f pair t; line = record { 0 = l }; stream = record { 0 = l + 41 }; sample = j }))
       × (words : List ℕ)
       × Delivers f l content (divided 0 1920 whole ++ divided 1 1920 whole) words
       × (joined 1920 (stream_in words 0) (stream_in words 1) ≡ words_for f whole)
@@ -341,7 +302,6 @@ pub record Demand2 : Type 1 where
   pub picture_of_four :
       (f : Format) (content : Content) (odd even : List ℕ) (l : ℕ)
       → IsFormat f
-      → AllSent f
       → f.number ≡ 3
       → 1 ≤ l
       → l ≤ 1080
@@ -352,9 +312,8 @@ pub record Demand2 : Type 1 where
       → u < 2
       → t < 2
       → j ≤ 1919
-      → (image_of f 1 (2 * u + t) ≡ some (2 * u + t + 1))
-      × (placed_of (2 * l + u - 1) (2 * j + t)
-      ≡ given (record { image = 2 * u + t + 1; line = record { 0 = l }; stream = record { 0 = l + 41 }; sample = j })))
+      → placed_of (2 * l + u - 1) (2 * j + t)
+      ≡ given (record { image = image_of f 1 (2 * u + t); line = record { 0 = l }; stream = record { 0 = l + 41 }; sample = j }))
       × (words : List ℕ)
       × Delivers f l content (divided 0 1920 odd ++ (divided 1 1920 odd ++ (divided 0 1920 even ++ divided 1 1920 even))) words
       × (joined 1920 (stream_in words 0) (stream_in words 1) ≡ words_for f odd)
@@ -362,7 +321,7 @@ pub record Demand2 : Type 1 where
 
 -- ==== 3 ====
 
--- One format at both ends, which is the whole record f, with its depth, component, structure and size, and the recording within the finder's limit: a sent span
+-- One format, one sample depth and one component at both ends, the whole record f, and the recording within the finder's limit: a sent span
 -- that stands whole anywhere in it is delivered with its line number and exactly its picture words, whatever stands around it. In a
 -- recording of sent spans alone with one bit inverted, exactly the other spans are delivered, and nothing else is.
 pub record Demand3 : Type 1 where

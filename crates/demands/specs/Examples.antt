@@ -2,11 +2,10 @@
 -- (`proofs/Examples`), so none of them is empty: not a demand whose good call may be refused, nor one that delivers nothing, nor one
 -- with a condition that nothing meets.
 -- Assumes nothing.
-use Rattle.std.specs.Prelude.{ℕ, ◌+◌, ◌*◌, ◌/◌, ◌≤◌, ◌<◌, ◌≡◌, cond, List, [], ◌∷◌, ◌++◌, eqb, ltb, length, get_or, set, take, drop, replicate}
+use Rattle.std.specs.Prelude.{ℕ, ◌+◌, ◌*◌, ◌≤◌, ◌<◌, ◌≡◌, cond, List, [], ◌∷◌, ◌++◌, eqb, ltb, length, get_or, set, take, drop, replicate}
 use Rattle.std.proofs.Math.Option.{none, some}
 use Rattle.ground.specs.Answer.{refused, given}
 use Rattle.ground.specs.Bit.{inverted}
-use Rattle.ground.specs.Written.{table}
 use Rattle.symbol.specs.declared.disparity.Disparity.{Disparity}
 use Rattle.symbol.specs.declared.disparity.Disparity.TheVariants.{Negative}
 use Rattle.span.specs.declared.content.Content.TheVariants.{NoneNamed}
@@ -14,7 +13,6 @@ use Rattle.span.specs.declared.format.Format.{Format}
 use Rattle.span.specs.Content.{content_of}
 use Rattle.span.specs.Encoding.{symbols_from}
 use Rattle.span.specs.Format.{format_from, shape_of, streams}
-use Rattle.span.specs.Image.{made_up}
 use Rattle.span.specs.Span.{span_words}
 use Rattle.window.specs.Encoded.{chars_of, request_of}
 use Rattle.dividing.specs.Row.{divided, split_first, split_second}
@@ -22,7 +20,7 @@ use Rattle.span.specs.Paper.{word_of}
 use Rattle.window.specs.Paper.{word_of_window}
 use Rattle.window.specs.Read.{repairs_of, picture_of, read_span, read_of, rows_read}
 use Rattle.span.specs.Length.{lengths_of}
-use Rattle.span.specs.Numbers.{IsFormat, Symbols, Samples, MadeUp}
+use Rattle.span.specs.Numbers.{IsFormat, Symbols, Samples}
 use Rattle.window.specs.declared.delivery.Delivery.{Delivery}
 use Rattle.recording.specs.Call.{next_of, rows_next}
 use Rattle.request.specs.Send.{request, send_of, sent_buffer}
@@ -41,16 +39,9 @@ blank_sample f = cond (ltb f.component 5) 0x100 0x800
 abbrev pub other_sample : Format → ℕ
 other_sample f = cond (ltb f.component 5) 0x800 0x100
 
--- a dark picture: every sample the lowest, and 800 on made-up streams; and the words that are delivered for it
-abbrev pub dark_samples : Format → ℕ → List ℕ
-dark_samples f m = table m (λ i. cond (made_up f (i / 1920)) 0x800 (lowest_sample f))
-
-abbrev pub dark_words : Format → ℕ → List ℕ
-dark_words f m = table m (λ i. cond (made_up f (i / 1920)) 0x800 16)
-
--- a span of n symbols and m samples on line 42, the first of the picture, which is dark; and one on a blanking line
+-- a span of n symbols and m samples on line 42, the first of the picture, every sample the lowest; and one on a blanking line
 abbrev pub on_line42 : Format → ℕ → Disparity → Sending
-on_line42 f m d = record { before = d; asked = request 42 NoneNamed (dark_samples f m) }
+on_line42 f m d = record { before = d; asked = request 42 NoneNamed (replicate m (lowest_sample f)) }
 
 abbrev pub blank_line : Format → ℕ → ℕ → Sending
 blank_line f m line = record { before = Negative; asked = request line NoneNamed (replicate m (blank_sample f)) }
@@ -88,7 +79,7 @@ pub record At (f : Format) (n m : ℕ) : Type 0 where
       → length rows ≡ m
       → let r = before ++ (sent_symbols f (on_line42 f m d) ++ after) in
       IsNext f r 0 m (length before) 42
-      × (rows_next f r 0 rows ≡ dark_words f m)
+      × (rows_next f r 0 rows ≡ replicate m 16)
       × (next_of f r (length before + n) m ≡ given none)
   -- and the same on a link that brings these symbols in two pieces, wherever it is cut
   pub cut_in_two :
@@ -101,7 +92,7 @@ pub record At (f : Format) (n m : ℕ) : Type 0 where
       (v : Delivery)
       × (v.line.0 ≡ 42)
       × (live_from f rows 0 [] (take c r ∷ drop c r ∷ [])
-      ≡ record { place = length before; reading = record { values = v; words = dark_words f m } } ∷ [])
+      ≡ record { place = length before; reading = record { values = v; words = replicate m 16 } } ∷ [])
   -- with one bit of the second of three inverted, line 1 is answered at 0 and line 3 at 2n, and then that there is none
   pub one_of_three :
       (i k : ℕ)
@@ -129,17 +120,7 @@ pub record At (f : Format) (n m : ℕ) : Type 0 where
       (d : Disparity) (i : ℕ) (entry : List ℕ)
       → i < m
       → length entry ≡ n
-      → let a = request 42 NoneNamed (set (dark_samples f m) i 3) in
-      (send_of d f a n ≡ refused 6 i) × (sent_buffer d f a entry ≡ entry)
-  -- so is anything but 800 on a made-up stream, at the lowest index as given: of two, that of the stream before
-  pub made_up6 :
-      (d : Disparity) (i j x y : ℕ) (entry : List ℕ)
-      → i < j
-      → j < m
-      → length entry ≡ n
-      → MadeUp f (i / 1920)
-      → (x ≡ 0x800 → ⊥)
-      → let a = request 42 NoneNamed (set (set (dark_samples f m) j y) i x) in
+      → let a = request 42 NoneNamed (set (replicate m (lowest_sample f)) i 3) in
       (send_of d f a n ≡ refused 6 i) × (sent_buffer d f a entry ≡ entry)
   -- on a blanking line 800 is refused with 6 at the first sample of a link of G', B', R' or Y', and 100 at that of one of C'B or C'R
   pub exchanged6 :
@@ -169,10 +150,6 @@ pub record Examples : Type 0 where
   pub no_component7 : lengths_of (format_from 1 12 7 1 1) ≡ refused 1 0
   pub no_structure0 : lengths_of (format_from 1 12 1 0 1) ≡ refused 1 0
   pub no_size0 : lengths_of (format_from 1 12 1 1 0) ≡ refused 1 0
-  -- 4:2:2 and 4:2:0 lack G', B' and R', and there is no structure 4
-  pub no_rin422 : lengths_of (format_from 1 12 3 2 1) ≡ refused 1 0
-  pub no_gin420 : lengths_of (format_from 3 10 1 3 1) ≡ refused 1 0
-  pub no_structure4 : lengths_of (format_from 1 12 4 4 1) ≡ refused 1 0
   -- a row is divided, and what was in the two rows is gone
   pub divides :
       (whole first second : List ℕ)

@@ -9,8 +9,7 @@ use Rattle.symbol.specs.declared.disparity.Disparity.{Disparity}
 use Rattle.span.specs.declared.format.Format.{Format}
 use Rattle.span.specs.Content.{content_of}
 use Rattle.span.specs.Format.{shape_of, streams}
-use Rattle.span.specs.Image.{made_up}
-use Rattle.span.specs.Numbers.{Samples, Blank, MadeUp}
+use Rattle.span.specs.Numbers.{Samples, Blank}
 use Rattle.span.specs.Span.{span_symbols, span_after}
 use Rattle.span.specs.Stream.{Request, picture}
 use Rattle.window.specs.Encoded.{AreContent}
@@ -23,12 +22,11 @@ use Rattle.window.specs.Read.{no_repairs}
 
 -- ---- document 01's own numbers
 
--- x may be sent by stream t, from 0, on stream line n; a made-up stream sends 800 on every line (document 02, A5)
-pub record MaySend (f : Format) (n t x : ℕ) : Type 0 where
-  pub ten : f.depth ≡ 10 → (MadeUp f t → ⊥) → 42 ≤ n → n ≤ 1121 → (4 ≤ x) × (x ≤ 1019)
-  pub twelve : f.depth ≡ 12 → (MadeUp f t → ⊥) → 42 ≤ n → n ≤ 1121 → (16 ≤ x) × (x ≤ 4079)
+-- x may be sent on stream line n
+pub record MaySend (f : Format) (n x : ℕ) : Type 0 where
+  pub ten : f.depth ≡ 10 → 42 ≤ n → n ≤ 1121 → (4 ≤ x) × (x ≤ 1019)
+  pub twelve : f.depth ≡ 12 → 42 ≤ n → n ≤ 1121 → (16 ≤ x) × (x ≤ 4079)
   pub blanking : (42 ≤ n → n ≤ 1121 → ⊥) → Blank f x
-  pub made_up : MadeUp f t → x ≡ 0x800
 
 -- ---- refusals
 
@@ -136,11 +134,6 @@ abbrev pub Delivered : Format → List ℕ → List (Found Reading) → Type 0
 Delivered f r list = DeliveredFrom f r 0 list
 
 -- ---- the picture
-
--- what is given to be sent of these rows, one for each stream: those of the streams that are present, and 800 throughout for those that are
--- made up (document 02, A5)
-abbrev pub link_rows : Format → (ℕ → List ℕ) → List ℕ
-link_rows f row = upto (streams (shape_of f)) (λ t. cond (made_up f t) (replicate 1920 0x800) (row t))
 
 -- the words of a row of samples: at depth 10 shifted by two
 abbrev pub words_for : Format → List ℕ → List ℕ

@@ -12,7 +12,7 @@ use Rattle.span.specs.Stream.{Request}
 use Rattle.span.specs.Numbers.{IsFormat, Symbols, Samples}
 use Rattle.way_back.specs.Paper.{Carried}
 use Rattle.window.specs.Paper.{word_of_window}
-use Rattle.window.specs.Rules.{Rule20, Rule21, Rule22, Rule23, Rule24, Rule25, Rule26, Rule27}
+use Rattle.window.specs.Rules.{Rule20, Rule21, Rule22, Rule23, Rule24, Rule25, Rule26}
 use Rattle.demands.specs.Form.{MaySend, Refusal, rule, rule_at}
 
 -- ---- single calls
@@ -80,17 +80,17 @@ lengths_rules f = rule 1 (IsFormat f) ∷ []
 abbrev pub fill_rules : Format → ℕ → List Refusal
 fill_rules f room = rule 1 (IsFormat f) ∷ rule 4 (Samples f room) ∷ []
 
--- sending a span: 1, 2, 3, 4, 6 with the first index, stream by stream
+-- sending a span: 1, 2, 3, 4, 6 with the first index
 abbrev pub send_rules : Format → Request → ℕ → List Refusal
 send_rules f a room =
     rule 1 (IsFormat f)
     ∷ rule 2 ((1 ≤ a.line) × (a.line ≤ 1125))
     ∷ rule 3 (Samples f (length a.samples))
     ∷ rule 4 (Symbols f room)
-    ∷ rule_at 6 (length a.samples) (λ i. MaySend f a.line (i / 1920) (get_or a.samples i 0))
+    ∷ rule_at 6 (length a.samples) (λ i. MaySend f a.line (get_or a.samples i 0))
     ∷ []
 
--- a span: 20 with the first symbol, 21 to 27 with the first interleaved word, each over the whole of it; `window/specs/Rules` says what each is
+-- a span: 20 with the first symbol, 21 to 26 with the first interleaved word, each over the whole of it; `window/specs/Rules` says what each is
 abbrev pub span_rules : Format → List ℕ → List Refusal
 span_rules f w =
     let s = streams (shape_of f) in
@@ -103,14 +103,13 @@ span_rules f w =
     ∷ rule_at 24 n (λ k. Rule24 word (k / s) (k % s))
     ∷ rule_at 25 n (λ k. Rule25 f word (k / s) (k % s))
     ∷ rule_at 26 n (λ k. Rule26 f word (k / s) (k % s))
-    ∷ rule_at 27 n (λ k. Rule27 f word (k / s) (k % s))
     ∷ []
 
--- judging a span: 1, 3, 20 to 27
+-- judging a span: 1, 3, 20 to 26
 abbrev pub judge_rules : Format → List ℕ → List Refusal
 judge_rules f w = rule 1 (IsFormat f) ∷ rule 3 (Symbols f (length w)) ∷ span_rules f w
 
--- reading it into rows with room for this many words: 1, 3, 4, 20 to 27
+-- reading it into rows with room for this many words: 1, 3, 4, 20 to 26
 abbrev pub read_rules : Format → List ℕ → ℕ → List Refusal
 read_rules f w room = rule 1 (IsFormat f) ∷ rule 3 (Symbols f (length w)) ∷ rule 4 (Samples f room) ∷ span_rules f w
 

@@ -67,9 +67,8 @@ pub record RefusalNumbers : Type 0 where
       ∷ paper_read (Read.WrongCrcc 0)
       ∷ paper_read (Read.WrongSample 0)
       ∷ paper_read (Read.WrongFill 0)
-      ∷ paper_read (Read.WrongMadeUp 0)
       ∷ [])
-      ≡ 1 ∷ 3 ∷ 4 ∷ 20 ∷ 21 ∷ 22 ∷ 23 ∷ 24 ∷ 25 ∷ 26 ∷ 27 ∷ []
+      ≡ 1 ∷ 3 ∷ 4 ∷ 20 ∷ 21 ∷ 22 ∷ 23 ∷ 24 ∷ 25 ∷ 26 ∷ []
   pub found : numbers_of (paper_found Found.UnknownFormat ∷ paper_found Found.WrongInput ∷ paper_found Found.WrongStart ∷ []) ≡ 1 ∷ 3 ∷ 5 ∷ []
   pub next :
       numbers_of

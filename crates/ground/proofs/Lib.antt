@@ -2,7 +2,6 @@ pub mod Answers
 pub mod Bits
 pub mod Cases
 pub mod Laws
-pub mod Looking
 pub mod Putting
 pub mod Ranges
 pub mod Reading

@@ -26,9 +26,9 @@ use Rattle.window.proofs.Windows.{unknown, no_window, no_room, read_is}
 use Rattle.read_test20.specs.declared.whole.Valid.{Valid}
 use Rattle.read_test20.specs.Inside.Run.{place20}
 use Rattle.read_test20.specs.Inside.Whole.{valid_of, is_all_valid, whole_if, rows_whole}
-use Rattle.read_test21_27.specs.declared.service.Verdict.{Verdict}
-use Rattle.read_test21_27.specs.declared.service.Verdict.TheVariants.{AllHold, Fails}
-use Rattle.read_test21_27.specs.Inside.Verdict.{is_failed, first_row}
+use Rattle.read_test21_26.specs.declared.service.Verdict.{Verdict}
+use Rattle.read_test21_26.specs.declared.service.Verdict.TheVariants.{AllHold, Fails}
+use Rattle.read_test21_26.specs.Inside.Verdict.{is_failed, first_row}
 use Rattle.read.specs.Inside.Accept.{delivered_in, rows_accepted}
 use Rattle.read.specs.Inside.Picture.{line_tests, picture_tests}
 use Rattle.read.proofs.Picturing.{fill_refused}
@@ -44,7 +44,7 @@ then_failed : (v more : Verdict) → is_failed more ≡ true → is_failed (then
 then_failed AllHold more t = t
 then_failed (Fails x) more t = refl
 
--- tests 25 to 27 after those that hold
+-- tests 25 and 26 after those that hold
 module _ (f : Format) (w : List ℕ) (is : IsWindow f w) (all : place20 (shape_of f) w ≡ length w) (hold : first_row (line_tests f w) ≡ AllHold) where
   pub not_accepted : is_failed (first_row (picture_tests f w)) ≡ true → none ≡ delivered_in (read_span f w)
   not_accepted t =

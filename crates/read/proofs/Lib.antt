@@ -1,6 +1,5 @@
 pub mod Accepted
 pub mod Laws
-pub mod MadeUp
 pub mod OneToOne
 pub mod Picturing
 pub mod Summing

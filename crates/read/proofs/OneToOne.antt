@@ -8,7 +8,7 @@ use Rattle.ground.specs.Inside.Answer.{Injective}
 use Rattle.ground.proofs.Answers.{told_again}
 use Rattle.window.specs.declared.delivery.Delivery.{Delivery}
 use Rattle.read.specs.declared.answer.Read.{Read}
-use Rattle.read.specs.declared.answer.Read.TheVariants.{Delivered, UnknownFormat, WrongInput, WrongOutput, WrongSymbol, WrongTiming, WrongLine, WrongV, WrongCrcc, WrongSample, WrongFill, WrongMadeUp}
+use Rattle.read.specs.declared.answer.Read.TheVariants.{Delivered, UnknownFormat, WrongInput, WrongOutput, WrongSymbol, WrongTiming, WrongLine, WrongV, WrongCrcc, WrongSample, WrongFill}
 use Rattle.read.specs.Call.{paper_read}
 
 -- the answer out of the paper's values
@@ -21,8 +21,7 @@ read_again (refused n k) =
     (cond (eqb n 20) (WrongSymbol k)
     (cond (eqb n 21) (WrongTiming k)
     (cond (eqb n 22) (WrongLine k)
-    (cond (eqb n 23) (WrongV k) (cond (eqb n 24) (WrongCrcc k) (cond (eqb n 25) (WrongSample k)
-    (cond (eqb n 26) (WrongFill k) (WrongMadeUp k))))))))))
+    (cond (eqb n 23) (WrongV k) (cond (eqb n 24) (WrongCrcc k) (cond (eqb n 25) (WrongSample k) (WrongFill k)))))))))
 
 pub read_one_to_one : Injective paper_read
 read_one_to_one = told_again read_again again
@@ -39,4 +38,3 @@ read_one_to_one = told_again read_again again
     again (WrongCrcc k) = refl
     again (WrongSample k) = refl
     again (WrongFill k) = refl
-    again (WrongMadeUp k) = refl

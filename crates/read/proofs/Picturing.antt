@@ -1,11 +1,11 @@
--- Tests 25 to 27: where the picture, the fill and the made-up streams are right they hold, and else they fail at the lowest place.
+-- Tests 25 and 26: where the picture and the fill are right they hold, and else they fail at the lowest place.
 -- Assumes nothing.
 use mathlib.Core.Path.{◌≡◌, refl, sym, ap, ◌∙◌, fun_ext}
 use mathlib.Core.Bool.{Bool, true, false, true≢false, not}
-use mathlib.Core.List.{List}
+use mathlib.Core.List.{List, [], ◌∷◌}
 use mathlib.Core.Option.{Option, none, some}
-use Prim.Native.Nat.{ℕ, ◌+◌, ◌-◌, ◌*◌, ◌/◌, ◌%◌, ◌≤◌, ◌<◌}
-use native.Mathlib.Nat.{mul-le-mul_left, div-add-mod}
+use Prim.Native.Nat.{ℕ, zero, suc, ◌+◌, ◌-◌, ◌*◌, ◌/◌, ◌%◌, ◌≤◌, ◌<◌}
+use native.Mathlib.Nat.{le_of_suc-le-suc, not-suc-le-zero, mul-le-mul_left, div-add-mod}
 use native.Mathlib.Omega.{arith}
 use lib.Dec.{eqb, ltb}
 use lib.ListN.{length, get_or}
@@ -14,7 +14,7 @@ use Rattle.ground.specs.Range.{within}
 use Rattle.ground.specs.Search.{first_from, first_below, is_some}
 use Rattle.ground.proofs.Cases.{on_test}
 use Rattle.ground.proofs.Ranges.{is_within, not_within}
-use Rattle.ground.proofs.Looking.{each_holds, all_hold}
+use Rattle.ground.proofs.Tests.{both_left, both_right}
 use Rattle.ground.proofs.Writing.{get_d_upto, length_table, get_d_table}
 use Rattle.line.specs.Stream.{is_active}
 use Rattle.span.specs.declared.format.Format.{Format}
@@ -23,24 +23,23 @@ use Rattle.span.specs.Span.{fill_word}
 use Rattle.span.specs.Layout.{picture_start, eav_start, ancillary_start}
 use Rattle.span.proofs.Lengths.{known_has_streams}
 use Rattle.packing.specs.Sample.{allowed_word}
-use Rattle.read_test21_27.proofs.Regions.{from_word, before_word}
-use Rattle.read_test21_27.proofs.Searching.{hit_in, miss_in, is_miss_in}
+use Rattle.read_test21_26.proofs.Regions.{from_word, before_word}
+use Rattle.read_test21_26.proofs.Searching.{hit_in, miss_in, is_miss_in}
 use Rattle.window.specs.Read.{placed, picture_of}
-use Rattle.window.specs.Tests.{word_of, column, rows, line_read, holds25, holds26, holds27}
+use Rattle.window.specs.Tests.{word_of, column, rows, line_read, holds25, holds26}
 use Rattle.window.specs.Words.{word_at}
 use Rattle.window.specs.Inside.Fill.{fill_right}
 use Rattle.window.proofs.Accepting.{none_fails, fails_at}
 use Rattle.window.proofs.Placing.{place_again, stream_below, placed_at}
-use Rattle.read_test21_27.specs.Inside.Call.{wrong_place}
-use Rattle.read_test21_27.specs.Inside.Holds.{picture25, fill26, made_up_in, made_up27, holds_of, wrong_in}
-use Rattle.read_test21_27.specs.Inside.Picture.{all_allowed}
-use Rattle.read_test21_27.specs.declared.service.Verdict.{Verdict}
-use Rattle.read_test21_27.specs.declared.service.Verdict.TheVariants.{AllHold}
-use Rattle.read_test21_27.specs.Inside.Verdict.{verdict_of, is_failed, first_row}
+use Rattle.read_test21_26.specs.Inside.Call.{wrong25, wrong26}
+use Rattle.read_test21_26.specs.Inside.Holds.{picture25, fill26, wrong_in}
+use Rattle.read_test21_26.specs.Inside.Picture.{all_allowed}
+use Rattle.read_test21_26.specs.declared.service.Verdict.{Verdict}
+use Rattle.read_test21_26.specs.declared.service.Verdict.TheVariants.{AllHold}
+use Rattle.read_test21_26.specs.Inside.Verdict.{verdict_of, is_failed, first_row}
 use Rattle.window.specs.Inside.Window.{IsWindow}
 use Rattle.window.proofs.Windows.{length_rows}
-use Rattle.read.specs.Inside.Picture.{picture_tests, right_picture, right_made_up}
-use Rattle.read.proofs.MadeUp.{words_told, words_hold}
+use Rattle.read.specs.Inside.Picture.{picture_tests, right_picture}
 
 -- ---- a test of all places that asks something in one run alone is another test of that run
 module _ (n from to : ℕ) (holds asked : ℕ → Bool) (up : from ≤ to) (most : to ≤ n)
@@ -72,6 +71,18 @@ module _ (n from to : ℕ) (holds asked : ℕ → Bool) (up : from ≤ to) (most
           ∙ sym e
 
 -- ---- the words of the picture
+each_allowed : (depth : ℕ) (xs : List ℕ) → all_allowed depth xs ≡ true → (i : ℕ) → i < length xs → allowed_word depth (get_or xs i 0) ≡ true
+unfolding all_allowed
+each_allowed depth [] t i h = absurd (not-suc-le-zero h)
+each_allowed depth (x ∷ xs) t zero h = both_left (allowed_word depth x) (all_allowed depth xs) t
+each_allowed depth (x ∷ xs) t (suc i) h =
+    each_allowed depth xs (both_right (allowed_word depth x) (all_allowed depth xs) t) i (le_of_suc-le-suc h)
+
+all_allowed_lem : (depth : ℕ) (xs : List ℕ) → ((i : ℕ) → i < length xs → allowed_word depth (get_or xs i 0) ≡ true) → all_allowed depth xs ≡ true
+unfolding all_allowed
+all_allowed_lem depth [] f = refl
+all_allowed_lem depth (x ∷ xs) f = rw (f 0 (omega arith)) (all_allowed_lem depth xs (λ i h. f (suc i) (omega arith)))
+
 module _ (s : ℕ) (word : ℕ → ℕ) where
   -- word 4 + i of stream t stands at i of its row
   row_word : (t i : ℕ) → t < s → i < 1920 → get_or (rows s word) (1920 * t + i) 0 ≡ word_of s word (picture_start + i) t
@@ -92,75 +103,6 @@ module _ (f : Format) (w : List ℕ) (is : IsWindow f w) where
   some_streams : 1 ≤ s
   some_streams = omega (arith, known_has_streams f is.known)
 
-  -- ---- a test of the picture words by their streams, in the rows and at their places
-  module _ (ok : ℕ → ℕ → Bool) where
-    abbrev asked : ℕ → Bool
-    asked = placed s (λ j t. ok t (word_of s word j t))
-
-    row_end : (t : ℕ) → t < s → 1920 * t + 1920 ≤ 1920 * s
-    row_end t h = omega arith
-
-    low_place : (i : ℕ) → picture_start * s ≤ s * (picture_start + i)
-    low_place i = omega arith
-
-    high_place : (i t : ℕ) → i < 1920 → t < s → s * (picture_start + i) + t < eav_start * s
-    high_place i t l b =
-        let m : s * (5 + i) ≤ s * eav_start = mul-le-mul_left s (let h : 5 + i ≤ eav_start = omega arith in h) in omega (arith, m)
-
-    -- it fails nowhere where it holds of each word of the rows, and the other way round
-    rows_hold : ((x : ℕ) → x < length (rows s word) → ok (x / 1920) (get_or (rows s word) x 0) ≡ true)
-        → wrong_in asked (picture_start * s) (eav_start * s) ≡ none
-    rows_hold each =
-        is_miss_in asked (omega arith)
-        (record {
-          never =
-              λ k h l.
-              let j = k / s in
-              let low : picture_start ≤ j = from_word s some_streams (omega arith) in
-              let high : j < eav_start = before_word s some_streams (omega arith) in
-              let i = j - 4 in
-              let back : 4 + i ≡ j = omega arith in
-              let b : k % s < s = stream_below s some_streams k in
-              let m : 1920 * (k % s) + i < length (rows s word) = omega (arith, length_rows s word, row_end (k % s) b) in
-              let t : (1920 * (k % s) + i) / 1920 ≡ k % s = omega arith in
-              ap not
-              (ap (λ (x : ℕ). ok (k % s) (word_of s word x (k % s))) (sym back)
-              ∙ ap (ok (k % s)) (sym (row_word s word (k % s) i b (omega arith)))
-              ∙ ap (λ (u : ℕ). ok u (get_or (rows s word) (1920 * (k % s) + i) 0)) (sym t)
-              ∙ each (1920 * (k % s) + i) m);
-        })
-
-    rows_told : wrong_in asked (picture_start * s) (eav_start * s) ≡ none
-        → (x : ℕ) → x < length (rows s word) → ok (x / 1920) (get_or (rows s word) x 0) ≡ true
-    rows_told e x h =
-        let t = x / 1920 in
-        let i = x % 1920 in
-        let inside : x < 1920 * s = rw (length_rows s word) at h in
-        let b : t < s = omega arith in
-        let l : i < 1920 = omega arith in
-        let at : 1920 * t + i ≡ x = div-add-mod x 1920 in
-        let never = (miss_in asked (omega arith) e).never (s * (picture_start + i) + t) (omega (arith, low_place i)) (omega (arith, high_place i t l b)) in
-        ap (λ (y : ℕ). ok t (get_or (rows s word) y 0)) (sym at)
-        ∙ ap (ok t) (row_word s word t i b l)
-        ∙ sym (placed_at s some_streams (picture_start + i) t b (λ j t. ok t (word_of s word j t)))
-        ∙ not-false (asked (s * (picture_start + i) + t)) never
-
-  -- a word of the picture stands among its places, and the other way round
-  not_picture : (k : ℕ) → (picture_start * s ≤ k → eav_start * s ≤ k) → within picture_start (eav_start - 1) (k / s) ≡ false
-  not_picture k far =
-      not_within picture_start (eav_start - 1) (k / s)
-      (λ a b.
-      let m : s * picture_start ≤ s * (k / s) = mul-le-mul_left s a in
-      let low : picture_start * s ≤ k = omega (arith, m, place_again s some_streams k) in
-      let j : eav_start ≤ k / s = from_word s some_streams (omega (arith, far low)) in
-      omega arith)
-
-  is_picture : (k : ℕ) → picture_start * s ≤ k → k < eav_start * s → within picture_start (eav_start - 1) (k / s) ≡ true
-  is_picture k low high =
-      let first : picture_start ≤ k / s = from_word s some_streams (omega arith) in
-      let last : k / s < eav_start = before_word s some_streams (omega arith) in
-      is_within picture_start (eav_start - 1) (k / s) first (omega arith)
-
   -- ---- 25
   abbrev asked25 : ℕ → Bool
   asked25 = placed s (picture25 f s word)
@@ -168,22 +110,81 @@ module _ (f : Format) (w : List ℕ) (is : IsWindow f w) where
   abbrev fails25 : Option ℕ
   fails25 = first_below n (λ k. not (placed s (holds25 s word f) k))
 
+  -- all words are allowed where none of them fails
   words_allowed : all_allowed f.depth (rows s word) ≡ true → wrong_in asked25 (picture_start * s) (eav_start * s) ≡ none
-  words_allowed t = rows_hold (λ _ x. allowed_word f.depth x) (each_holds (allowed_word f.depth) (rows s word) t)
+  words_allowed t =
+      is_miss_in asked25 (omega arith)
+      (record {
+        never =
+            λ k h l.
+            let j = k / s in
+            let low : picture_start ≤ j = from_word s some_streams (omega arith) in
+            let high : j < eav_start = before_word s some_streams (omega arith) in
+            let i = j - 4 in
+            let back : 4 + i ≡ j = omega arith in
+            let b : k % s < s = stream_below s some_streams k in
+            let m : 1920 * (k % s) + i < length (rows s word) = rw length_rows_is (omega (arith, row_end (k % s) b)) in
+            ap not
+            (ap (λ (x : ℕ). allowed_word f.depth (word_of s word x (k % s))) (sym back)
+            ∙ ap (allowed_word f.depth) (sym (row_word s word (k % s) i b (omega arith)))
+            ∙ each_allowed f.depth (rows s word) t (1920 * (k % s) + i) m);
+      })
+    where
+      length_rows_is : length (rows s word) ≡ 1920 * s
+      length_rows_is = length_rows s word
+
+      row_end : (t : ℕ) → t < s → 1920 * t + 1920 ≤ 1920 * s
+      row_end t h = omega arith
 
   none_wrong : wrong_in asked25 (picture_start * s) (eav_start * s) ≡ none → all_allowed f.depth (rows s word) ≡ true
-  none_wrong e = all_hold (allowed_word f.depth) (rows s word) (rows_told (λ _ x. allowed_word f.depth x) e)
+  none_wrong e =
+      all_allowed_lem f.depth (rows s word)
+      (λ x h.
+      let t = x / 1920 in
+      let i = x % 1920 in
+      let inside : x < 1920 * s = rw (length_rows s word) at h in
+      let b : t < s = omega arith in
+      let l : i < 1920 = omega arith in
+      let at : 1920 * t + i ≡ x = div-add-mod x 1920 in
+      let never = (miss_in asked25 (omega arith) e).never (s * (picture_start + i) + t) (omega (arith, low_place i)) (omega (arith, high_place i t l b)) in
+      ap (λ (y : ℕ). allowed_word f.depth (get_or (rows s word) y 0)) (sym at)
+      ∙ ap (allowed_word f.depth) (row_word s word t i b l)
+      ∙ sym (placed_at s some_streams (picture_start + i) t b (picture25 f s word))
+      ∙ not-false (asked25 (s * (picture_start + i) + t)) never)
+    where
+      low_place : (i : ℕ) → picture_start * s ≤ s * (picture_start + i)
+      low_place i = omega arith
+
+      high_place : (i t : ℕ) → i < 1920 → t < s → s * (picture_start + i) + t < eav_start * s
+      high_place i t l b =
+          let m : s * (5 + i) ≤ s * eav_start = mul-le-mul_left s (let h : 5 + i ≤ eav_start = omega arith in h) in omega (arith, m)
 
   -- the verdict of a search that finds something, whatever follows
   found_some : (number : ℕ) (rest : Verdict) (o : Option ℕ) → (o ≡ none → ⊥) → verdict_of number o AllHold ≡ verdict_of number o rest
   found_some number rest none x = absurd (x refl)
   found_some number rest (some k) x = refl
 
-  active_25 : is_active (line_read s word) ≡ true → fails25 ≡ wrong_in asked25 (picture_start * s) (eav_start * s)
+  -- a word of the picture stands among its places, and the other way round
+  outside_25 : (k : ℕ) → (picture_start * s ≤ k → eav_start * s ≤ k) → placed s (holds25 s word f) k ≡ true
   unfolding holds25
+  outside_25 k far =
+      rw (not_within picture_start (eav_start - 1) (k / s)
+      (λ a b.
+      let m : s * picture_start ≤ s * (k / s) = mul-le-mul_left s a in
+      let low : picture_start * s ≤ k = omega (arith, m, place_again s some_streams k) in
+      let j : eav_start ≤ k / s = from_word s some_streams (omega (arith, far low)) in
+      omega arith))
+
+  inside_25 : is_active (line_read s word) ≡ true → (k : ℕ) → picture_start * s ≤ k → k < eav_start * s → placed s (holds25 s word f) k ≡ asked25 k
+  unfolding holds25
+  inside_25 a k low high =
+      let first : picture_start ≤ k / s = from_word s some_streams (omega arith) in
+      let last : k / s < eav_start = before_word s some_streams (omega arith) in
+      rw (is_within picture_start (eav_start - 1) (k / s) first (omega arith), a)
+
+  active_25 : is_active (line_read s word) ≡ true → fails25 ≡ wrong_in asked25 (picture_start * s) (eav_start * s)
   active_25 a =
-      one_run n (picture_start * s) (eav_start * s) (placed s (holds25 s word f)) asked25 (omega arith) (omega arith)
-      (λ k _ far. rw (not_picture k far)) (λ k low high. rw (is_picture k low high, a))
+      one_run n (picture_start * s) (eav_start * s) (placed s (holds25 s word f)) asked25 (omega arith) (omega arith) (λ k _. outside_25 k) (inside_25 a)
 
   blank_25 : is_active (line_read s word) ≡ false → fails25 ≡ none
   unfolding holds25
@@ -194,8 +195,8 @@ module _ (f : Format) (w : List ℕ) (is : IsWindow f w) where
   right_25 t = on_test (is_active (line_read s word)) (λ a. active_25 a ∙ words_allowed (rw a at t)) blank_25
 
   pub wrong_25 : (rest : Verdict) → right_picture f (line_read s word) (picture_of f w) ≡ false
-      → verdict_of 25 (wrong_place 25 f w) AllHold ≡ verdict_of 25 fails25 rest
-  unfolding picture_of wrong_place holds_of
+      → verdict_of 25 (wrong25 f w) AllHold ≡ verdict_of 25 fails25 rest
+  unfolding picture_of wrong25
   wrong_25 rest t =
       on_test (is_active (line_read s word))
       (λ a.
@@ -243,59 +244,21 @@ module _ (f : Format) (w : List ℕ) (is : IsWindow f w) where
   pub right_26 : fill_right (shape_of f) w ≡ true → fails26 ≡ none
   right_26 t = fill_26 ∙ is_none _ (sym looked_26 ∙ t)
 
-  unfilled : fill_right (shape_of f) w ≡ false → fails26 ≡ none → ⊥
-  unfilled t e = true≢false (sym (looked_26 ∙ ap (λ (o : Option ℕ). not (is_some o)) (sym fill_26 ∙ e)) ∙ t)
+  pub wrong_26 : verdict_of 26 (wrong26 f w) AllHold ≡ verdict_of 26 fails26 AllHold
+  unfolding wrong26
+  wrong_26 = ap (λ (o : Option ℕ). verdict_of 26 o AllHold) (sym fill_26)
 
-  pub wrong_26 : (rest : Verdict) → fill_right (shape_of f) w ≡ false → verdict_of 26 (wrong_place 26 f w) AllHold ≡ verdict_of 26 fails26 rest
-  unfolding wrong_place holds_of
-  wrong_26 rest t =
-      ap (λ (o : Option ℕ). verdict_of 26 o AllHold) (sym fill_26) ∙ found_some 26 rest fails26 (unfilled t)
+  -- ---- the verdict over both
+  pub both_hold : right_picture f (line_read s word) (picture_of f w) ≡ true → fill_right (shape_of f) w ≡ true → AllHold ≡ first_row (picture_tests f w)
+  both_hold t u = rw (right_25 t, right_26 u)
 
-  -- ---- 27
-  abbrev asked27 : ℕ → Bool
-  asked27 = placed s (made_up27 f s word)
-
-  abbrev fails27 : Option ℕ
-  fails27 = first_below n (λ k. not (placed s (holds27 s word f) k))
-
-  picture_27 : fails27 ≡ wrong_in asked27 (picture_start * s) (eav_start * s)
-  unfolding holds27
-  picture_27 =
-      one_run n (picture_start * s) (eav_start * s) (placed s (holds27 s word f)) asked27 (omega arith) (omega arith)
-      (λ k _ far. rw (not_picture k far)) (λ k low high. rw (is_picture k low high))
-
-  pub right_27 : right_made_up f (picture_of f w) ≡ true → fails27 ≡ none
-  unfolding picture_of
-  right_27 t = picture_27 ∙ rows_hold (made_up_in f) (words_told f (rows s word) (length_rows s word) t)
-
-  unmade : right_made_up f (picture_of f w) ≡ false → fails27 ≡ none → ⊥
-  unfolding picture_of
-  unmade t e = true≢false (sym (words_hold f (rows s word) (length_rows s word) (rows_told (made_up_in f) (sym picture_27 ∙ e))) ∙ t)
-
-  pub wrong_27 : verdict_of 27 (wrong_place 27 f w) AllHold ≡ verdict_of 27 fails27 AllHold
-  unfolding wrong_place holds_of
-  wrong_27 = ap (λ (o : Option ℕ). verdict_of 27 o AllHold) (sym picture_27)
-
-  -- ---- the verdict over the three
-  abbrev behind25 : Verdict
-  behind25 = verdict_of 26 fails26 (verdict_of 27 fails27 AllHold)
-
-  pub all_right : right_picture f (line_read s word) (picture_of f w) ≡ true → fill_right (shape_of f) w ≡ true → right_made_up f (picture_of f w) ≡ true
-      → AllHold ≡ first_row (picture_tests f w)
-  all_right t u v = rw (right_25 t, right_26 u, right_27 v)
-
-  pub made_up_fails : {v : Verdict} → right_picture f (line_read s word) (picture_of f w) ≡ true → fill_right (shape_of f) w ≡ true
-      → v ≡ verdict_of 27 (wrong_place 27 f w) AllHold → v ≡ first_row (picture_tests f w)
-  made_up_fails t u e = e ∙ wrong_27 ∙ rw (right_25 t, right_26 u) refl
-
-  pub fill_fails : {v : Verdict} → right_picture f (line_read s word) (picture_of f w) ≡ true → fill_right (shape_of f) w ≡ false
-      → v ≡ verdict_of 26 (wrong_place 26 f w) AllHold → v ≡ first_row (picture_tests f w)
-  fill_fails t u e =
-      e ∙ wrong_26 (verdict_of 27 fails27 AllHold) u ∙ ap (λ (o : Option ℕ). verdict_of 25 o behind25) (sym (right_25 t))
-
-  pub picture_fails : {v : Verdict} → right_picture f (line_read s word) (picture_of f w) ≡ false → v ≡ verdict_of 25 (wrong_place 25 f w) AllHold
+  pub fill_fails : {v : Verdict} → right_picture f (line_read s word) (picture_of f w) ≡ true → v ≡ verdict_of 26 (wrong26 f w) AllHold
       → v ≡ first_row (picture_tests f w)
-  picture_fails t e = e ∙ wrong_25 behind25 t
+  fill_fails t e = e ∙ wrong_26 ∙ ap (λ (o : Option ℕ). verdict_of 25 o (verdict_of 26 fails26 AllHold)) (sym (right_25 t))
+
+  pub picture_fails : {v : Verdict} → right_picture f (line_read s word) (picture_of f w) ≡ false → v ≡ verdict_of 25 (wrong25 f w) AllHold
+      → v ≡ first_row (picture_tests f w)
+  picture_fails t e = e ∙ wrong_25 (verdict_of 26 fails26 AllHold) t
 
   -- ---- that they do not hold, without a place
   first_failed : (number : ℕ) (rest : Verdict) (o : Option ℕ) → (o ≡ none → ⊥) → is_failed (verdict_of number o rest) ≡ true
@@ -309,15 +272,13 @@ module _ (f : Format) (w : List ℕ) (is : IsWindow f w) where
   pub picture_refused : right_picture f (line_read s word) (picture_of f w) ≡ false → is_failed (first_row (picture_tests f w)) ≡ true
   unfolding picture_of
   picture_refused t =
-      first_failed 25 behind25 fails25
+      first_failed 25 (verdict_of 26 fails26 AllHold) fails25
       (λ e.
       on_test (is_active (line_read s word)) (λ a. true≢false (sym (none_wrong (sym (active_25 a) ∙ e)) ∙ rw a at t))
       (λ a. true≢false (rw a at t)))
 
   pub fill_refused : fill_right (shape_of f) w ≡ false → is_failed (first_row (picture_tests f w)) ≡ true
-  fill_refused t = rest_failed 25 behind25 fails25 (first_failed 26 (verdict_of 27 fails27 AllHold) fails26 (unfilled t))
-
-  pub made_up_refused : right_made_up f (picture_of f w) ≡ false → is_failed (first_row (picture_tests f w)) ≡ true
-  made_up_refused t =
-      rest_failed 25 behind25 fails25
-      (rest_failed 26 (verdict_of 27 fails27 AllHold) fails26 (first_failed 27 AllHold fails27 (unmade t)))
+  fill_refused t =
+      rest_failed 25 (verdict_of 26 fails26 AllHold) fails25
+      (first_failed 26 AllHold fails26
+      (λ e. true≢false (sym (looked_26 ∙ ap (λ (o : Option ℕ). not (is_some o)) (sym fill_26 ∙ e)) ∙ t)))

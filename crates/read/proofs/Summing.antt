@@ -21,8 +21,8 @@ use Rattle.crcc.specs.Inside.Sums.{sum_in}
 use Rattle.window.specs.Words.{word_at}
 use Rattle.window.specs.Inside.Columns.{column_of, sums_of}
 use Rattle.window.proofs.Placing.{stream_below}
-use Rattle.read_test21_27.specs.Inside.Holds.{crcc_received, holds24_by}
-use Rattle.read_test21_27.specs.Inside.Verdict.{service_tests}
+use Rattle.read_test21_26.specs.Inside.Holds.{crcc_received, holds24_by}
+use Rattle.read_test21_26.specs.Inside.Verdict.{service_tests}
 
 module _ (p : Shape) (w : List ℕ) (some_streams : 1 ≤ p.stream_pairs) (few : p.stream_pairs ≤ 2) where
   -- the sum of a stream is that of its picture words

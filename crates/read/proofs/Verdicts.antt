@@ -10,14 +10,14 @@ use lib.Dec.{leb}
 use borrow.Author.Tests.{leb-true}
 use Rattle.ground.specs.Answer.{Answer, Row, refused, given, checked}
 use Rattle.ground.proofs.Tests.{both_left, both_right}
-use Rattle.read_test21_27.specs.declared.call.Judged.TheVariants.{Serves, Refused, NoWindow}
-use Rattle.read_test21_27.specs.declared.call.Lowest.TheVariants.{Place, NoneWrong, NoWindow as NotWindow}
-use Rattle.read_test21_27.specs.declared.call.Service.{Service}
-use Rattle.read_test21_27.specs.declared.service.Fault.{Fault}
-use Rattle.read_test21_27.specs.declared.service.Verdict.{Verdict}
-use Rattle.read_test21_27.specs.declared.service.Verdict.TheVariants.{AllHold, Fails}
-use Rattle.read_test21_27.specs.Inside.Call.{judged_by, lowest_of}
-use Rattle.read_test21_27.specs.Inside.Verdict.{is_failed, verdict_of, first_row}
+use Rattle.read_test21_26.specs.declared.call.Judged.TheVariants.{Serves, Refused, NoWindow}
+use Rattle.read_test21_26.specs.declared.call.Lowest.TheVariants.{Place, NoneWrong, NoWindow as NotWindow}
+use Rattle.read_test21_26.specs.declared.call.Service.{Service}
+use Rattle.read_test21_26.specs.declared.service.Fault.{Fault}
+use Rattle.read_test21_26.specs.declared.service.Verdict.{Verdict}
+use Rattle.read_test21_26.specs.declared.service.Verdict.TheVariants.{AllHold, Fails}
+use Rattle.read_test21_26.specs.Inside.Call.{judged_by, lowest_of}
+use Rattle.read_test21_26.specs.Inside.Verdict.{is_failed, verdict_of, first_row}
 
 -- ---- the answer: what was asked for if all hold, and else the refusal
 abbrev pub answer_by : {A : Type 0} → Verdict → A → Answer A

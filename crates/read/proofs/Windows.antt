@@ -20,11 +20,11 @@ use Rattle.span.specs.declared.format.Shape.{Shape}
 use Rattle.span.specs.Format.{shape_of, streams, samples_in, symbols_in}
 use Rattle.span.proofs.Formats.{small}
 use Rattle.span.proofs.Lengths.{known_has_streams}
-use Rattle.read_test21_27.specs.declared.call.Service.{Service}
-use Rattle.read_test21_27.specs.declared.call.Judged.{Judged}
-use Rattle.read_test21_27.specs.declared.service.Fault.{Fault}
-use Rattle.read_test21_27.specs.declared.service.Verdict.{Verdict}
-use Rattle.read_test21_27.specs.declared.service.Verdict.TheVariants.{AllHold, Fails}
+use Rattle.read_test21_26.specs.declared.call.Service.{Service}
+use Rattle.read_test21_26.specs.declared.call.Judged.{Judged}
+use Rattle.read_test21_26.specs.declared.service.Fault.{Fault}
+use Rattle.read_test21_26.specs.declared.service.Verdict.{Verdict}
+use Rattle.read_test21_26.specs.declared.service.Verdict.TheVariants.{AllHold, Fails}
 use Rattle.read_test20.specs.declared.whole.Taken.{Taken}
 use Rattle.read_test20.specs.declared.whole.Taken.TheVariants.{Whole, Invalid, NotExamined}
 use Rattle.read_test20.specs.declared.whole.Valid.{Valid}
@@ -37,11 +37,11 @@ use Rattle.window.specs.Words.{word_at}
 use Rattle.window.specs.Inside.Columns.{sums_of}
 use Rattle.read_test20.specs.Inside.Run.{place20}
 use Rattle.read_test20.specs.Inside.Whole.{valid_of, taken_of, taken_if, rows_if}
-use Rattle.read_test21_27.specs.Inside.Call.{service_of, judged_by, service_if, wrong_place, lowest_of, lowest_if}
-use Rattle.read_test21_27.specs.Inside.Verdict.{first_row}
+use Rattle.read_test21_26.specs.Inside.Call.{service_of, judged_by, service_if, lowest_of, lowest_if}
+use Rattle.read_test21_26.specs.Inside.Verdict.{first_row}
 use Rattle.window.specs.Inside.Window.{IsWindow}
 use Rattle.window.proofs.Windows.{long, read_is}
-use Rattle.read.specs.Inside.Picture.{line_tests, picture_tests}
+use Rattle.read.specs.Inside.Picture.{line_tests, picture_tests, wrong_place}
 use Rattle.read.proofs.Summing.{sums_right}
 use Rattle.read.proofs.Verdicts.{answer_by, checked_by, then_by, then_by_lem, in_range_lem}
 
@@ -171,8 +171,8 @@ module _ (f : Format) (w : List ℕ) (is : IsWindow f w) where
   first_hold e = then_by_lem (line_tests f w) (picture_tests f w) ∙ ap (λ (v : Verdict). then_by v (first_row (picture_tests f w))) e
 
   -- the number of one that fails
-  pub met_range : {x : Fault} → first_row (word_tests f word) ≡ Fails x → (21 ≤ x.number) × (x.number ≤ 27)
-  met_range e = in_range_lem 21 27 (word_tests f word) refl e
+  pub met_range : {x : Fault} → first_row (word_tests f word) ≡ Fails x → (21 ≤ x.number) × (x.number ≤ 26)
+  met_range e = in_range_lem 21 26 (word_tests f word) refl e
 
 -- ---- the rows afterwards
 module _ {number place : ℕ} (f : Format) (w entry made : List ℕ) (e : read_span f w ≡ refused number place) where

@@ -3,7 +3,7 @@
 use Rattle.ground.specs.Answer.{Answer, refused, given}
 use Rattle.window.specs.declared.delivery.Delivery.{Delivery}
 use Rattle.read.specs.declared.answer.Read.{Read}
-use Rattle.read.specs.declared.answer.Read.TheVariants.{Delivered, UnknownFormat, WrongInput, WrongOutput, WrongSymbol, WrongTiming, WrongLine, WrongV, WrongCrcc, WrongSample, WrongFill, WrongMadeUp}
+use Rattle.read.specs.declared.answer.Read.TheVariants.{Delivered, UnknownFormat, WrongInput, WrongOutput, WrongSymbol, WrongTiming, WrongLine, WrongV, WrongCrcc, WrongSample, WrongFill}
 
 abbrev pub paper_read : Read → Answer Delivery
 paper_read (Delivered d) = given d
@@ -17,4 +17,3 @@ paper_read (WrongV place) = refused 23 place
 paper_read (WrongCrcc place) = refused 24 place
 paper_read (WrongSample place) = refused 25 place
 paper_read (WrongFill place) = refused 26 place
-paper_read (WrongMadeUp place) = refused 27 place

@@ -10,7 +10,7 @@ ghost use Rattle.read_test20.specs.Inside.Whole.{valid_of};
 ghost use Rattle.read.specs.Inside.Accept.{accepted_in, delivered_in, rows_accepted};
 
 use read_test20::whole::{Examined, Valid};
-use read_test21_27::call::Judged;
+use read_test21_26::call::Judged;
 use span::format::Format;
 use window::delivery::Delivery;
 
@@ -30,13 +30,10 @@ fn accept_words(f: Format, symbols: &[u16], v: Valid, rows: &[u16]) -> Accepted
     ensures { accepted_in result ≡ delivered_in (read_span f symbols.now) }
 {
     let c = v.sums;
-    match read_test21_27::call::service_of(f, symbols, c) {
+    match read_test21_26::call::service_of(f, symbols, c) {
         Judged::Serves(service) => {
             if crate::picture::picture_is_right(f, service.line, rows) {
-                if crate::made_up::made_up_is_right(f, rows) {
-                    return Accepted::Delivered(crate::delivery::delivery(v, service));
-                }
-                return Accepted::Refused;
+                return Accepted::Delivered(crate::delivery::delivery(v, service));
             }
             return Accepted::Refused;
         },

@@ -14,7 +14,7 @@ pub enum Read {
     WrongInput,
     // 4: only for a call with rows.
     WrongOutput,
-    // 20 to 27, each with its place: a symbol for 20, else an interleaved word.
+    // 20 to 26, each with its place: a symbol for 20, else an interleaved word.
     WrongSymbol(usize),
     WrongTiming(usize),
     WrongLine(usize),
@@ -22,13 +22,12 @@ pub enum Read {
     WrongCrcc(usize),
     WrongSample(usize),
     WrongFill(usize),
-    WrongMadeUp(usize),
 }
 
-// The answer for one of tests 21 to 27 that does not hold at a place.
+// The answer for one of tests 21 to 26 that does not hold at a place.
 pub(crate) fn refusal(number: u8, place: usize) -> Read
     requires le_number { 21 ≤ number }
-    requires number_bound { number ≤ 27 }
+    requires number_bound { number ≤ 26 }
     ensures { paper_read result ≡ refused number place }
 {
     if number == 21 {
@@ -46,8 +45,5 @@ pub(crate) fn refusal(number: u8, place: usize) -> Read
     if number == 25 {
         return Read::WrongSample(place);
     }
-    if number == 26 {
-        return Read::WrongFill(place);
-    }
-    Read::WrongMadeUp(place)
+    Read::WrongFill(place)
 }

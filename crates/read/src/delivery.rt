@@ -2,7 +2,7 @@
 ghost use Rattle.std.specs.Prelude.{◌≡◌};
 
 use read_test20::whole::Valid;
-use read_test21_27::call::Service;
+use read_test21_26::call::Service;
 use window::delivery::Delivery;
 
 // The values of a delivery.

@@ -2,6 +2,5 @@
 pub mod accept;
 pub mod answer;
 mod delivery;
-mod made_up;
 mod picture;
 pub mod read;

@@ -1,19 +1,18 @@
-// Tests 25 to 27. The lowest place is searched for only if there is one; whether the fill is right is known from test 20's pass.
+// Tests 25 and 26. The lowest place is searched for only if there is one; whether the fill is right is known from test 20's pass.
 ghost use Rattle.std.specs.Prelude.{◌≡◌};
 ghost use Rattle.span.specs.Format.{shape_of, streams};
 ghost use Rattle.window.specs.Read.{picture_of};
 ghost use Rattle.window.specs.Tests.{line_read};
 ghost use Rattle.window.specs.Words.{word_at};
 ghost use Rattle.window.specs.Inside.Fill.{fill_right};
-ghost use Rattle.read_test21_27.specs.declared.service.Verdict.TheVariants.{AllHold};
-ghost use Rattle.read_test21_27.specs.Inside.Call.{wrong_place};
-ghost use Rattle.read_test21_27.specs.Inside.Verdict.{verdict_of, first_row};
+ghost use Rattle.read_test21_26.specs.declared.service.Verdict.TheVariants.{AllHold};
+ghost use Rattle.read_test21_26.specs.Inside.Verdict.{verdict_of, first_row};
 ghost use Rattle.window.specs.Inside.Window.{IsWindow};
-ghost use Rattle.read.specs.Inside.Picture.{picture_tests, right_picture};
+ghost use Rattle.read.specs.Inside.Picture.{picture_tests, wrong_place, right_picture};
 
 use line::stream::StreamLine;
-use read_test21_27::call::Lowest;
-use read_test21_27::service::{Fault, Verdict};
+use read_test21_26::call::Lowest;
+use read_test21_26::service::{Fault, Verdict};
 use span::format::Format;
 
 // Whether every word of the picture may be a sample's; on a blanking line any word may.
@@ -21,7 +20,7 @@ pub(crate) fn picture_is_right(f: Format, line: StreamLine, rows: &[u16]) -> boo
     ensures { result ≡ right_picture f line.0 rows.now }
 {
     if line::stream::is_active(line) {
-        return read_test21_27::picture::all_allowed(span::format::depth_of(f), rows);
+        return read_test21_26::picture::all_allowed(span::format::depth_of(f), rows);
     }
     true
 }
@@ -31,7 +30,7 @@ fn verdict_at(number: u8, f: Format, symbols: &[u16]) -> Verdict
     requires { IsWindow f symbols.now }
     ensures { result ≡ verdict_of number (wrong_place number f symbols.now) AllHold }
 {
-    match read_test21_27::call::lowest_place(number, f, symbols) {
+    match read_test21_26::call::lowest_place(number, f, symbols) {
         Lowest::Place(place) => Verdict::Fails(Fault { number, place }),
         Lowest::NoneWrong => Verdict::AllHold,
         // Not met; and if it were, it would be no window that is read.
@@ -39,7 +38,7 @@ fn verdict_at(number: u8, f: Format, symbols: &[u16]) -> Verdict
     }
 }
 
-// The first of the three that does not hold.
+// The first of the two that does not hold.
 pub(crate) fn judge_picture(
     f: Format,
     symbols: &[u16],
@@ -55,10 +54,7 @@ pub(crate) fn judge_picture(
 {
     if picture_is_right(f, line, rows) {
         if filled {
-            if crate::made_up::made_up_is_right(f, rows) {
-                return Verdict::AllHold;
-            }
-            return verdict_at(27, f, symbols);
+            return Verdict::AllHold;
         }
         return verdict_at(26, f, symbols);
     }

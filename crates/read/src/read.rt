@@ -5,23 +5,23 @@ ghost use Rattle.span.specs.Format.{shape_of, samples_in};
 ghost use Rattle.window.specs.Read.{picture_of, read_span, judge_of, read_of, rows_left, rows_read};
 ghost use Rattle.read_test20.specs.Inside.Run.{place20};
 ghost use Rattle.read_test20.specs.Inside.Whole.{valid_of};
-ghost use Rattle.read_test21_27.specs.declared.service.Verdict.TheVariants.{AllHold};
-ghost use Rattle.read_test21_27.specs.Inside.Call.{service_of};
-ghost use Rattle.read_test21_27.specs.Inside.Verdict.{first_row};
+ghost use Rattle.read_test21_26.specs.declared.service.Verdict.TheVariants.{AllHold};
+ghost use Rattle.read_test21_26.specs.Inside.Call.{service_of};
+ghost use Rattle.read_test21_26.specs.Inside.Verdict.{first_row};
 ghost use Rattle.read.specs.Call.{paper_read};
 ghost use Rattle.read.specs.Inside.Picture.{line_tests};
 ghost use Rattle.window.specs.Inside.Window.{IsWindow};
 
 use crate::answer::Read;
 use read_test20::whole::{Taken, Valid};
-use read_test21_27::call::{Judged, Service};
-use read_test21_27::service::Verdict;
+use read_test21_26::call::{Judged, Service};
+use read_test21_26::service::Verdict;
 use span::format::Format;
 
 // A refused span: its rows are all zero.
 fn refuse(number: u8, place: usize, rows: &mut [u16]) -> Read
     requires le_number { 21 ≤ number }
-    requires number_bound { number ≤ 27 }
+    requires number_bound { number ≤ 26 }
     ensures answer { paper_read result ≡ refused number place }
     ensures rows { rows.new ≡ replicate (length rows.old) 0 }
 {
@@ -29,7 +29,7 @@ fn refuse(number: u8, place: usize, rows: &mut [u16]) -> Read
     crate::answer::refusal(number, place)
 }
 
-// A window for which tests 20 to 24 hold, with its picture in rows: what it delivers, and its rows, which are zero if 25, 26 or 27 does not hold.
+// A window for which tests 20 to 24 hold, with its picture in rows: what it delivers, and its rows, which are zero if 25 or 26 does not hold.
 fn read_picture(f: Format, symbols: &[u16], v: Valid, service: Service, rows: &mut [u16]) -> Read
     requires window { IsWindow f symbols.now }
     requires symbols_value { place20 (shape_of f) symbols.now ≡ length symbols.now }
@@ -56,7 +56,7 @@ fn read_words(f: Format, symbols: &[u16], v: Valid, rows: &mut [u16]) -> Read
     ensures rows { (room : List ℕ) → length room ≡ length rows.old → rows.new ≡ rows_left (read_span f symbols.now) room (picture_of f symbols.now) }
 {
     let c = v.sums;
-    match read_test21_27::call::service_of(f, symbols, c) {
+    match read_test21_26::call::service_of(f, symbols, c) {
         Judged::Serves(service) => read_picture(f, symbols, v, service, rows),
         Judged::Refused(x) => refuse(x.number, x.place, rows),
         // Not met: the lengths were judged before.

@@ -1,29 +1,25 @@
 -- Recordings in document 01's own terms and numerals, proved: each field cites the law that says it.
 -- Assumes nothing.
-use mathlib.Core.Path.{◌≡◌, refl, sym, ap, ap₂, fun_ext, ◌∙◌}
-use mathlib.Core.Bool.{cond}
+use mathlib.Core.Path.{◌≡◌, refl, sym, ap, ◌∙◌}
 use mathlib.Core.List.{List}
-use mathlib.Core.Option.{Option, none, some}
+use mathlib.Core.Option.{none, some}
 use Prim.Native.Nat.{ℕ, ◌+◌, ◌≤◌, ◌<◌}
-use lib.Dec.{eqb}
 use lib.ListN.{length}
 use borrow.Author.Tests.{eq-eqb, ne_eqb, le-leb, lt-leb}
-use Rattle.ground.specs.Answer.{Answer, refused, given}
+use Rattle.ground.specs.Answer.{refused, given}
 use Rattle.span.specs.declared.format.Format.{Format}
 use Rattle.span.specs.Format.{format_from, shape_of, samples_in, symbols_in}
-use Rattle.window.specs.declared.delivery.Delivery.{Delivery}
-use Rattle.window.proofs.Paper.{window_paper}
-use Rattle.span.specs.Image.{made_up}
+use Rattle.window.specs.Read.{delivery_of, picture_of, read_span}
+use Rattle.window.specs.Tests.{holds25, holds26}
 use Rattle.span.specs.Numbers.{IsFormat, Samples, Symbols}
 use Rattle.span.proofs.Formats.{is_known_lem, unknown}
 use Rattle.span.proofs.Numbers.{symbols_are, samples_are, samples_told}
-use Rattle.delivery.specs.Delivery.{deliver_by}
 use Rattle.delivery.specs.Kept.{kept_from}
 use Rattle.delivery.proofs.Keeping.{kept_start, kept_last}
 use Rattle.recording.specs.declared.answer.Spanned.{Spanned}
 use Rattle.recording.specs.Call.{next_of, end_or, after_next}
 use Rattle.recording.specs.Paper.{RecordingPaper}
-use Rattle.recording.specs.Recording.{limit, Reading, with_words, reading, delivery_from}
+use Rattle.recording.specs.Recording.{limit, reading, delivery_from}
 use Rattle.recording.proofs.Calling.{find_meets_1, find_meets_3, find_meets_5}
 use Rattle.recording.proofs.Readings.{is_read, not_read, reading_told}
 
@@ -66,24 +62,10 @@ module _ (f : Format) (r : List ℕ) (start room n : ℕ) (long : Symbols f n) w
       ap (end_or (symbols_in (shape_of f)) (length r) start) e ∙ ap (λ (k : ℕ). kept_from k (length r) start) (sym span_long) in
       (λ h. at ∙ kept_start n (length r) start h, λ h. ap (λ (k : ℕ). k + n) at ∙ kept_last n (length r) start h)
 
--- which streams are made up, and nothing else of component and structure
-module _ (number depth size c e structure other : ℕ) where
-  abbrev f : Format
-  f = format_from number depth c structure size
-
-  abbrev g : Format
-  g = format_from number depth e other size
-
-  module _ (same : (t : ℕ) → made_up f t ≡ made_up g t) where
-    same_reading : (w : List ℕ) → reading f w ≡ reading g w
-    unfolding reading shape_of
-    same_reading w =
-        let told = window_paper.only_made_up number depth size c e structure other w same in
-        ap₂ (λ (a : Answer Delivery) (words : List ℕ). cond (eqb (length w) (symbols_in (shape_of f))) (with_words a words) none) told.0 told.1
-
-    only_made_up : (r : List ℕ) (p : ℕ) → delivery_from f r p ≡ delivery_from g r p
-    unfolding shape_of
-    only_made_up r p = ap (λ (read : List ℕ → Option Reading). deliver_by (symbols_in (shape_of f)) read r p) (fun_ext same_reading)
+component_unread : (number depth structure size c e : ℕ) (r : List ℕ) (p : ℕ)
+    → delivery_from (format_from number depth c structure size) r p ≡ delivery_from (format_from number depth e structure size) r p
+unfolding reading read_span picture_of shape_of holds25 holds26 delivery_of
+component_unread number depth structure size c e r p = refl
 
 pub recording_paper : RecordingPaper
 unfolding limit
@@ -102,5 +84,5 @@ recording_paper = record {
   after_span = λ f r start room n s long e. after_span f r start room n long s e;
   after_none = λ f r start room n long e. after_none f r start room n long e;
   after_refusal = λ f r start room number place e. ap (end_or (symbols_in (shape_of f)) (length r) start) e;
-  only_made_up = λ number depth size c e structure other r p same. only_made_up number depth size c e structure other same r p;
+  component_unread = component_unread;
 }

@@ -5,7 +5,6 @@ use Rattle.std.proofs.Math.Option.{none, some}
 use Rattle.ground.specs.Answer.{refused, given}
 use Rattle.span.specs.declared.format.Format.{Format}
 use Rattle.span.specs.Format.{format_from, shape_of, symbols_in}
-use Rattle.span.specs.Image.{made_up}
 use Rattle.span.specs.Numbers.{IsFormat, Samples, Symbols}
 use Rattle.window.specs.declared.delivery.Delivery.{Delivery}
 use Rattle.window.specs.Read.{picture_of, read_span}
@@ -72,9 +71,7 @@ pub record RecordingPaper : Type 0 where
       (f : Format) (r : List ℕ) (start room number place : ℕ)
       → next_of f r start room ≡ refused number place
       → after_next f r start room ≡ start
-  -- of component and structure nothing is read but which streams are made up: a recording of C'B in 4:4:4 is also delivered as one of Y'
-  pub only_made_up :
-      (number depth size c e structure other : ℕ) (r : List ℕ) (p : ℕ)
-      → let f = format_from number depth c structure size in
-      let g = format_from number depth e other size in
-      ((t : ℕ) → made_up f t ≡ made_up g t) → delivery_from f r p ≡ delivery_from g r p
+  -- what is delivered does not depend on the component: a recording of C'B is also delivered as one of Y'
+  pub component_unread :
+      (number depth structure size c e : ℕ) (r : List ℕ) (p : ℕ)
+      → delivery_from (format_from number depth c structure size) r p ≡ delivery_from (format_from number depth e structure size) r p

@@ -3,9 +3,8 @@
 use mathlib.Core.Path.{◌≡◌, refl, sym, ap, ◌∙◌}
 use mathlib.Core.Bool.{Bool, true, false, not, ◌&&◌, and-true, and-false, true≢false}
 use mathlib.Core.List.{List, [], ◌∷◌}
-use mathlib.Core.Option
 use mathlib.Core.Option.{Option, none, some}
-use Prim.Native.Nat.{ℕ, zero, suc, ◌+◌, ◌-◌, ◌/◌, ◌%◌, ◌≤◌, ◌<◌}
+use Prim.Native.Nat.{ℕ, zero, suc, ◌+◌, ◌-◌, ◌%◌, ◌≤◌, ◌<◌}
 use native.Mathlib.Nat.{le_of_suc-le-suc, not-suc-le-zero}
 use native.Mathlib.Omega.{arith}
 use lib.Bits.{bit_or, or_zero_r, or_add_and, and_le_l}
@@ -19,11 +18,7 @@ use Rattle.ground.proofs.Ranges.{is_within, not_within}
 use Rattle.ground.proofs.Reading.{next_left_lem}
 use Rattle.ground.proofs.Searches.{Lowest, hit, is_hit, is_miss}
 use Rattle.ground.proofs.Tests.{both_left, both_right}
-use Rattle.span.specs.declared.format.Format.{Format}
-use Rattle.span.specs.Sample.{allowed}
-use Rattle.span.specs.Stream.{Request}
 use Rattle.request.specs.Inside.Check.{all_within, first_outside}
-use Rattle.request.specs.Inside.Send.{first_wrong}
 
 -- what is put in and is not 0 stays
 stays : (found out : ℕ) → eqb out 0 ≡ false → eqb (bit_or found out) 0 ≡ false
@@ -69,61 +64,40 @@ module _ (low high : ℕ) where
   each_within (x ∷ xs) t (suc i) h =
       each_within xs (both_right (within low high x) (all_within low high xs) t) i (le_of_suc-le-suc h)
 
--- the lowest number below n at which a test fails; n if there is none
-module _ (n : ℕ) (good : ℕ → Bool) where
-  abbrev bad : ℕ → Bool
-  bad i = not (good i)
+  module _ (xs : List ℕ) where
+    -- the sample at i is outside
+    abbrev pub outside_at : ℕ → Bool
+    outside_at i = not (within low high (get_or xs i 0))
 
-  -- where the test holds before k and not at k, it is k
-  first_bad : (k : ℕ) → k < n → ((j : ℕ) → j < k → good j ≡ true) → good k ≡ false → Option.get_or (first_below n bad) n ≡ k
-  first_bad k h before t =
-      let lowest : Lowest bad 0 n k = record { from = omega arith; below = h; holds = ap not t; least = λ j _ l. ap not (before j l) } in
-      rw (is_hit bad n k lowest)
+    -- where those before one are within, it is the first
+    pub outside_first :
+        (k : ℕ) → k < length xs
+        → ((j : ℕ) → j < k → within low high (get_or xs j 0) ≡ true) → within low high (get_or xs k 0) ≡ false
+        → first_outside low high xs ≡ k
+    unfolding first_outside
+    outside_first k h before t =
+        let lowest : Lowest outside_at 0 (length xs) k = record { from = omega arith; below = h; holds = ap not t; least = λ j _ l. ap not (before j l) } in
+        rw (is_hit outside_at (length xs) k lowest)
 
-  -- where it holds everywhere, it is n
-  never_bad : ((j : ℕ) → j < n → good j ≡ true) → Option.get_or (first_below n bad) n ≡ n
-  never_bad each = rw (is_miss bad n (record { never = λ j _ l. ap not (each j l) }))
+    -- where all are, there is none
+    pub outside_never : ((j : ℕ) → j < length xs → within low high (get_or xs j 0) ≡ true) → first_outside low high xs ≡ length xs
+    unfolding first_outside
+    outside_never each = rw (is_miss outside_at (length xs) (record { never = λ j _ l. ap not (each j l) }))
 
--- so it is with the samples of one stream and its bounds,
-module _ (low high : ℕ) (xs : List ℕ) where
-  pub outside_first :
-      (k : ℕ) → k < length xs
-      → ((j : ℕ) → j < k → within low high (get_or xs j 0) ≡ true) → within low high (get_or xs k 0) ≡ false
-      → first_outside low high xs ≡ k
-  unfolding first_outside
-  outside_first = first_bad (length xs) (λ i. within low high (get_or xs i 0))
+    -- what the number tells of the search
+    module _ (w : ℕ) (is : w ≡ first_outside low high xs) where
+      pub found_first : w < length xs → first_below (length xs) outside_at ≡ some w
+      unfolding first_outside
+      found_first h = go (first_below (length xs) outside_at) refl
+        where
+          go : (o : Option ℕ) → first_below (length xs) outside_at ≡ o → first_below (length xs) outside_at ≡ some w
+          go none e = let q : w ≡ length xs = is ∙ rw e in absurd (omega arith)
+          go (some k) e = let q : w ≡ k = is ∙ rw e in rw q e
 
-  pub outside_never : ((j : ℕ) → j < length xs → within low high (get_or xs j 0) ≡ true) → first_outside low high xs ≡ length xs
-  unfolding first_outside
-  outside_never = never_bad (length xs) (λ i. within low high (get_or xs i 0))
-
--- and with all samples and what each may be
-module _ (f : Format) (a : Request) where
-  -- sample i may be sent
-  abbrev pub allowed_at : ℕ → Bool
-  allowed_at i = allowed f a.line (i / 1920) (get_or a.samples i 0)
-
-  pub wrong_first :
-      (k : ℕ) → k < length a.samples → ((j : ℕ) → j < k → allowed_at j ≡ true) → allowed_at k ≡ false → first_wrong f a ≡ k
-  unfolding first_wrong
-  wrong_first = first_bad (length a.samples) allowed_at
-
-  pub wrong_never : ((j : ℕ) → j < length a.samples → allowed_at j ≡ true) → first_wrong f a ≡ length a.samples
-  unfolding first_wrong
-  wrong_never = never_bad (length a.samples) allowed_at
-
--- what the number that a search comes to tells of the search
-module _ (n : ℕ) (p : ℕ → Bool) (w : ℕ) (is : w ≡ Option.get_or (first_below n p) n) where
-  pub found_first : w < n → first_below n p ≡ some w
-  found_first h = go (first_below n p) refl
-    where
-      go : (o : Option ℕ) → first_below n p ≡ o → first_below n p ≡ some w
-      go none e = let q : w ≡ n = is ∙ rw e in absurd (omega arith)
-      go (some k) e = let q : w ≡ k = is ∙ rw e in rw q e
-
-  pub found_none : n ≤ w → first_below n p ≡ none
-  found_none h = go (first_below n p) refl
-    where
-      go : (o : Option ℕ) → first_below n p ≡ o → first_below n p ≡ none
-      go none e = e
-      go (some k) e = let q : w ≡ k = is ∙ rw e in absurd (omega (arith, (hit p n k e).below))
+      pub found_none : length xs ≤ w → first_below (length xs) outside_at ≡ none
+      unfolding first_outside
+      found_none h = go (first_below (length xs) outside_at) refl
+        where
+          go : (o : Option ℕ) → first_below (length xs) outside_at ≡ o → first_below (length xs) outside_at ≡ none
+          go none e = e
+          go (some k) e = let q : w ≡ k = is ∙ rw e in absurd (omega (arith, (hit outside_at (length xs) k e).below))

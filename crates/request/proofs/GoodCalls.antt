@@ -1,10 +1,10 @@
 -- Accepted calls are sent, and no others, in document 01's own numbers.
 -- Assumes nothing.
 use mathlib.Core.Path.{◌≡◌, refl, sym, subst, ◌∙◌}
-use mathlib.Core.Bool.{true, false, true≢false}
+use mathlib.Core.Bool.{Bool, true, false}
 use mathlib.Core.List.{List}
 use mathlib.Core.Logic.{⊎_elim}
-use Prim.Native.Nat.{ℕ, ◌/◌, ◌≤◌, ◌<◌}
+use Prim.Native.Nat.{ℕ, ◌≤◌, ◌<◌}
 use native.Mathlib.Omega.{arith}
 use lib.Dec.{eqb, ltb}
 use lib.ListN.{length, get_or}
@@ -12,7 +12,7 @@ use borrow.Author.Tests.{eqb-true, eqb-false, eq-eqb, ne_eqb, not-false, ltb-tru
 use Rattle.ground.specs.Answer.{Answer, refused, given}
 use Rattle.ground.specs.Range.{within}
 use Rattle.ground.proofs.Cases.{on_test}
-use Rattle.ground.proofs.Ranges.{is_within, from_low, to_high, outside}
+use Rattle.ground.proofs.Ranges.{is_within, not_within, from_low, to_high, outside}
 use Rattle.ground.proofs.Writing.{length_table, get_d_table}
 use Rattle.line.specs.Stream.{is_line, is_active}
 use Rattle.picture.specs.Choice.{row_on}
@@ -21,58 +21,59 @@ use Rattle.span.specs.declared.content.Content.{Content}
 use Rattle.span.specs.declared.format.Format.{Format}
 use Rattle.span.specs.Blanking.{blank_row}
 use Rattle.span.specs.Format.{is_known, shape_of, samples_in, symbols_in}
-use Rattle.span.specs.Image.{made_up}
-use Rattle.span.specs.Numbers.{Samples, Blank, MadeUp}
-use Rattle.span.specs.Sample.{blank_word, allowed}
+use Rattle.span.specs.Inside.Sample.{bounds_of}
+use Rattle.span.specs.Numbers.{Samples}
+use Rattle.span.specs.Sample.{blank_word}
 use Rattle.span.specs.Span.{span_after}
 use Rattle.span.specs.Stream.{Request}
 use Rattle.span.proofs.Formats.{is_known_lem, known_told}
-use Rattle.span.proofs.Images.{made_up_is, not_made_up}
 use Rattle.span.proofs.Numbers.{symbols_are, samples_are, symbols_told, samples_told, blank_told, blank_is}
-use Rattle.span.proofs.Paper.{span_paper}
 use Rattle.request.specs.Laws.{GoodCall, chosen_request}
 use Rattle.request.specs.Send.{send_of}
-use Rattle.request.specs.Inside.Send.{Accepted, first_wrong}
-use Rattle.request.proofs.Checking.{allowed_at, wrong_never}
-use Rattle.request.proofs.Refusals.{send_meets_1, send_meets_2, send_meets_3, send_meets_4, send_meets_6, sends, is_good}
+use Rattle.request.specs.Inside.Check.{first_outside}
+use Rattle.request.specs.Inside.Send.{Accepted}
+use Rattle.request.proofs.Checking.{outside_never}
+use Rattle.request.proofs.Refusals.{forbidden_is, send_meets_1, send_meets_2, send_meets_3, send_meets_4, send_meets_6, sends, is_good}
 
--- what a stream that is not made up may carry on an active line, in those numbers
-module _ (f : Format) (n t x : ℕ) (active : is_active n ≡ true) (image : made_up f t ≡ false) where
-  at_ten : f.depth ≡ 10 → allowed f n t x ≡ within 4 1019 x
-  at_ten e = simp (image, active, eq-eqb f.depth 10 e)
+-- the bounds of a line, in those numbers
+module _ (f : Format) (n x : ℕ) where
+  abbrev in_bounds : Bool
+  in_bounds = within (bounds_of f n).low (bounds_of f n).high x
 
-  at_twelve : f.depth ≡ 12 → allowed f n t x ≡ within 16 4079 x
-  at_twelve e =
+  at_ten : f.depth ≡ 10 → is_active n ≡ true → in_bounds ≡ within 4 1019 x
+  at_ten e active = simp (active, eq-eqb f.depth 10 e)
+
+  at_twelve : f.depth ≡ 12 → is_active n ≡ true → in_bounds ≡ within 16 4079 x
+  at_twelve e active =
       let other : f.depth ≡ 10 → ⊥ = λ ten. omega arith in
-      simp (image, active, ne_eqb f.depth 10 other)
+      simp (active, ne_eqb f.depth 10 other)
+
+  in_blanking : is_active n ≡ false → in_bounds ≡ within (blank_word f) (blank_word f) x
+  in_blanking t = simp t
 
 -- an answer that is given is no refusal
 not_refused : {A : Type 0} {r : Answer A} {e : A} {number place : ℕ} → r ≡ given e → r ≡ refused number place → ⊥
 not_refused g x = let z : ◌≡◌ {A = ℕ} 0 1 = cc in omega arith
 
 module _ (d : Disparity) (f : Format) (a : Request) (room : ℕ) where
-  abbrev may : ℕ → Type 0
-  may i = allowed_at f a i ≡ true
+  abbrev inside : ℕ → Type 0
+  inside i = in_bounds f a.line (get_or a.samples i 0) ≡ true
 
-  each_may : GoodCall f a.line a.samples room → (i : ℕ) → i < length a.samples → may i
-  each_may g i h =
+  each_inside : GoodCall f a.line a.samples room → (i : ℕ) → i < length a.samples → inside i
+  each_inside g i h =
       let n = a.line in
-      let t = i / 1920 in
       let x = get_or a.samples i 0 in
-      on_test (made_up f t)
-      (λ m. simp m (eq-eqb x _ (g.made_up i h ((made_up_is f g.format t).told m))))
-      (λ m.
-      let image : MadeUp f t → ⊥ = λ up. true≢false (sym ((made_up_is f g.format t).holds up) ∙ m) in
       on_test (is_active n)
-      (λ active.
-      let p = from_low 42 1121 n active in
-      let q = to_high 42 1121 n active in
+      (λ t.
+      let p = from_low 42 1121 n t in
+      let q = to_high 42 1121 n t in
       ⊎_elim
-      (λ e. let b = g.ten e p q i h image in at_ten f n t x active m e ∙ is_within 4 1019 x b.0 b.1)
-      (λ e. let b = g.twelve e p q i h image in at_twelve f n t x active m e ∙ is_within 16 4079 x b.0 b.1)
+      (λ e. let b = g.ten e p q i h in at_ten f n x e t ∙ is_within 4 1019 x b.0 b.1)
+      (λ e. let b = g.twelve e p q i h in at_twelve f n x e t ∙ is_within 16 4079 x b.0 b.1)
       g.format.bits)
-      (λ blanking.
-      simp (m, blanking) (eq-eqb x (blank_word f) (blank_is f g.format x (g.blanking (outside 42 1121 n blanking) i h)))))
+      (λ t.
+      let e : x ≡ blank_word f = blank_is f g.format x (g.blanking (outside 42 1121 n t) i h) in
+      in_blanking f n x t ∙ is_within (blank_word f) (blank_word f) x (omega arith) (omega arith))
 
   -- a good call is sent
   pub good_is_sent : GoodCall f a.line a.samples room → send_of d f a room ≡ given (span_after d f a)
@@ -83,7 +84,7 @@ module _ (d : Disparity) (f : Format) (a : Request) (room : ℕ) where
       (samples_are f (length a.samples) g.samples)
       (symbols_are f room g.symbols)
       (length a.samples)
-      (sym (wrong_never f a (each_may g)))
+      (sym (outside_never _ _ _ (each_inside g)))
       (omega arith)
 
   -- what is sent, told by the refusals that it did not meet
@@ -111,13 +112,13 @@ module _ (d : Disparity) (f : Format) (a : Request) (room : ℕ) where
 
     good : Accepted f a
     good =
-        let w = first_wrong f a in
+        let w = first_outside (bounds_of f a.line).low (bounds_of f a.line).high a.samples in
         on_test (ltb w (length a.samples))
         (λ t. absurd (never (send_meets_6 d f a room known line samples symbols w refl (ltb-true _ _ t))))
         (λ t. is_good d f a room known line samples symbols w refl (ltb-false _ _ t))
 
-    could : (i : ℕ) → i < length a.samples → may i
-    could i h = not-false _ (good.allowed i h)
+    was_inside : (i : ℕ) → i < length a.samples → inside i
+    was_inside i h = not-false _ (sym (forbidden_is f a known i) ∙ good.allowed i h)
 
     -- so it was a good call
     pub sent_is_good : GoodCall f a.line a.samples room
@@ -129,14 +130,15 @@ module _ (d : Disparity) (f : Format) (a : Request) (room : ℕ) where
           symbols = symbols_told f room k symbols;
           first = from_low 1 1125 n line;
           last = to_high 1 1125 n line;
-          ten = λ e p q i h image.
-              let t = sym (at_ten f n _ _ (is_within 42 1121 n p q) (not_made_up f k _ image) e) ∙ could i h in
+          ten = λ e p q i h.
+              let t = sym (at_ten f n _ e (is_within 42 1121 n p q)) ∙ was_inside i h in
               (from_low 4 1019 _ t, to_high 4 1019 _ t);
-          twelve = λ e p q i h image.
-              let t = sym (at_twelve f n _ _ (is_within 42 1121 n p q) (not_made_up f k _ image) e) ∙ could i h in
+          twelve = λ e p q i h.
+              let t = sym (at_twelve f n _ e (is_within 42 1121 n p q)) ∙ was_inside i h in
               (from_low 16 4079 _ t, to_high 16 4079 _ t);
-          blanking = λ x i h. span_paper.blank_alone f k n (i / 1920) _ (λ (p, q). x p q) (could i h);
-          made_up = λ i h m. span_paper.made_up_alone f k n (i / 1920) _ m (could i h);
+          blanking = λ x i h.
+              let t = sym (in_blanking f n _ (not_within 42 1121 n x)) ∙ was_inside i h in
+              blank_told f k _ (omega (arith, from_low (blank_word f) (blank_word f) _ t, to_high (blank_word f) (blank_word f) _ t));
         }
 
 -- ---- the row that the choice gives
@@ -146,12 +148,6 @@ module _ (d : Disparity) (f : Format) (content : Content) (picture : List ℕ) (
   -- it is as long as the picture row
   blank_long : length (blank_row f) ≡ length picture
   blank_long = length_table (samples_in (shape_of f)) (λ i. blank_word f) ∙ sym (samples_are f (length picture) g.samples)
-
-  -- and each of a blanking row is the blanking word of the link
-  each_blank : (i : ℕ) → i < length (blank_row f) → Blank f (get_or (blank_row f) i 0)
-  each_blank i h =
-      blank_told f g.format _
-      (get_d_table (samples_in (shape_of f)) (λ k. blank_word f) i 0 (omega (arith, length_table (samples_in (shape_of f)) (λ k. blank_word f))))
 
   -- it is a good call in either case
   chosen_good : GoodCall f n (row_on n picture (blank_row f)) room
@@ -166,10 +162,9 @@ module _ (d : Disparity) (f : Format) (content : Content) (picture : List ℕ) (
         symbols = g.symbols;
         first = low;
         last = high;
-        ten = λ e a b i h image. g.ten e p q i h image;
-        twelve = λ e a b i h image. g.twelve e p q i h image;
+        ten = λ e a b i h. g.ten e p q i h;
+        twelve = λ e a b i h. g.twelve e p q i h;
         blanking = λ x i h. absurd (x (from_low 42 1121 n t) (to_high 42 1121 n t));
-        made_up = g.made_up;
       }))
       (λ t.
       let is : row_on n picture (blank_row f) ≡ blank_row f = simp t in
@@ -180,10 +175,11 @@ module _ (d : Disparity) (f : Format) (content : Content) (picture : List ℕ) (
         symbols = g.symbols;
         first = low;
         last = high;
-        ten = λ e a b i h image. absurd (outside 42 1121 n t a b);
-        twelve = λ e a b i h image. absurd (outside 42 1121 n t a b);
-        blanking = λ x i h. each_blank i h;
-        made_up = λ i h m. (each_blank i h).is800 m.difference;
+        ten = λ e a b i h. absurd (outside 42 1121 n t a b);
+        twelve = λ e a b i h. absurd (outside 42 1121 n t a b);
+        blanking = λ x i h.
+            blank_told f g.format _
+            (get_d_table (samples_in (shape_of f)) (λ k. blank_word f) i 0 (omega (arith, length_table (samples_in (shape_of f)) (λ k. blank_word f))));
       }))
 
   pub chosen_is_sent : send_of d f (chosen_request f content picture n) room ≡ given (span_after d f (chosen_request f content picture n))

@@ -1,6 +1,6 @@
 -- Laws of sending, in document 01's own numbers; `proofs/Laws` proves each.
 -- Assumes nothing.
-use Rattle.std.specs.Prelude.{ℕ, ◌/◌, ◌≤◌, ◌<◌, ◌≡◌, List, length, get_or}
+use Rattle.std.specs.Prelude.{ℕ, ◌≤◌, ◌<◌, ◌≡◌, List, length, get_or}
 use Rattle.ground.specs.Answer.{given}
 use Rattle.ground.specs.Inside.Answer.{Injective}
 use Rattle.symbol.specs.declared.disparity.Disparity.{Disparity}
@@ -8,37 +8,21 @@ use Rattle.picture.specs.Choice.{row_on}
 use Rattle.span.specs.declared.content.Content.{Content}
 use Rattle.span.specs.declared.format.Format.{Format}
 use Rattle.span.specs.Blanking.{blank_row}
-use Rattle.span.specs.Numbers.{IsFormat, Symbols, Samples, Blank, MadeUp}
+use Rattle.span.specs.Numbers.{IsFormat, Symbols, Samples, Blank}
 use Rattle.span.specs.Span.{span_after}
 use Rattle.span.specs.Stream.{Request}
 use Rattle.request.specs.Send.{request, paper_sent, send_of}
 
--- a call that is not refused: format, line, samples, and the room for symbols (document 01, "Sending"). Sample i is one of stream i / 1920; on
--- a made-up stream each is 800, on every line and at both depths (document 02, A5; 004, 7.2.3 and 7.2.4).
+-- a call that document 01 does not refuse: format, line, samples, and the room for symbols
 pub record GoodCall (f : Format) (n : ℕ) (xs : List ℕ) (room : ℕ) : Type 0 where
   pub format : IsFormat f
   pub samples : Samples f (length xs)
   pub symbols : Symbols f room
   pub first : 1 ≤ n
   pub last : n ≤ 1125
-  pub ten :
-      f.depth ≡ 10
-      → 42 ≤ n
-      → n ≤ 1121
-      → (i : ℕ)
-      → i < length xs
-      → (MadeUp f (i / 1920) → ⊥)
-      → (4 ≤ get_or xs i 0) × (get_or xs i 0 ≤ 1019)
-  pub twelve :
-      f.depth ≡ 12
-      → 42 ≤ n
-      → n ≤ 1121
-      → (i : ℕ)
-      → i < length xs
-      → (MadeUp f (i / 1920) → ⊥)
-      → (16 ≤ get_or xs i 0) × (get_or xs i 0 ≤ 4079)
+  pub ten : f.depth ≡ 10 → 42 ≤ n → n ≤ 1121 → (i : ℕ) → i < length xs → (4 ≤ get_or xs i 0) × (get_or xs i 0 ≤ 1019)
+  pub twelve : f.depth ≡ 12 → 42 ≤ n → n ≤ 1121 → (i : ℕ) → i < length xs → (16 ≤ get_or xs i 0) × (get_or xs i 0 ≤ 4079)
   pub blanking : (42 ≤ n → n ≤ 1121 → ⊥) → (i : ℕ) → i < length xs → Blank f (get_or xs i 0)
-  pub made_up : (i : ℕ) → i < length xs → MadeUp f (i / 1920) → get_or xs i 0 ≡ 0x800
 
 -- what is asked for on line n with the row that the choice gives of a picture row and a blanking row
 abbrev pub chosen_request : Format → Content → List ℕ → ℕ → Request

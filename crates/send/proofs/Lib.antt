@@ -3,6 +3,5 @@ pub mod Putting
 pub mod Runs
 pub mod Scaling
 pub mod Sizes
-pub mod Streams
 pub mod TimingCodes
 pub mod Whole

@@ -32,7 +32,7 @@ use Rattle.span.proofs.Lengths.{known_has_streams, length_chars}
 use Rattle.span.proofs.Packing.{bytes_interleaved, bytes_replicate}
 use Rattle.span.proofs.Parts.{parts_from_sav, parts_from_eav, blank_area}
 use Rattle.span.proofs.Samples.{word_is, word_below}
-use Rattle.send.specs.Inside.Put.{timing_chars, group_chars, words_by, picture_word, picture_chars, crcc_after, crcc_chars, offset_after, put, after_picture_chars, run_chars, blanking_chars, whole_chars, span_put, FitsBy}
+use Rattle.send.specs.Inside.Put.{timing_chars, group_chars, scaled_words, picture_word, picture_chars, crcc_after, crcc_chars, offset_after, put, after_picture_chars, run_chars, blanking_chars, whole_chars, span_put, Fits}
 use Rattle.request.specs.Inside.Send.{Accepted}
 use Rattle.send.proofs.Passing.{sum_is}
 use Rattle.send.proofs.Putting.{PutChars, made, renamed, told, whole, same_group}
@@ -44,12 +44,12 @@ regroup t g h c r =
     ap (λ (l : List ℕ). t ++ l) (append_assoc g h (c ++ r) ∙ ap (λ (l : List ℕ). g ++ l) (sym (append_assoc h c r)) ∙ sym (append_assoc g (h ++ c) r))
     ∙ sym (append_assoc t (g ++ (h ++ c)) r)
 
-module _ (f : Format) (a : Request) (good : Accepted f a) where
+module _ (f : Format) (a : Request) (good : Accepted f a) (factor : ℕ) (is : factor ≡ (bounds_of f a.line).factor) where
   abbrev pairs : ℕ
   pairs = (shape_of f).stream_pairs
 
   abbrev rows : List ℕ
-  rows = words_by f a.line a.samples
+  rows = scaled_words factor a.samples
 
   abbrev w : ℕ → ℕ → ℕ
   w = picture_word rows
@@ -60,21 +60,21 @@ module _ (f : Format) (a : Request) (good : Accepted f a) where
   may : (i : ℕ) → i < length a.samples → allowed f a.line (i / 1920) (get_or a.samples i 0) ≡ true
   may i h = not-false _ (good.allowed i h)
 
-  -- each sample by the factor of its stream is a word
-  pub fits : FitsBy f a.line a.samples
-  fits = record { fits = λ i h. word_below f known a.line (i / 1920) (get_or a.samples i 0) (may i h) }
+  -- each sample by the factor is a word
+  pub fits : Fits factor a.samples
+  fits = record { fits = λ i h. rw is (word_below f known a.line (i / 1920) (get_or a.samples i 0) (may i h)) }
 
   -- and the one that is sent
   sample_scaled : (t j : ℕ) → t < 2 * pairs → j < 1920 → sample_word f a.line t (get_or a.samples (1920 * t + j) 0) ≡ w t j
-  unfolding words_by
+  unfolding scaled_words
   sample_scaled t j l h =
-      let i : ℕ = 1920 * t + j in
-      let x : ℕ = get_or a.samples i 0 in
-      let inside : i < length a.samples = omega (arith, good.samples) in
-      let place : t ≡ i / 1920 = omega arith in
-      ap (λ (u : ℕ). sample_word f a.line u x) place
-      ∙ word_is f known a.line (i / 1920) x (may i inside)
-      ∙ sym (get_d_table (length a.samples) (λ i. get_or a.samples i 0 * (bounds_of f a.line (i / 1920)).factor) i 0 inside)
+      let x : ℕ = get_or a.samples (1920 * t + j) 0 in
+      let inside : 1920 * t + j < length a.samples = omega (arith, good.samples) in
+      let place : (1920 * t + j) / 1920 ≡ t = omega arith in
+      let ok : allowed f a.line t x ≡ true = ap (λ (u : ℕ). allowed f a.line u x) (sym place) ∙ may (1920 * t + j) inside in
+      word_is f known a.line t x ok
+      ∙ ap (λ (m : ℕ). x * m) (sym is)
+      ∙ sym (get_d_table (length a.samples) (λ i. get_or a.samples i 0 * factor) (1920 * t + j) 0 inside)
 
   picture_is : bytes (interleaved (2 * pairs) 1920 (picture f a)) ≡ picture_chars pairs 1920 w
   unfolding picture picture_chars group_chars
@@ -105,7 +105,7 @@ module _ (f : Format) (a : Request) (good : Accepted f a) where
   register_is : (t : ℕ) → t < 2 * pairs → register f a t ≡ crc (sum_in (sums_in rows) t) (eav a ++ line_number a)
   unfolding register
   register_is t l =
-      let long : length rows ≡ 3840 * pairs = omega (arith, length_words f a.line a.samples refl, good.samples) in
+      let long : length rows ≡ 3840 * pairs = omega (arith, length_words factor a.samples refl, good.samples) in
       sym (crc_append 0 (picture f a t) (eav a ++ line_number a))
       ∙ ap (λ (c : ℕ). crc c (eav a ++ line_number a)) (ap (crc 0) (words_are t l) ∙ sum_is pairs rows some few long t l)
 
@@ -159,7 +159,7 @@ module _ (f : Format) (a : Request) (good : Accepted f a) where
       ∙ append_assoc (timing_chars pairs 261 content.sav1 content.sav2 (timing (v_of a.line) false)) (picture_chars pairs 1920 w) (after_picture_chars pairs (sums_in rows) next content ++ blanks)
 
   -- what is put of its words is the span, and fills the buffer
-  pub span_put_lem : (d : Disparity) {r : Disparity} (before : List ℕ) {ws after : List ℕ} → ws ≡ words_by f a.line a.samples
+  pub span_put_lem : (d : Disparity) {r : Disparity} (before : List ℕ) {ws after : List ℕ} → ws ≡ scaled_words factor a.samples
       → length before ≡ symbols_in (shape_of f)
       → (r ≡ of_offset (offset_after (offset_of d) (span_put f a.line a.content ws))) × (after ≡ put (offset_of d) (span_put f a.line a.content ws) 0 before)
       → (r ≡ span_after d f a) × (after ≡ span_symbols d f a)

@@ -1,12 +1,12 @@
 // Sending a span (document 01, "Sending").
-ghost use Rattle.std.specs.Prelude.{◌≡◌, ◌+◌, ◌≤◌, true, length};
-ghost use Rattle.std.proofs.lemmas.List.Edits.{sets};
+ghost use Rattle.std.specs.Prelude.{◌≡◌, true, length};
 ghost use Rattle.encoder.specs.Inside.Tables.{offset_of, of_offset};
 ghost use Rattle.line.specs.Stream.{is_line};
 ghost use Rattle.span.specs.Format.{is_known, shape_of, samples_in, symbols_in};
+ghost use Rattle.span.specs.Inside.Sample.{bounds_of};
 ghost use Rattle.span.specs.Span.{span_symbols, span_after};
 ghost use Rattle.request.specs.Send.{request, paper_sent, send_of, sent_buffer};
-ghost use Rattle.send.specs.Inside.Put.{offset_after, put, scaled_words, words_by, span_put, AreWords, Fits, FitsBy};
+ghost use Rattle.send.specs.Inside.Put.{offset_after, put, scaled_words, span_put, AreWords, Fits};
 ghost use Rattle.request.specs.Inside.Send.{Accepted};
 
 use line::stream::StreamLine;
@@ -41,34 +41,16 @@ fn send_words(
     encoder::tables::disparity_at(after)
 }
 
-// The samples of a stream, each by the factor that makes it a word, put from a place on.
-fn scale(factor: u16, samples: &[u16], words: &mut [u16], from: usize)
+// Each sample by the factor that makes it a word.
+fn scale(factor: u16, samples: &[u16], words: &mut [u16])
     requires fits { Fits factor samples.now }
-    requires samples_in_bounds { from + length samples.now ≤ length words.old }
-    ensures { words.new ≡ sets words.old from (scaled_words factor samples.now) }
+    requires words_len { length words.old ≡ length samples.now }
+    ensures { words.new ≡ scaled_words factor samples.now }
 {
     let mut i = 0;
     while i < samples.len() {
-        words[from + i] = samples[i] * factor;
+        words[i] = samples[i] * factor;
         i += 1;
-    }
-}
-
-// The samples of all streams, each stream by its own factor: those of a made-up one are words already, at ten bits too (004, 7.2.3 and 7.2.4).
-fn scale_streams(f: Format, l: StreamLine, samples: &[u16], words: &mut [u16])
-    requires fits_by { FitsBy f l.0 samples.now }
-    requires samples_len { length samples.now ≡ samples_in (shape_of f) }
-    requires words_len { length words.old ≡ length samples.now }
-    ensures { words.new ≡ words_by f l.0 samples.now }
-{
-    let streams = samples.len() / 1920;
-    let mut t = 0;
-    while t < streams {
-        let factor = span::sample::bounds_of(f, l, t).factor;
-        let from = 1920 * t;
-        let end = from + 1920;
-        scale(factor, &samples[from..end], words, from);
-        t += 1;
     }
 }
 
@@ -78,17 +60,19 @@ fn send_scaled(
     l: StreamLine,
     d: Disparity,
     content: Content,
+    factor: u16,
     samples: &[u16],
     words: &mut [u16],
     out: &mut [u16],
 ) -> Disparity
     requires accepted { Accepted f (request l.0 content samples.now) }
+    requires factor_value { factor ≡ (bounds_of f l.0).factor }
     requires words_len { length words.old ≡ length samples.now }
     requires out_len { length out.old ≡ symbols_in (shape_of f) }
     ensures after { result ≡ span_after d f (request l.0 content samples.now) }
     ensures symbols { out.new ≡ span_symbols d f (request l.0 content samples.now) }
 {
-    scale_streams(f, l, samples, words);
+    scale(factor, samples, words);
     send_words(f, l, d, content, words, out)
 }
 
@@ -98,20 +82,22 @@ fn send_span(
     l: StreamLine,
     d: Disparity,
     content: Content,
+    factor: u16,
     samples: &[u16],
     out: &mut [u16],
 ) -> Disparity
     requires accepted { Accepted f (request l.0 content samples.now) }
+    requires factor_value { factor ≡ (bounds_of f l.0).factor }
     requires out_len { length out.old ≡ symbols_in (shape_of f) }
     ensures after { result ≡ span_after d f (request l.0 content samples.now) }
     ensures symbols { out.new ≡ span_symbols d f (request l.0 content samples.now) }
 {
-    if span::sample::is_shifted(f, l) {
-        let n = samples.len();
-        let mut words = [0u16; 7680];
-        return send_scaled(f, l, d, content, samples, &mut words[..n], out);
+    if factor == 1 {
+        return send_words(f, l, d, content, samples, out);
     }
-    send_words(f, l, d, content, samples, out)
+    let n = samples.len();
+    let mut words = [0u16; 7680];
+    send_scaled(f, l, d, content, factor, samples, &mut words[..n], out)
 }
 
 // A call whose format, line and lengths are good. Its samples are still to be checked.
@@ -130,11 +116,12 @@ fn send_samples(
     ensures answer { paper_sent result ≡ send_of d f (request l.0 content samples.now) (length symbols.old) }
     ensures symbols { symbols.new ≡ sent_buffer d f (request l.0 content samples.now) symbols.old }
 {
-    let wrong = crate::check::first_wrong(f, l, samples);
+    let bounds = span::sample::bounds_of(f, l);
+    let wrong = crate::check::first_outside(bounds.low, bounds.high, samples);
     if wrong < samples.len() {
         return Sent::NotAllowed(wrong);
     }
-    Sent::After(send_span(f, l, d, content, samples, symbols))
+    Sent::After(send_span(f, l, d, content, bounds.factor, samples, symbols))
 }
 
 // The span of a line: its symbols into the buffer, from the running disparity before it. The samples are stream by stream.

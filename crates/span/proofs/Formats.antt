@@ -7,13 +7,13 @@ use Prim.Native.Nat.{ℕ, zero, suc, ◌+◌, ◌*◌, ◌≤◌}
 use native.Mathlib.Nat.{mul-le-mul_left}
 use native.Mathlib.Omega.{arith}
 use lib.Dec.{eqb}
-use borrow.Author.Tests.{eq-eqb, eqb-true, eqb-false}
+use borrow.Author.Tests.{eq-eqb, eqb-true}
 use Rattle.ground.proofs.Cases.{on_test}
 use Rattle.ground.proofs.Ranges.{is_within, from_low, to_high}
 use Rattle.ground.proofs.Tests.{both_left, both_right}
 use Rattle.span.specs.declared.format.Format.{Format}
 use Rattle.span.specs.declared.format.Shape.{Shape}
-use Rattle.span.specs.Format.{is_number, is_depth, is_structure, first_component, is_component, is_size, is_known, table_row, numbered, shape_of}
+use Rattle.span.specs.Format.{is_number, is_depth, is_component, is_structure, is_size, is_known, table_row, numbered, shape_of}
 use Rattle.span.specs.Numbers.{IsFormat}
 use Rattle.span.specs.Inside.Format.{Small}
 use Rattle.span.specs.Layout.{ancillary_start}
@@ -34,18 +34,11 @@ pub depth_known : {depth : ℕ} → (depth ≡ 10) ⊎ (depth ≡ 12) → is_dep
 depth_known {depth} bits =
     ⊎_elim (λ e. ap (λ (t : Bool). t || eqb depth 12) (eq-eqb _ _ e)) (λ e. right_of (eqb depth 10) (eqb depth 12) (eq-eqb _ _ e)) bits
 
-pub structure_known : {s : ℕ} → 1 ≤ s → s ≤ 3 → is_structure s ≡ true
-structure_known {s} p q = is_within _ _ s (omega arith) (omega arith)
+pub component_known : {c : ℕ} → 1 ≤ c → c ≤ 6 → is_component c ≡ true
+component_known {c} p q = is_within _ _ c (omega arith) (omega arith)
 
--- from G' on in 4:4:4, from Y' on in the others
-first_component_lem : {s c : ℕ} → 1 ≤ s → 1 ≤ c → (2 ≤ s → 4 ≤ c) → first_component s ≤ c
-first_component_lem {s} p q has =
-    on_test (eqb s 1)
-    (λ t. simp t (omega arith))
-    (λ t. simp t (omega (arith, has (omega (arith, eqb-false s 1 t)))))
-
-pub component_known : {s c : ℕ} → 1 ≤ s → 1 ≤ c → c ≤ 6 → (2 ≤ s → 4 ≤ c) → is_component s c ≡ true
-component_known {s} {c} p q r has = is_within _ _ c (first_component_lem p q has) (omega arith)
+pub structure_known : {s : ℕ} → s ≡ 1 → is_structure s ≡ true
+structure_known e = rw e refl
 
 size_known : {s : ℕ} → s ≡ 1 → is_size s ≡ true
 size_known e = rw e refl
@@ -54,63 +47,42 @@ size_known e = rw e refl
 number_told : {n : ℕ} → is_number n ≡ true → (1 ≤ n) × (n ≤ 3)
 number_told t = (omega (arith, from_low _ _ _ t), omega (arith, to_high _ _ _ t))
 
-structure_told : {s : ℕ} → is_structure s ≡ true → (1 ≤ s) × (s ≤ 3)
-structure_told t = (omega (arith, from_low _ _ _ t), omega (arith, to_high _ _ _ t))
+component_told : {c : ℕ} → is_component c ≡ true → (1 ≤ c) × (c ≤ 6)
+component_told t = (omega (arith, from_low _ _ _ t), omega (arith, to_high _ _ _ t))
 
-record Carries (s c : ℕ) : Type 0 where
-  from : 1 ≤ c
-  to : c ≤ 6
-  has : 2 ≤ s → 4 ≤ c
-
-component_told : {s c : ℕ} → is_component s c ≡ true → Carries s c
-component_told {s} {c} t =
-    let low = from_low (first_component s) _ c t in
-    on_test (eqb s 1)
-    (λ e.
-    let one = eqb-true s 1 e in
-    let first : 1 ≤ c = omega (arith, simp e at low) in
-    record { from = first; to = omega (arith, to_high _ _ _ t); has = λ h. absurd (omega arith) })
-    (λ e.
-    let first : 4 ≤ c = omega (arith, simp e at low) in
-    record { from = omega arith; to = omega (arith, to_high _ _ _ t); has = λ h. first })
+structure_told : {s : ℕ} → is_structure s ≡ true → s ≡ 1
+structure_told {s} t = eqb-true s _ t
 
 size_told : {s : ℕ} → is_size s ≡ true → s ≡ 1
 size_told {s} t = eqb-true s _ t
 
 module _ (f : Format) where
-  abbrev carrying : Bool
-  carrying = is_component f.structure f.component && is_size f.size
+  abbrev sampling : Bool
+  sampling = is_structure f.structure && is_size f.size
 
-  abbrev sampled : Bool
-  sampled = is_structure f.structure && carrying
+  abbrev carrying : Bool
+  carrying = is_component f.component && sampling
 
   pub is_known_lem : IsFormat f → is_known f ≡ true
   is_known_lem k =
-      simp (
-        number_known k.from k.to,
-        depth_known k.bits,
-        structure_known k.structure.0 k.structure.1,
-        component_known k.structure.0 k.component.0 k.component.1 k.has,
-        size_known k.size,
-      )
+      simp
+      (number_known k.from k.to, depth_known k.bits, component_known k.component.0 k.component.1, structure_known k.structure, size_known k.size)
 
   pub known_told : is_known f ≡ true → IsFormat f
   known_told t =
-      let number = number_told (both_left (is_number f.number) (is_depth f.depth && sampled) t) in
-      let deep = both_right (is_number f.number) (is_depth f.depth && sampled) t in
-      let sample = both_right (is_depth f.depth) sampled deep in
-      let carry = both_right (is_structure f.structure) carrying sample in
-      let component = component_told (both_left (is_component f.structure f.component) (is_size f.size) carry) in
+      let number = number_told (both_left (is_number f.number) (is_depth f.depth && carrying) t) in
+      let deep = both_right (is_number f.number) (is_depth f.depth && carrying) t in
+      let carries = both_right (is_depth f.depth) carrying deep in
+      let sampled = both_right (is_component f.component) sampling carries in
       record {
         from = number.0;
         to = number.1;
         bits =
             ⊎_elim (λ e. inl (eqb-true _ _ e)) (λ e. inr (eqb-true _ _ e))
-            (either (eqb f.depth 10) (eqb f.depth 12) (both_left (is_depth f.depth) sampled deep));
-        component = (component.from, component.to);
-        structure = structure_told (both_left (is_structure f.structure) carrying sample);
-        has = component.has;
-        size = size_told (both_right (is_component f.structure f.component) (is_size f.size) carry);
+            (either (eqb f.depth 10) (eqb f.depth 12) (both_left (is_depth f.depth) carrying deep));
+        component = component_told (both_left (is_component f.component) sampling carries);
+        structure = structure_told (both_left (is_structure f.structure) (is_size f.size) sampled);
+        size = size_told (both_right (is_structure f.structure) (is_size f.size) sampled);
       }
 
   pub unknown : (IsFormat f → ⊥) → is_known f ≡ false

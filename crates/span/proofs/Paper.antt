@@ -1,8 +1,8 @@
 -- A span in the papers' own numerals, proved: each field cites the law that says it.
 -- Assumes nothing.
 use mathlib.Core.Path.{◌≡◌, refl, sym, ap, ap₂, ◌∙◌}
-use mathlib.Core.Bool.{true, false, and-false}
-use mathlib.Core.List.{List, [], ◌∷◌, ◌++◌}
+use mathlib.Core.Bool.{true, false}
+use mathlib.Core.List.{List, ◌++◌}
 use Prim.Native.Nat.{ℕ, zero, suc, ◌+◌, ◌-◌, ◌*◌, ◌%◌, ◌≤◌, ◌<◌}
 use native.Mathlib.Omega.{arith}
 use lib.ListN.{length, get_or, replicate, length-append}
@@ -13,7 +13,7 @@ use Rattle.ground.specs.Written.{table}
 use Rattle.ground.proofs.Cases.{on_test}
 use Rattle.ground.proofs.Ranges.{is_within, not_within}
 use Rattle.ground.proofs.Writing.{replicate_table, length_table, get_d_table, get_d_first, get_d_second}
-use Rattle.line.specs.Stream.{is_active, v_of, line_after}
+use Rattle.line.specs.Stream.{v_of, line_after}
 use Rattle.word.specs.LineNumber.{ln0, ln1}
 use Rattle.word.specs.Timing.{timing}
 use Rattle.word.specs.Word.{guarded}
@@ -21,16 +21,15 @@ use Rattle.packing.specs.Bytes.{bytes_of}
 use Rattle.crcc.specs.Crcc.{crc, crcc_words}
 use Rattle.span.specs.declared.format.Format.{Format}
 use Rattle.span.specs.Format.{numbered, shape_of, streams, samples_in, pairs_in}
-use Rattle.span.specs.Image.{made_up}
-use Rattle.span.specs.Numbers.{IsFormat, Blank, MadeUp}
+use Rattle.span.specs.Numbers.{IsFormat}
 use Rattle.span.specs.Paper.{Active, word_of, SpanPaper}
-use Rattle.span.specs.Sample.{blank_word, allowed, sample_word}
+use Rattle.span.specs.Sample.{blank_word, sample_word}
 use Rattle.span.specs.Span.{span_words, span_chars, bytes_listed}
 use Rattle.span.specs.Stream.{Request, sav, picture, eav, line_number, register, crcc, ancillary}
 use Rattle.span.proofs.Blank.{fill_meets_1, fill_meets_4}
 use Rattle.span.proofs.Contents.{named_as_given, none_named_zeros}
 use Rattle.span.proofs.Formats.{is_known_lem, unknown}
-use Rattle.span.proofs.Images.{sampled_full, sampled_by, images_of_two, images_of_four, images_there, streams_counted, made_up_is, not_made_up}
+use Rattle.span.proofs.Images.{images_of_120, images_of_100, images_of_50}
 use Rattle.span.proofs.LengthCalls.{lengths_refused, lengths_of_120, lengths_of_100, lengths_of_50}
 use Rattle.span.proofs.Lengths.{table_of_formats, known_has_streams, length_of_symbols}
 use Rattle.span.proofs.Numbers.{blank_told, blank_is}
@@ -40,29 +39,6 @@ use Rattle.span.proofs.Signals.{signal_is}
 -- a format in document 01's numbers has streams
 has_streams : (f : Format) → IsFormat f → 1 ≤ (shape_of f).stream_pairs
 has_streams f k = known_has_streams f (is_known_lem f k)
-
--- a made_up stream carries 800, which is its link's blanking word
-module _ (f : Format) (k : IsFormat f) (n t x : ℕ) where
-  made_up_allowed : MadeUp f t → x ≡ 0x800 → allowed f n t x ≡ true
-  made_up_allowed m e = simp ((made_up_is f k t).holds m) (eq-eqb x _ (omega arith))
-
-  made_up_alone : MadeUp f t → allowed f n t x ≡ true → x ≡ 0x800
-  made_up_alone m ok = let e = eqb-true x _ (simp ((made_up_is f k t).holds m) at ok) in omega arith
-
-  blank_allowed : (Active n → ⊥) → Blank f x → allowed f n t x ≡ true
-  blank_allowed out b =
-      on_test (made_up f t)
-      (λ m. let up = (made_up_is f k t).told m in made_up_allowed up (b.is800 up.difference))
-      (λ m. simp (m, not_within 42 1121 n (λ p q. out (p, q))) (eq-eqb x (blank_word f) (blank_is f k x b)))
-
-  blank_alone : (Active n → ⊥) → allowed f n t x ≡ true → Blank f x
-  blank_alone out ok =
-      on_test (made_up f t)
-      (λ m.
-      let up = (made_up_is f k t).told m in
-      let e = made_up_alone up ok in
-      record { is100 = λ h. absurd (omega (arith, up.difference)); is800 = λ h. e })
-      (λ m. blank_told f k x (eqb-true x (blank_word f) (simp (m, not_within 42 1121 n (λ p q. out (p, q))) at ok)))
 
 -- ---- V of a line and of the line after
 
@@ -159,19 +135,15 @@ module _ (f : Format) (a : Request) (t : ℕ) (l : t < streams (shape_of f)) whe
     is_word_lem : word_of f a (4 + i) t ≡ sample_word f n t x
     is_word_lem = picture_word_lem f a t l i h ∙ ap (sample_word f n t) e
 
-    module _ (m : made_up f t ≡ false) where
-      ten : f.depth ≡ 10 → Active n → x ≤ 1023 → word_of f a (4 + i) t ≡ 4 * x
-      ten d on b =
-          let w : x * 4 % 4096 ≡ 4 * x = omega arith in
-          is_word_lem ∙ simp (m, is_within 42 1121 n on.0 on.1, eq-eqb f.depth 10 d) w
+    ten : f.depth ≡ 10 → Active n → x ≤ 1023 → word_of f a (4 + i) t ≡ 4 * x
+    ten d on b =
+        let w : x * 4 % 4096 ≡ 4 * x = omega arith in
+        is_word_lem ∙ simp (is_within 42 1121 n on.0 on.1, eq-eqb f.depth 10 d) w
 
-      twelve : f.depth ≡ 12 → Active n → x ≤ 4095 → word_of f a (4 + i) t ≡ x
-      twelve d on b =
-          let w : x % 4096 ≡ x = omega arith in
-          is_word_lem ∙ simp (m, is_within 42 1121 n on.0 on.1, ne_eqb f.depth 10 (λ z. omega arith)) w
-
-    made_up_lem : made_up f t ≡ true → word_of f a (4 + i) t ≡ x
-    made_up_lem m = is_word_lem ∙ simp (m, and-false (is_active n))
+    twelve : f.depth ≡ 12 → Active n → x ≤ 4095 → word_of f a (4 + i) t ≡ x
+    twelve d on b =
+        let w : x % 4096 ≡ x = omega arith in
+        is_word_lem ∙ simp (is_within 42 1121 n on.0 on.1, ne_eqb f.depth 10 (λ z. omega arith)) w
 
     blanking : (Active n → ⊥) → word_of f a (4 + i) t ≡ x
     blanking out = is_word_lem ∙ simp (not_within 42 1121 n (λ p q. out (p, q)))
@@ -214,32 +186,21 @@ span_paper = record {
   fill_meets1 = λ f row x. fill_meets_1 f row (unknown f x);
   fill_meets4 = λ f row k. fill_meets_4 f row (is_known_lem f k);
   symbols_of_span = λ d f a k. length_of_symbols f a (has_streams f k) d;
-  images_of_all = λ f k c. (images_of_two f k 1 (sampled_full f c), images_of_four f k 1 (sampled_full f c));
-  images_of422 = λ f k h e. (images_of_two f k 2 (sampled_by f k h ∙ e), images_of_four f k 2 (sampled_by f k h ∙ e));
-  images_of420 = λ f k h e. (images_of_two f k 3 (sampled_by f k h ∙ e), images_of_four f k 3 (sampled_by f k h ∙ e));
-  images_there = λ f k. (
-    λ c. images_there f k 1 (sampled_full f c) (1 ∷ 2 ∷ 3 ∷ 4 ∷ []) refl refl,
-    λ h e. images_there f k 2 (sampled_by f k h ∙ e) (1 ∷ 3 ∷ []) refl refl,
-    λ h e. images_there f k 3 (sampled_by f k h ∙ e) (1 ∷ []) refl refl,
-  );
-  links_in_order = λ f. (refl, λ i. refl);
-  streams_counted = streams_counted;
-  made_up_is = made_up_is;
+  images120 = images_of_120;
+  images100 = images_of_100;
+  images50 = images_of_50;
   named_as_given = named_as_given;
   none_named_zeros = none_named_zeros;
   blank_word_is = λ f k. blank_told f k (blank_word f) refl;
-  blank_allowed = blank_allowed;
-  blank_alone = blank_alone;
-  made_up_allowed = λ f k n t m. made_up_allowed f k n t 0x800 m refl;
-  made_up_alone = made_up_alone;
+  blank_allowed = λ f k n t x out b. simp (not_within 42 1121 n (λ p q. out (p, q))) (eq-eqb x (blank_word f) (blank_is f k x b));
+  blank_alone = λ f k n t x out ok. blank_told f k x (eqb-true x (blank_word f) (simp (not_within 42 1121 n (λ p q. out (p, q))) at ok));
   blank_row_is = λ f k m w e b. sym (replicate_table (samples_in (shape_of f)) (blank_word f)) ∙ ap₂ replicate (sym e) (sym (blank_is f k w b));
   sav_words = λ f a t l. let w = sav_words f a t l in (w.0, w.1, w.2);
   sav_active = sav_active;
   sav_blanking = sav_blanking;
-  picture_ten = λ f a t i x k up l h e. ten f a t l i x h e (not_made_up f k t up);
-  picture_twelve = λ f a t i x k up l h e. twelve f a t l i x h e (not_made_up f k t up);
+  picture_ten = λ f a t i x l. ten f a t l i x;
+  picture_twelve = λ f a t i x l. twelve f a t l i x;
   picture_blanking = λ f a t i x l. blanking f a t l i x;
-  picture_made_up = λ f a t i x k up l h e. made_up_lem f a t l i x h e ((made_up_is f k t).holds up);
   eav_words = λ f a t l. let w = eav_words f a t l in (w.0, w.1, w.2);
   eav_active = eav_active;
   eav_blanking = eav_blanking;

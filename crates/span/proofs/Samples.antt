@@ -1,7 +1,7 @@
 -- The samples that a line may carry, as a range and a factor.
 -- Assumes nothing.
 use mathlib.Core.Path.{◌≡◌, refl, sym, ◌∙◌}
-use mathlib.Core.Bool.{Bool, true, false, and-false, true≢false}
+use mathlib.Core.Bool.{Bool, true, false}
 use mathlib.Core.Logic.{⊎_elim}
 use Prim.Native.Nat.{ℕ, ◌*◌, ◌≤◌, ◌<◌}
 use native.Mathlib.Omega.{arith}
@@ -13,10 +13,9 @@ use Rattle.ground.proofs.Ranges.{is_within, from_low, to_high}
 use Rattle.line.specs.Stream.{is_active}
 use Rattle.span.specs.declared.format.Format.{Format}
 use Rattle.span.specs.Format.{is_difference}
-use Rattle.span.specs.Image.{made_up}
 use Rattle.span.specs.Numbers.{IsFormat}
-use Rattle.span.specs.Sample.{blank_word, made_up_word, allowed_on, allowed, sample_word}
-use Rattle.span.specs.Inside.Sample.{bounds_on, bounds_of, is_shifted}
+use Rattle.span.specs.Sample.{blank_word, allowed, sample_word}
+use Rattle.span.specs.Inside.Sample.{bounds_of}
 
 -- two tests that hold together are the same
 same_test : (a b : Bool) → (a ≡ true → b ≡ true) → (b ≡ true → a ≡ true) → a ≡ b
@@ -35,9 +34,9 @@ one_number b x =
 pub blank_below : (f : Format) → blank_word f < 4096
 blank_below f = on_test (is_difference f) (λ t. simp t (omega arith)) (λ t. simp t (omega arith))
 
-module _ (f : Format) (k : IsFormat f) (n x : ℕ) where
-  allowed_on_lem : allowed_on f n x ≡ within (bounds_on f n).low (bounds_on f n).high x
-  allowed_on_lem =
+module _ (f : Format) (k : IsFormat f) (n t x : ℕ) where
+  pub allowed_is : allowed f n t x ≡ within (bounds_of f n).low (bounds_of f n).high x
+  allowed_is =
       on_test (is_active n)
       (λ active.
       ⊎_elim
@@ -48,49 +47,25 @@ module _ (f : Format) (k : IsFormat f) (n x : ℕ) where
       k.bits)
       (λ blanking. simp blanking (one_number (blank_word f) x))
 
-  below_on : x ≤ (bounds_on f n).high → x * (bounds_on f n).factor < 4096
-  below_on b =
-      on_test (is_active n)
-      (λ active.
-      on_test (eqb f.depth 10)
-      (λ ten. let h : x ≤ 1019 = simp (active, ten) at b in simp (active, ten) (omega arith))
-      (λ twelve. let h : x ≤ 4079 = simp (active, twelve) at b in simp (active, twelve) (omega arith)))
-      (λ blanking. let h : x ≤ blank_word f = simp blanking at b in simp blanking (omega (arith, h, blank_below f)))
-
-module _ (f : Format) (k : IsFormat f) (n t x : ℕ) where
-  pub allowed_is : allowed f n t x ≡ within (bounds_of f n t).low (bounds_of f n t).high x
-  allowed_is = on_test (made_up f t) (λ m. simp m (one_number made_up_word x)) (λ m. simp m (allowed_on_lem f k n x))
-
-  high_is : allowed f n t x ≡ true → x ≤ (bounds_of f n t).high
+  high_is : allowed f n t x ≡ true → x ≤ (bounds_of f n).high
   high_is ok = to_high _ _ _ (sym allowed_is ∙ ok)
 
   -- a sample that is allowed makes a word of twelve bits
-  pub word_below : allowed f n t x ≡ true → x * (bounds_of f n t).factor < 4096
+  pub word_below : allowed f n t x ≡ true → x * (bounds_of f n).factor < 4096
   word_below ok =
-      on_test (made_up f t)
-      (λ m. let h : x ≤ made_up_word = simp m at (high_is ok) in simp m (omega arith))
-      (λ m. let h : x ≤ (bounds_on f n).high = simp m at (high_is ok) in simp m (below_on f k n x h))
-
-  -- and that word is sent for it
-  pub word_is : allowed f n t x ≡ true → sample_word f n t x ≡ x * (bounds_of f n t).factor
-  word_is ok =
-      on_test (made_up f t)
-      (λ m. simp (m, and-false (is_active n)) (omega arith))
-      (λ m.
       on_test (is_active n)
       (λ active.
       on_test (eqb f.depth 10)
-      (λ ten. let h : x * 4 < 4096 = simp (m, active, ten) at (word_below ok) in simp (m, active, ten) (omega arith))
-      (λ twelve. let h : x * 1 < 4096 = simp (m, active, twelve) at (word_below ok) in simp (m, active, twelve) (omega arith)))
-      (λ blanking. simp (m, blanking) (omega arith)))
+      (λ ten. let h : x ≤ 1019 = simp (active, ten) at (high_is ok) in simp (active, ten) (omega arith))
+      (λ twelve. let h : x ≤ 4079 = simp (active, twelve) at (high_is ok) in simp (active, twelve) (omega arith)))
+      (λ blanking. let h : x ≤ blank_word f = simp blanking at (high_is ok) in simp blanking (omega (arith, h, blank_below f)))
 
--- the factor is 1 on every stream of a line that has no samples to shift
-pub factor_one : (f : Format) (n t : ℕ) → is_shifted f n ≡ false → (bounds_of f n t).factor ≡ 1
-factor_one f n t e =
-    on_test (made_up f t)
-    (λ m. simp m)
-    (λ m. on_test (is_active n)
-    (λ active. on_test (eqb f.depth 10)
-    (λ ten. absurd (true≢false (sym (simp (active, ten)) ∙ e)))
-    (λ twelve. simp (m, active, twelve)))
-    (λ blanking. simp (m, blanking)))
+  -- and that word is sent for it
+  pub word_is : allowed f n t x ≡ true → sample_word f n t x ≡ x * (bounds_of f n).factor
+  word_is ok =
+      on_test (is_active n)
+      (λ active.
+      on_test (eqb f.depth 10)
+      (λ ten. let h : x * 4 < 4096 = simp (active, ten) at (word_below ok) in simp (active, ten) (omega arith))
+      (λ twelve. let h : x * 1 < 4096 = simp (active, twelve) at (word_below ok) in simp (active, twelve) (omega arith)))
+      (λ blanking. simp blanking (omega arith))

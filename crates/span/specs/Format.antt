@@ -1,13 +1,13 @@
 -- The formats (document 01, "A span": its table; 004, tables 2, 3, 4, 11 and 14).
 -- Assumes nothing.
-use Rattle.std.specs.Prelude.{ℕ, ◌+◌, ◌*◌, ◌/◌, Bool, cond, ◌&&◌, ◌||◌, List, [], ◌∷◌, eqb, get_or}
+use Rattle.std.specs.Prelude.{ℕ, ◌+◌, ◌*◌, ◌/◌, Bool, ◌&&◌, ◌||◌, List, [], ◌∷◌, eqb, get_or}
 use Rattle.ground.specs.Range.{within}
 use Rattle.span.specs.declared.format.Format.{Format}
 use Rattle.span.specs.declared.format.Shape.{Shape}
 use Rattle.span.specs.Layout.{ancillary_start}
 
--- a format as a caller writes it: number (1, 2, 3: 120, 100, 50 Hz), depth, component (1 G', 2 B', 3 R', 4 Y', 5 C'B, 6 C'R), structure (1
--- 4:4:4, 2 4:2:2, 3 4:2:0) and size (1: 4K). 0 is unknown in every field. This is the one place where its record is made.
+-- a format as a caller writes it: number (1, 2, 3: 120, 100, 50 Hz), depth, component (1 G', 2 B', 3 R', 4 Y', 5 C'B, 6 C'R), structure (1:
+-- 4:4:4) and size (1: 4K). 0 is unknown in every field. This is the one place where its record is made.
 abbrev pub format_from : ℕ → ℕ → ℕ → ℕ → ℕ → Format
 format_from number depth component structure size =
     record { number = number; depth = depth; component = component; structure = structure; size = size }
@@ -16,39 +16,31 @@ format_from number depth component structure size =
 abbrev pub plain_format : ℕ → ℕ → Format
 plain_format number depth = format_from number depth 1 1 1
 
--- 120, 100 and 50 Hz; 10 and 12 bits; 4:4:4, 4:2:2 and 4:2:0; 4K
+-- 120, 100 and 50 Hz; 10 and 12 bits; G', B', R', Y', C'B and C'R; 4:4:4; 4K
 abbrev pub is_number : ℕ → Bool
 is_number number = within 1 3 number
 
 abbrev pub is_depth : ℕ → Bool
 is_depth depth = eqb depth 10 || eqb depth 12
 
+abbrev pub is_component : ℕ → Bool
+is_component component = within 1 6 component
+
 abbrev pub is_structure : ℕ → Bool
-is_structure structure = within 1 3 structure
+is_structure structure = eqb structure 1
 
 abbrev pub is_size : ℕ → Bool
 is_size size = eqb size 1
 
--- the components of a structure: all six in 4:4:4, from Y' on in 4:2:2 and 4:2:0, which lack G', B' and R' (004, table 2)
-abbrev pub first_component : ℕ → ℕ
-first_component structure = cond (eqb structure 1) 1 4
-
-abbrev pub is_component : ℕ → ℕ → Bool
-is_component structure component = within (first_component structure) 6 component
-
--- the formats that there are: U1.1, .2, .4, U1.8, .9, .11, U1.15, .16, .18 and U1.22, .23, .25 of 004's table 2
+-- the formats that there are: U1.1, .2, .4 and U1.8, .9, .11 of 004's table 2
 abbrev pub is_known : Format → Bool
 is_known f =
     is_number f.number
-    && (is_depth f.depth && (is_structure f.structure && (is_component f.structure f.component && is_size f.size)))
+    && (is_depth f.depth && (is_component f.component && (is_structure f.structure && is_size f.size)))
 
 -- the link carries a colour difference, C'B or C'R
 abbrev pub is_difference : Format → Bool
 is_difference f = within 5 6 f.component
-
--- how its component is sampled: as the structure says where it is a colour difference, else as in 4:4:4 (004, 5.1.3)
-abbrev pub sampling_of : Format → ℕ
-sampling_of f = cond (is_difference f) f.structure 1
 
 -- a row of the table: s, the ancillary words per stream, the fill words. s and the fill are even and kept as pairs, since the link
 -- takes words two at a time.

@@ -16,13 +16,13 @@ pub record SpanLaws : Type 0 where
       (f : Format)
       → IsFormat f
       → (n t x : ℕ)
-      → allowed f n t x ≡ within (bounds_of f n t).low (bounds_of f n t).high x
+      → allowed f n t x ≡ within (bounds_of f n).low (bounds_of f n).high x
   pub factor_agrees :
       (f : Format)
       → IsFormat f
       → (n t x : ℕ)
       → allowed f n t x ≡ true
-      → sample_word f n t x ≡ x * (bounds_of f n t).factor
+      → sample_word f n t x ≡ x * (bounds_of f n).factor
   -- the paper's number and values tell any two answers apart, so that a contract about them fixes the answer
   pub lengths_told : Injective paper_lengths
   pub filled_told : Injective paper_filled

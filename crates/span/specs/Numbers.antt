@@ -4,15 +4,13 @@
 use Rattle.std.specs.Prelude.{ℕ, ◌≤◌, ◌≡◌, ◌⊎◌}
 use Rattle.span.specs.declared.format.Format.{Format}
 
--- a known format: 1 to 3, which are 120, 100 and 50 Hz; 10 or 12 bits; 1 to 6, which are G', B', R', Y', C'B and C'R; 1 to 3, which are 4:4:4,
--- 4:2:2 and 4:2:0, of which the last two lack G', B' and R'; 4K
+-- a known format: 1 to 3, which are 120, 100 and 50 Hz; 10 or 12 bits; 1 to 6, which are G', B', R', Y', C'B and C'R; 4:4:4; 4K
 pub record IsFormat (f : Format) : Type 0 where
   pub from : 1 ≤ f.number
   pub to : f.number ≤ 3
   pub bits : (f.depth ≡ 10) ⊎ (f.depth ≡ 12)
   pub component : (1 ≤ f.component) × (f.component ≤ 6)
-  pub structure : (1 ≤ f.structure) × (f.structure ≤ 3)
-  pub has : 2 ≤ f.structure → 4 ≤ f.component
+  pub structure : f.structure ≡ 1
   pub size : f.size ≡ 1
 
 -- x is a, b or c for format 1, 2 or 3
@@ -30,14 +28,6 @@ Samples f = Of 3840 3840 7680 f.number
 pub record Blank (f : Format) (x : ℕ) : Type 0 where
   pub is100 : f.component ≤ 4 → x ≡ 0x100
   pub is800 : 5 ≤ f.component → x ≡ 0x800
-
--- stream t, from 0, is made up (004, 7.2.3 and 7.2.4; document 02, A5): on a link of C'B or C'R, in 4:2:2 streams 2 and 4 at 50 Hz; in 4:2:0
--- stream 2 at 120 and 100 Hz, and streams 2, 3 and 4 at 50 Hz
-pub record MadeUp (f : Format) (t : ℕ) : Type 0 where
-  pub difference : 5 ≤ f.component
-  pub stream :
-      ((f.structure ≡ 2) × (f.number ≡ 3) × ((t ≡ 1) ⊎ (t ≡ 3)))
-      ⊎ (((f.structure ≡ 3) × (f.number ≤ 2) × (t ≡ 1)) ⊎ ((f.structure ≡ 3) × (f.number ≡ 3) × (1 ≤ t) × (t ≤ 3)))
 
 -- the ancillary words of a stream
 abbrev pub Ancillary : Format → ℕ → Type 0

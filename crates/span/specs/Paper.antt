@@ -1,11 +1,9 @@
 -- A span in the papers' own numerals (document 01, "A span"; 004, 6.1 to 6.8 and 7.1, tables 4, 11 and 14); `proofs/Paper` proves each.
 -- Streams count from 0 here, so the paper's stream 1 is stream 0.
 -- Assumes nothing.
-use Rattle.std.specs.Prelude.{ℕ, suc, ◌+◌, ◌*◌, ◌≤◌, ◌<◌, ◌≡◌, true, List, [], ◌∷◌, ◌++◌, ◌⊎◌, length, get_or, take, replicate}
-use Rattle.std.proofs.Math.Option.{Option, none, some}
+use Rattle.std.specs.Prelude.{ℕ, ◌+◌, ◌*◌, ◌≤◌, ◌<◌, ◌≡◌, true, List, [], ◌∷◌, ◌++◌, length, get_or, take, replicate}
 use Rattle.ground.specs.Answer.{refused, given}
 use Rattle.ground.specs.Written.{table}
-use Rattle.ground.specs.Inside.Test.{Reflects}
 use Rattle.symbol.specs.declared.disparity.Disparity.{Disparity}
 use Rattle.symbol.specs.declared.disparity.Disparity.TheVariants.{Negative}
 use Rattle.symbol.specs.declared.special.Special.TheVariants.{K28_5, K29_7}
@@ -21,9 +19,9 @@ use Rattle.span.specs.Blanking.{fill_of, blank_row}
 use Rattle.span.specs.Content.{content_of}
 use Rattle.span.specs.Encoding.{symbols_from, after_run}
 use Rattle.span.specs.Format.{format_from, plain_format, shape_of, streams, samples_in, pairs_in, symbols_in}
-use Rattle.span.specs.Image.{links_of, images_of, made_up}
+use Rattle.span.specs.Image.{image_of}
 use Rattle.span.specs.Length.{lengths_of}
-use Rattle.span.specs.Numbers.{IsFormat, Blank, MadeUp}
+use Rattle.span.specs.Numbers.{IsFormat, Blank}
 use Rattle.span.specs.Sample.{blank_word, allowed}
 use Rattle.span.specs.Span.{bytes_listed, span_words, span_chars, span_symbols, signal}
 use Rattle.span.specs.Stream.{Request}
@@ -33,15 +31,12 @@ abbrev pub columns : Format → List ℕ
 columns f =
     let p = shape_of f in streams p ∷ p.ancillary ∷ 2 * p.fill_pairs ∷ symbols_in p ∷ samples_in p ∷ []
 
--- the images of a link's streams, without those that are made up
-abbrev pub present : List (Option ℕ) → List ℕ
-present [] = []
-present (none ∷ more) = present more
-present (some u ∷ more) = u ∷ present more
+-- the images of two streams, and of four
+abbrev two : Format → ℕ → List ℕ
+two f pair = image_of f pair 0 ∷ image_of f pair 1 ∷ []
 
--- those of all links of a component
-abbrev pub images_sent : Format → List ℕ
-images_sent f = present (images_of f 1) ++ present (images_of f 2)
+abbrev four : Format → ℕ → List ℕ
+four f pair = image_of f pair 0 ∷ image_of f pair 1 ∷ image_of f pair 2 ∷ image_of f pair 3 ∷ []
 
 -- word j of stream t, at its interleaved place
 abbrev pub word_of : Format → Request → ℕ → ℕ → ℕ
@@ -81,40 +76,10 @@ pub record SpanPaper : Type 0 where
   -- and a span has that many symbols
   pub symbols_of_span :
       (d : Disparity) (f : Format) (a : Request) → IsFormat f → length (span_symbols d f a) ≡ symbols_in (shape_of f)
-  -- the streams of the links of a component (document 01, "Dividing a picture"; 004, 7.2.3 and 7.2.4): where all its images are sent, 1 and
-  -- 2, and 3 and 4, at 120 and 100 Hz, and 1 to 4 at 50 Hz; C'B and C'R in 4:2:2 and in 4:2:0 on one link, of which some streams are made up
-  pub images_of_all :
-      (f : Format)
-      → IsFormat f
-      → (f.component ≤ 4) ⊎ (f.structure ≡ 1)
-      → (f.number ≤ 2 → links_of f ≡ (some 1 ∷ some 2 ∷ []) ∷ (some 3 ∷ some 4 ∷ []) ∷ [])
-      × (f.number ≡ 3 → links_of f ≡ (some 1 ∷ some 2 ∷ some 3 ∷ some 4 ∷ []) ∷ [])
-  pub images_of422 :
-      (f : Format)
-      → IsFormat f
-      → 5 ≤ f.component
-      → f.structure ≡ 2
-      → (f.number ≤ 2 → links_of f ≡ (some 1 ∷ some 3 ∷ []) ∷ [])
-      × (f.number ≡ 3 → links_of f ≡ (some 1 ∷ none ∷ some 3 ∷ none ∷ []) ∷ [])
-  pub images_of420 :
-      (f : Format)
-      → IsFormat f
-      → 5 ≤ f.component
-      → f.structure ≡ 3
-      → (f.number ≤ 2 → links_of f ≡ (some 1 ∷ none ∷ []) ∷ [])
-      × (f.number ≡ 3 → links_of f ≡ (some 1 ∷ none ∷ none ∷ none ∷ []) ∷ [])
-  -- 5.1.3: which images there are of a component: all four, or 1 and 3, or 1. Each is on one stream, and every other stream is made up
-  pub images_there :
-      (f : Format)
-      → IsFormat f
-      → ((f.component ≤ 4) ⊎ (f.structure ≡ 1) → images_sent f ≡ 1 ∷ 2 ∷ 3 ∷ 4 ∷ [])
-      × (5 ≤ f.component → f.structure ≡ 2 → images_sent f ≡ 1 ∷ 3 ∷ [])
-      × (5 ≤ f.component → f.structure ≡ 3 → images_sent f ≡ 1 ∷ [])
-  -- link 1 is the first of them, and has all its streams
-  pub links_in_order : (f : Format) → (images_of f 0 ≡ []) × ((i : ℕ) → images_of f (suc i) ≡ get_or (links_of f) i [])
-  pub streams_counted : (f : Format) → IsFormat f → length (images_of f 1) ≡ streams (shape_of f)
-  -- and which streams are made up, in numerals
-  pub made_up_is : (f : Format) → IsFormat f → (t : ℕ) → Reflects (made_up f t) (MadeUp f t)
+  -- the images that the streams carry: 1 and 2, or 3 and 4, at 120 and 100 Hz; 1 to 4 at 50 Hz (document 01, "Dividing a picture")
+  pub images120 : (f : Format) → f.number ≡ 1 → (two f 1 ≡ 1 ∷ 2 ∷ []) × (two f 2 ≡ 3 ∷ 4 ∷ [])
+  pub images100 : (f : Format) → f.number ≡ 2 → (two f 1 ≡ 1 ∷ 2 ∷ []) × (two f 2 ≡ 3 ∷ 4 ∷ [])
+  pub images50 : (f : Format) → f.number ≡ 3 → (pair : ℕ) → four f pair ≡ 1 ∷ 2 ∷ 3 ∷ 4 ∷ []
   -- the content bytes are those that a call names, and zeros if it names none (document 01, "Sending")
   pub named_as_given : (f : Format) (c : ContentBytes) → content_of f (Named c) ≡ c
   pub none_named_zeros : (f : Format) → content_of f NoneNamed ≡ record { sav1 = 0; sav2 = 0; eav1 = 0; eav2 = 0 }
@@ -123,9 +88,6 @@ pub record SpanPaper : Type 0 where
   pub blank_word_is : (f : Format) → IsFormat f → Blank f (blank_word f)
   pub blank_allowed : (f : Format) → IsFormat f → (n t x : ℕ) → (Active n → ⊥) → Blank f x → allowed f n t x ≡ true
   pub blank_alone : (f : Format) → IsFormat f → (n t x : ℕ) → (Active n → ⊥) → allowed f n t x ≡ true → Blank f x
-  -- on a made-up stream 800 may be sent on every line, and nothing else (7.2.3 and 7.2.4)
-  pub made_up_allowed : (f : Format) → IsFormat f → (n t : ℕ) → MadeUp f t → allowed f n t 0x800 ≡ true
-  pub made_up_alone : (f : Format) → IsFormat f → (n t x : ℕ) → MadeUp f t → allowed f n t x ≡ true → x ≡ 0x800
   pub blank_row_is : (f : Format) → IsFormat f → (m w : ℕ) → m ≡ samples_in (shape_of f) → Blank f w → blank_row f ≡ replicate m w
   -- the words of each stream: FFF 000 000, then XYZ of a SAV, 800 on lines 42 to 1121 and AB0 on any other,
   pub sav_words :
@@ -134,12 +96,9 @@ pub record SpanPaper : Type 0 where
       → (word_of f a 0 t ≡ 0xFFF) × (word_of f a 1 t ≡ 0x000) × (word_of f a 2 t ≡ 0x000)
   pub sav_active : (f : Format) (a : Request) (t : ℕ) → t < streams (shape_of f) → Active a.line → word_of f a 3 t ≡ 0x800
   pub sav_blanking : (f : Format) (a : Request) (t : ℕ) → t < streams (shape_of f) → (Active a.line → ⊥) → word_of f a 3 t ≡ 0xAB0
-  -- the picture: a ten-bit sample shifted by two, a twelve-bit one as it is; on a blanking line, and on a made-up stream, the word as it was
-  -- given,
+  -- the picture: a ten-bit sample shifted by two, a twelve-bit one as it is, and on a blanking line the word as it was given,
   pub picture_ten :
       (f : Format) (a : Request) (t i x : ℕ)
-      → IsFormat f
-      → (MadeUp f t → ⊥)
       → t < streams (shape_of f)
       → i < 1920
       → get_or a.samples (1920 * t + i) 0 ≡ x
@@ -149,8 +108,6 @@ pub record SpanPaper : Type 0 where
       → word_of f a (4 + i) t ≡ 4 * x
   pub picture_twelve :
       (f : Format) (a : Request) (t i x : ℕ)
-      → IsFormat f
-      → (MadeUp f t → ⊥)
       → t < streams (shape_of f)
       → i < 1920
       → get_or a.samples (1920 * t + i) 0 ≡ x
@@ -164,14 +121,6 @@ pub record SpanPaper : Type 0 where
       → i < 1920
       → get_or a.samples (1920 * t + i) 0 ≡ x
       → (Active a.line → ⊥)
-      → word_of f a (4 + i) t ≡ x
-  pub picture_made_up :
-      (f : Format) (a : Request) (t i x : ℕ)
-      → IsFormat f
-      → MadeUp f t
-      → t < streams (shape_of f)
-      → i < 1920
-      → get_or a.samples (1920 * t + i) 0 ≡ x
       → word_of f a (4 + i) t ≡ x
   -- FFF 000 000, then XYZ of an EAV, with V of the line after: 9D0 or B60,
   pub eav_words :

@@ -1,6 +1,6 @@
 // The words sent where there is no picture, and a row of them for the choice of row (document 01, "Sending").
 ghost use Rattle.std.specs.Prelude.{◌≡◌};
-ghost use Rattle.span.specs.Sample.{blank_word, made_up_word};
+ghost use Rattle.span.specs.Sample.{blank_word};
 ghost use Rattle.span.specs.Span.{fill_word};
 ghost use Rattle.span.specs.Blanking.{paper_filled, fill_of, filled_row};
 
@@ -23,13 +23,6 @@ pub fn blank_word(f: Format) -> u16
         return 0x800;
     }
     0x100
-}
-
-// The word of a made-up stream (004, 7.2.3 and 7.2.4), at both depths.
-pub fn made_up_word() -> u16
-    ensures { result ≡ made_up_word }
-{
-    0x800
 }
 
 // The fill word (004, 7.1), whatever the link carries.

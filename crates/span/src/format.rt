@@ -1,6 +1,6 @@
 // Formats as the caller wrote them, and what the known ones mean (document 01, "A span").
 ghost use Rattle.std.specs.Prelude.{◌≡◌};
-ghost use Rattle.span.specs.Format.{format_from, plain_format, is_depth, first_component, is_known as known, is_difference, sampling_of, shape_of};
+ghost use Rattle.span.specs.Format.{format_from, plain_format, is_depth, is_known as known, is_difference, shape_of};
 
 // What both ends of a link have agreed on, as the caller wrote it. Any numbers may stand here: the calls that take a format refuse an unknown
 // one. 0 is unknown in every field, so that one which was forgotten is refused and not guessed.
@@ -12,7 +12,7 @@ pub struct Format {
     depth: u8,
     // What the link carries: 1 G', 2 B', 3 R', 4 Y', 5 C'B, 6 C'R.
     component: u8,
-    // 1 4:4:4, 2 4:2:2, 3 4:2:0.
+    // 1: 4:4:4.
     structure: u8,
     // 1: 4K.
     size: u8,
@@ -55,25 +55,14 @@ fn is_depth(depth: u8) -> bool
     depth == 12
 }
 
-// The first component of a structure: 4:2:2 and 4:2:0 lack G', B' and R' (004, table 2).
-fn first_component(structure: u8) -> u16
-    ensures { result ≡ first_component structure }
-{
-    if structure == 1 {
-        return 1;
-    }
-    4
-}
-
 // Whether there is such a format.
 pub fn is_known(f: Format) -> bool
     ensures { result ≡ known f }
 {
     if ground::range::within(1, 3, f.number as u16) {
         if is_depth(f.depth) {
-            if ground::range::within(1, 3, f.structure as u16) {
-                let first = first_component(f.structure);
-                if ground::range::within(first, 6, f.component as u16) {
+            if ground::range::within(1, 6, f.component as u16) {
+                if f.structure == 1 {
                     return f.size == 1;
                 }
             }
@@ -94,16 +83,6 @@ pub fn is_difference(f: Format) -> bool
     ensures { result ≡ is_difference f }
 {
     ground::range::within(5, 6, f.component as u16)
-}
-
-// How its component is sampled: by the structure where it is a colour difference, else as in 4:4:4 (004, 5.1.3).
-pub fn sampling_of(f: Format) -> u8
-    ensures { result ≡ sampling_of f }
-{
-    if is_difference(f) {
-        return f.structure;
-    }
-    1
 }
 
 // The shape of a format; all zeros if it is unknown.

@@ -4,7 +4,6 @@ pub mod blanking;
 pub mod content;
 pub mod fit;
 pub mod format;
-pub mod image;
 pub mod layout;
 pub mod length;
 pub mod sample;

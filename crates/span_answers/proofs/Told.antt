@@ -104,4 +104,3 @@ read_told = through read_answer_of read_back back read_one_to_one
     back (Read.WrongCrcc place) = refl
     back (Read.WrongSample place) = refl
     back (Read.WrongFill place) = refl
-    back (Read.WrongMadeUp place) = refl

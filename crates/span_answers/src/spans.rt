@@ -217,6 +217,5 @@ pub fn read_answer(r: Read) -> ReadAnswer
         Read::WrongCrcc(place) => read_refused(24, place),
         Read::WrongSample(place) => read_refused(25, place),
         Read::WrongFill(place) => read_refused(26, place),
-        Read::WrongMadeUp(place) => read_refused(27, place),
     }
 }

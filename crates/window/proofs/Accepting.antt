@@ -16,7 +16,7 @@ use Rattle.span.specs.Format.{shape_of, streams, pairs_in, symbols_in}
 use Rattle.window.specs.declared.delivery.Delivery.{Delivery}
 use Rattle.window.specs.Read.{placed, word_tests, span_tests, delivery_of, read_span}
 use Rattle.window.specs.Scan.{holds20}
-use Rattle.window.specs.Tests.{holds21, holds22, holds23, holds24, holds25, holds26, holds27}
+use Rattle.window.specs.Tests.{holds21, holds22, holds23, holds24, holds25, holds26}
 use Rattle.window.specs.Words.{word_at}
 use Rattle.window.specs.Inside.Encoded.{Passes}
 
@@ -92,11 +92,10 @@ module _ (f : Format) (w : List ℕ) where
               crcc = all_hold n (placed s (holds24 s word)) (passed 4);
               picture = all_hold n (placed s (holds25 s word f)) (passed 5);
               fill = all_hold n (placed s (holds26 s word f)) (passed 6);
-              made_up = all_hold n (placed s (holds27 s word f)) (passed 7);
             };
       }
 
--- words that meet tests 21 to 27 pass them
+-- words that meet tests 21 to 26 pass them
 pub passes_given : {A : Type 0} (f : Format) (word : ℕ → ℕ) → Passes f word → (a : A) → checked (word_tests f word) a ≡ given a
 passes_given f word m a =
     let s = streams (shape_of f) in
@@ -107,8 +106,7 @@ passes_given f word m a =
     (on 2 (none_fails n (placed s (holds23 s word)) m.v)
     (on 3 (none_fails n (placed s (holds24 s word)) m.crcc)
     (on 4 (none_fails n (placed s (holds25 s word f)) m.picture)
-    (on 5 (none_fails n (placed s (holds26 s word f)) m.fill)
-    (on 6 (none_fails n (placed s (holds27 s word f)) m.made_up) refl))))))
+    (on 5 (none_fails n (placed s (holds26 s word f)) m.fill) refl)))))
 
 module _ (f : Format) (w : List ℕ) where
   pub is_accepted : Accepted f w → read_span f w ≡ given (delivery_of f w)

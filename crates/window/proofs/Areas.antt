@@ -1,8 +1,8 @@
 -- Which words each test judges, in the paper's own numbers: at every other word it holds. So no word of the ancillary area is judged, and
--- no picture word of a blanking line but those of made-up streams.
+-- no picture word of a blanking line.
 -- Assumes nothing.
 use mathlib.Core.Path.{◌≡◌, refl, ap}
-use mathlib.Core.Bool.{Bool, true, false, cond, ◌&&◌, true≢false}
+use mathlib.Core.Bool.{Bool, true, false, cond, true≢false}
 use mathlib.Core.Logic.{◌⊎◌, inl, inr, ⊎_elim}
 use mathlib.Core.Option.{none}
 use Prim.Native.Nat.{ℕ, ◌+◌, ◌-◌, ◌≤◌, ◌<◌}
@@ -11,16 +11,12 @@ use borrow.Author.Tests.{eq-eqb, eqb-true, ltb-true, ltb-false}
 use Rattle.ground.specs.Range.{within}
 use Rattle.ground.specs.Search.{is_some}
 use Rattle.ground.proofs.Ranges.{from_low, to_high}
-use Rattle.ground.proofs.Tests.{both_left, both_right}
 use Rattle.line.specs.Stream.{is_active}
 use Rattle.span.specs.declared.format.Format.{Format}
 use Rattle.span.specs.Format.{shape_of}
-use Rattle.span.specs.Image.{made_up}
-use Rattle.span.specs.Numbers.{IsFormat, MadeUp}
-use Rattle.span.proofs.Images.{made_up_is}
 use Rattle.span.specs.Layout.{picture_start, eav_start, line_start, crcc_start, ancillary_start, eav_xyz}
 use Rattle.word.specs.LineNumber.{line_of}
-use Rattle.window.specs.Tests.{word_of, holds21, line_read, holds22, holds23, holds24, holds25, holds26, holds27}
+use Rattle.window.specs.Tests.{word_of, holds21, line_read, holds22, holds23, holds24, holds25, holds26}
 
 -- a test that asks under a condition alone does not hold only there
 asked : (c x : Bool) → cond c x true ≡ false → c ≡ true
@@ -79,15 +75,6 @@ module _ (s : ℕ) (word : ℕ → ℕ) (j t : ℕ) where
   judged_26 f e =
       let ahead = ltb j (ancillary_start + (shape_of f).ancillary) in
       ltb-false _ _ (unless ahead _ e)
-
-  -- the picture of made-up streams
-  pub judged_27 : (f : Format) → IsFormat f → holds27 s word f j t ≡ false → (picture_start ≤ j) × (j ≤ 1923) × MadeUp f t
-  unfolding holds27
-  judged_27 f known e =
-      let there = within picture_start (eav_start - 1) j in
-      let c = asked (there && made_up f t) _ e in
-      let on = both_left there (made_up f t) c in
-      (from_low _ _ _ on, to_high _ _ _ on, (made_up_is f known t).told (both_right there (made_up f t) c))
 
 -- whether stream 1 names a line is asked at its LN0, and not at its LN1
 module _ (s : ℕ) (word : ℕ → ℕ) where

@@ -90,7 +90,7 @@ module _ (f : Format) (w entry : List ℕ) where
       rows_after_4 x = left (refused 4 0) (read_meets_4 f w (length entry) known long x)
 
       module _ (room : Samples f (length entry)) where
-        -- one that meets 20 to 27 leaves nothing in them
+        -- one that meets 20 to 26 leaves nothing in them
         pub rows_after_refusal : {number place : ℕ} → read_span f w ≡ refused number place → rows_read f w entry ≡ replicate (length entry) 0
         rows_after_refusal {number} {place} e =
             let from : 20 ≤ number = (numbers f w number place e).0 in

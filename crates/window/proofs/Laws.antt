@@ -7,14 +7,14 @@ use Rattle.window.specs.Laws.{WindowRefusals, WindowRules, WindowLaws}
 use Rattle.span.proofs.Formats.{is_known_lem}
 use Rattle.span.proofs.Numbers.{symbols_are}
 use Rattle.window.proofs.Accepting.{accepted_told, delivers}
-use Rattle.window.proofs.Areas.{judged_21, judged_22, judged_23, judged_24, judged_25, judged_26, judged_27, nameless, asked_once}
+use Rattle.window.proofs.Areas.{judged_21, judged_22, judged_23, judged_24, judged_25, judged_26, nameless, asked_once}
 use Rattle.window.proofs.Calls.{judge_meets_1, judge_meets_3, judged, read_as_judged, rows_after_1, rows_after_3, rows_after_4, rows_after_refusal, rows_delivered}
 use Rattle.window.proofs.Exact.{encoded_again}
 use Rattle.window.proofs.Inverted.{inverted_is_refused}
 use Rattle.window.proofs.Nearest.{other_h}
-use Rattle.window.proofs.Refusals.{meets_20, meets_21, meets_22, meets_23, meets_24, meets_25, meets_26, meets_27, numbers}
+use Rattle.window.proofs.Refusals.{meets_20, meets_21, meets_22, meets_23, meets_24, meets_25, meets_26, numbers}
 use Rattle.window.proofs.RoundTrip.{sent_meets}
-use Rattle.window.proofs.Rules.{says_21, says_22, says_23, says_24, says_25, says_26, says_27}
+use Rattle.window.proofs.Rules.{says_21, says_22, says_23, says_24, says_25, says_26}
 use Rattle.window.proofs.Scanning.{holds_before, says_20, rule_before}
 use Rattle.window.proofs.SentAgain.{sendable_again, sent_again_lem}
 use Rattle.window.proofs.Specials.{k28_5_at, only_k28_5, k29_7_at, only_k29_7}
@@ -37,7 +37,6 @@ window_refusals = record {
   meets24 = meets_24;
   meets25 = meets_25;
   meets26 = meets_26;
-  meets27 = meets_27;
   numbers = numbers;
   judged21 = judged_21;
   judged22 = judged_22;
@@ -47,7 +46,6 @@ window_refusals = record {
   judged24 = judged_24;
   judged25 = judged_25;
   judged26 = judged_26;
-  judged27 = judged_27;
   other_h = other_h;
 }
 
@@ -62,7 +60,6 @@ window_rules = record {
   crcc = λ f word known. says_24 f (is_known_lem f known) word;
   picture = λ f word known. says_25 f (is_known_lem f known) word;
   fill = λ f word known. says_26 f (is_known_lem f known) word;
-  made_up = λ f word known. says_27 f (is_known_lem f known) word;
 }
 
 pub window_laws : WindowLaws

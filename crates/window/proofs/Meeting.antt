@@ -1,4 +1,4 @@
--- What words are that meet tests 21 to 27, one test after the other, at word j of stream t.
+-- What words are that meet tests 21 to 26, one test after the other, at word j of stream t.
 -- Assumes nothing.
 use mathlib.Core.Path.{◌≡◌, sym, ap, ◌∙◌}
 use mathlib.Core.Bool.{Bool, true, false}
@@ -18,8 +18,6 @@ use Rattle.line.proofs.Lines.{after_before}
 use Rattle.span.specs.declared.format.Format.{Format}
 use Rattle.span.specs.Format.{shape_of, streams, pairs_in}
 use Rattle.span.specs.Span.{fill_word}
-use Rattle.span.specs.Image.{made_up}
-use Rattle.span.specs.Sample.{made_up_word}
 use Rattle.span.specs.Layout.{picture_start, eav_start, line_start, crcc_start, ancillary_start, sav_xyz, eav_xyz}
 use Rattle.crcc.specs.Crcc.{crcc_words}
 use Rattle.word.specs.LineNumber.{ln0, ln1, are_words_of, line_of}
@@ -27,7 +25,7 @@ use Rattle.word.specs.Repair.{distance, nearest}
 use Rattle.word.specs.Timing.{timing}
 use Rattle.word.proofs.LineNumbers.{named_is_line, named_ln0, named_ln1}
 use Rattle.window.specs.Read.{placed}
-use Rattle.window.specs.Tests.{same, may_bring, sum_of, word_of, holds21, next_line, line_read, holds22, holds23, register_of, holds24, holds25, holds26, holds27, repair_count}
+use Rattle.window.specs.Tests.{same, may_bring, sum_of, word_of, holds21, next_line, line_read, holds22, holds23, register_of, holds24, holds25, holds26, repair_count}
 use Rattle.word.specs.Received.{has_h, repaired, v_in, wrong_bits}
 use Rattle.window.specs.Inside.Encoded.{Passes}
 use Rattle.window.proofs.Nearest.{same_told, near_read, repaired_is, whole_timing}
@@ -110,7 +108,7 @@ module _ (f : Format) (word : ℕ → ℕ) (m : Passes f word) (l : 0 < streams 
       rw (place_again s l k)
       at (eqb-true (word (s * (k / s) + k % s)) fill_word (rw (le-ltb (k / s) (ancillary_start + (shape_of f).ancillary) past) at (m.fill k h)))
 
--- ---- 22 to 25 and 27 at stream t
+-- ---- 22 to 25 at stream t
 
 module _ (f : Format) (word : ℕ → ℕ) (m : Passes f word) (t : ℕ) (l : t < streams (shape_of f)) where
   abbrev s : ℕ
@@ -202,11 +200,3 @@ module _ (f : Format) (word : ℕ → ℕ) (m : Passes f word) (t : ℕ) (l : t 
   picture_told i h =
       rw (is_within picture_start (eav_start - 1) (picture_start + i) (omega arith) (omega arith))
       at (held f t l (holds25 s word f) m.picture (picture_start + i) (omega arith))
-
-  -- and 800 where the stream is made up
-  pub made_up_told : made_up f t ≡ true → (i : ℕ) → i < 1920 → at (picture_start + i) ≡ made_up_word
-  unfolding holds27
-  made_up_told up i h =
-      eqb-true (at (picture_start + i)) made_up_word
-      (rw (is_within picture_start (eav_start - 1) (picture_start + i) (omega arith) (omega arith), up)
-      at (held f t l (holds27 s word f) m.made_up (picture_start + i) (omega arith)))

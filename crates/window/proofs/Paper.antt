@@ -1,18 +1,13 @@
 -- Reading a span in document 01's own numbers, proved: each field cites the law that says it.
 -- Assumes nothing.
-use mathlib.Core.Path.{◌≡◌, refl, sym, ap, fun_ext, ◌∙◌, subst}
-use mathlib.Core.Bool.{Bool, true, cond, ◌&&◌}
-use mathlib.Core.List.{List, [], ◌∷◌, ◌++◌}
-use lib.Dec.{eqb}
-use lib.ListN.{length, get_or, take}
-use Prim.Native.Nat.{ℕ, ◌+◌, ◌*◌, ◌/◌, ◌%◌, ◌<◌}
+use mathlib.Core.Path.{◌≡◌, refl, sym, ap, ◌∙◌, subst}
+use mathlib.Core.List.{List}
+use lib.ListN.{length}
+use Prim.Native.Nat.{ℕ, ◌+◌}
 use Rattle.line.specs.Stream.{line_before}
 use Rattle.span.specs.declared.format.Format.{Format}
-use Rattle.span.specs.Format.{format_from, shape_of, streams, pairs_in}
-use Rattle.span.specs.Image.{made_up}
-use Rattle.span.specs.Numbers.{IsFormat, MadeUp}
-use Rattle.span.specs.Sample.{made_up_word}
-use Rattle.span.proofs.Images.{made_up_is}
+use Rattle.span.specs.Format.{format_from, shape_of, streams}
+use Rattle.span.specs.Numbers.{IsFormat}
 use Rattle.window.proofs.Accepting.{accepted_told, delivers}
 use native.Mathlib.Omega.{arith}
 use Rattle.span.proofs.Lengths.{known_has_streams}
@@ -20,19 +15,17 @@ use Rattle.window.proofs.Disturbing.{one_other}
 use Rattle.window.proofs.Encoded.{fixed_bytes}
 use Rattle.window.proofs.Exact.{exact_read, exact_word, exact_only_if}
 use Rattle.window.proofs.Line.{line_answered, all_streams, recital}
-use Rattle.window.proofs.Meeting.{made_up_told}
 use Rattle.window.proofs.Nearest.{near_legal}
 use Rattle.window.proofs.Rules.{follows_before, some_line}
-use Rattle.window.proofs.SentAgain.{strict, picture_at}
+use Rattle.window.proofs.SentAgain.{strict}
 use Rattle.window.proofs.Sums.{bits_add_up}
 use Rattle.window.proofs.TimingWords.{two_wrong}
-use Rattle.ground.specs.Answer.{given, checked}
-use Rattle.ground.specs.Range.{within}
+use Rattle.ground.specs.Answer.{given}
 use Rattle.word.specs.LineNumber.{ln0, ln1}
 use Rattle.word.specs.Word.{guarded}
 use Rattle.window.specs.declared.delivery.Delivery.{Delivery}
-use Rattle.window.specs.Read.{lowest, placed, span_tests, delivery_of, picture_of, read_span}
-use Rattle.window.specs.Tests.{sum_of, holds25, holds26, holds27}
+use Rattle.window.specs.Read.{delivery_of, picture_of, read_span}
+use Rattle.window.specs.Tests.{sum_of, holds25, holds26}
 use Rattle.window.specs.Words.{word_at}
 use Rattle.window.specs.Rules.{Names, Follows}
 use Rattle.window.specs.Paper.{word_of_window, WindowPaper}
@@ -61,27 +54,13 @@ not_800 : (f : Format) (w : List ℕ) (r : Delivery) → IsFormat f → read_spa
 unfolding ln0 ln1 guarded
 not_800 f w r k e = recital f w (is_known_lem f k) (accepted_told f w r e)
 
--- a made-up row that is read
-made_up_row_lem : (f : Format) (w : List ℕ) (r : Delivery) → IsFormat f → read_span f w ≡ given r → (t i : ℕ) → MadeUp f t → t < streams (shape_of f) → i < 1920
-    → get_or (picture_of f w) (1920 * t + i) 0 ≡ 0x800
-made_up_row_lem f w r k e t i up l h =
-    let q : (1920 * t + i) / 1920 ≡ t = omega arith in
-    let p : (1920 * t + i) % 1920 ≡ i = omega arith in
-    picture_at f w (1920 * t + i) (omega arith)
-    ∙ rw (q, p) (made_up_told f (word_at (shape_of f) w) (accepted_told f w r e).words t l ((made_up_is f k t).holds up) i h)
-
--- of a format the reader asks its shape, its depth, and which streams are made up
-module _ (number depth size c e structure other : ℕ) (w : List ℕ) where
-  abbrev f : Format
-  f = format_from number depth c structure size
-
-  abbrev g : Format
-  g = format_from number depth e other size
-
-  only_made_up : ((t : ℕ) → made_up f t ≡ made_up g t) → (read_span f w ≡ read_span g w) × (picture_of f w ≡ picture_of g w)
-  unfolding read_span picture_of shape_of holds25 holds26 holds27 delivery_of
-  only_made_up same =
-      (ap (λ (up : ℕ → Bool). checked (take 7 (span_tests f w) ++ (lowest 27 (2 * pairs_in (shape_of f)) (placed (streams (shape_of f)) (λ j t. cond (within 4 1923 j && up t) (eqb (word_of_window f w j t) made_up_word) true)) ∷ [])) (delivery_of f w)) (fun_ext same), refl)
+-- of a format the reader asks its shape and its depth alone
+component_unread : (number depth structure size c e : ℕ) (w : List ℕ)
+    → let f = format_from number depth c structure size in
+    let g = format_from number depth e structure size in
+    (read_span f w ≡ read_span g w) × (picture_of f w ≡ picture_of g w)
+unfolding read_span picture_of shape_of holds25 holds26 delivery_of
+component_unread number depth structure size c e w = (refl, refl)
 
 pub window_paper : WindowPaper
 window_paper = record {
@@ -102,6 +81,5 @@ window_paper = record {
   bits_in_order = λ at. (refl, refl, refl, refl, refl, refl, refl, refl, refl, refl, refl, refl);
   add_up = add_up;
   strict = λ f w r k e. strict f w (is_known_lem f k) r e;
-  made_up_rows = made_up_row_lem;
-  only_made_up = only_made_up;
+  component_unread = component_unread;
 }

@@ -1,4 +1,4 @@
--- Which test a window meets: the first of 20 to 27, in this order, that does not hold everywhere, at the lowest place at which it does not.
+-- Which test a window meets: the first of 20 to 26, in this order, that does not hold everywhere, at the lowest place at which it does not.
 -- Assumes nothing.
 use mathlib.Core.Path.{◌≡◌, refl}
 use mathlib.Core.Bool.{Bool, not}
@@ -16,7 +16,7 @@ use Rattle.window.specs.declared.delivery.Delivery.{Delivery}
 use Rattle.window.specs.Laws.{Holds, Fails}
 use Rattle.window.specs.Read.{placed, word_tests, span_tests, delivery_of, read_span}
 use Rattle.window.specs.Scan.{holds20}
-use Rattle.window.specs.Tests.{holds21, holds22, holds23, holds24, holds25, holds26, holds27}
+use Rattle.window.specs.Tests.{holds21, holds22, holds23, holds24, holds25, holds26}
 use Rattle.window.specs.Words.{word_at}
 use Rattle.window.proofs.Accepting.{none_fails, fails_at, nothing, passes, meets}
 
@@ -45,7 +45,7 @@ module _ (f : Format) (w : List ℕ) where
   abbrev word : ℕ → ℕ
   word = word_at p w
 
-  -- tests 21 to 27, and what is answered where all hold
+  -- tests 21 to 26, and what is answered where all hold
   abbrev rows : List Row
   rows = word_tests f word
 
@@ -113,15 +113,8 @@ module _ (f : Format) (w : List ℕ) where
               pub meets_26 : (k : ℕ) → Met (holds26 s word f) k → read_span f w ≡ refused 26 k
               meets_26 k x = past_25 (refused 26 k) (meets rows answer 5 k (met (holds26 s word f) k x))
 
-              module _ (fill : Held (holds26 s word f)) where
-                past_26 : (r : Answer Delivery) → checked (drop 6 rows) answer ≡ r → read_span f w ≡ r
-                past_26 r e = past_25 r (passes rows answer r 5 (held (holds26 s word f) fill) e)
-
-                pub meets_27 : (k : ℕ) → Met (holds27 s word f) k → read_span f w ≡ refused 27 k
-                meets_27 k x = past_26 (refused 27 k) (meets rows answer 6 k (met (holds27 s word f) k x))
-
   -- there are no other numbers
-  numbered : (i : ℕ) → i < 8 → (get_or (span_tests f w) i nothing).number ≡ 20 + i
+  numbered : (i : ℕ) → i < 7 → (get_or (span_tests f w) i nothing).number ≡ 20 + i
   numbered zero h = refl
   numbered (suc zero) h = refl
   numbered (suc (suc zero)) h = refl
@@ -129,10 +122,9 @@ module _ (f : Format) (w : List ℕ) where
   numbered (suc (suc (suc (suc zero)))) h = refl
   numbered (suc (suc (suc (suc (suc zero))))) h = refl
   numbered (suc (suc (suc (suc (suc (suc zero)))))) h = refl
-  numbered (suc (suc (suc (suc (suc (suc (suc zero))))))) h = refl
-  numbered (suc (suc (suc (suc (suc (suc (suc (suc i)))))))) h = absurd (omega arith)
+  numbered (suc (suc (suc (suc (suc (suc (suc i))))))) h = absurd (omega arith)
 
-  pub numbers : (number place : ℕ) → read_span f w ≡ refused number place → (20 ≤ number) × (number ≤ 27)
+  pub numbers : (number place : ℕ) → read_span f w ≡ refused number place → (20 ≤ number) × (number ≤ 26)
   unfolding read_span
   numbers number place e =
       let (i, l, q) = row_met (span_tests f w) answer number place e in

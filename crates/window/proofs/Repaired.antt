@@ -1,4 +1,4 @@
--- Words of a span that is sent, apart from its XYZ: with at most one wrong bit in each of these they meet tests 21 to 27, name the line and
+-- Words of a span that is sent, apart from its XYZ: with at most one wrong bit in each of these they meet tests 21 to 26, name the line and
 -- bring the picture.
 -- Assumes nothing.
 use mathlib.Core.Path.{◌≡◌, refl, sym, ap, ap₂, ◌∙◌}
@@ -26,22 +26,21 @@ use Rattle.word.specs.Timing.{timing}
 use Rattle.word.proofs.LineNumbers.{line_again}
 use Rattle.span.specs.declared.format.Format.{Format}
 use Rattle.span.specs.Format.{shape_of, streams, pairs_in}
-use Rattle.span.specs.Image.{made_up}
-use Rattle.span.specs.Sample.{made_up_word, sample_word}
+use Rattle.span.specs.Sample.{sample_word}
 use Rattle.span.specs.Span.{span_words, fill_word}
 use Rattle.span.specs.Stream.{Request, picture, register}
 use Rattle.span.specs.Layout.{picture_start, eav_start, line_start, crcc_start, ancillary_start, sav_xyz, eav_xyz}
 use Rattle.span.proofs.Lengths.{known_has_streams}
 use Rattle.span.proofs.Places.{word_at as sentAt, fill_word_lem, sav_words, picture_word_lem, eav_words, line_number_words, crcc_words_lem}
 use Rattle.window.specs.Encoded.{word_in, IsXyz, Disturbed, wrong_at, wrong_bit_at}
-use Rattle.window.specs.Tests.{over_xyz, column, holds21, named, next_line, line_read, holds22, holds23, register_of, holds24, holds25, holds26, holds27, repair_count, repairs_at, rows}
+use Rattle.window.specs.Tests.{over_xyz, column, holds21, named, next_line, line_read, holds22, holds23, register_of, holds24, holds25, holds26, repair_count, repairs_at, rows}
 use Rattle.word.specs.Received.{repaired, v_in}
 use Rattle.window.specs.Inside.Encoded.{Restored, Passes, Sendable}
 use Rattle.window.proofs.Encoded.{restored_words}
 use Rattle.window.proofs.Nearest.{same_test, near_h, near_v, near_repaired}
 use Rattle.window.proofs.Placing.{word_of_place, at_place, in_span, four, each_place, each_of_two}
 use Rattle.window.proofs.Sums.{over_same}
-use Rattle.window.proofs.Sent.{may_bring_lem, made_up_sent, picture_column, register_is}
+use Rattle.window.proofs.Sent.{may_bring_lem, picture_column, register_is}
 
 -- ---- test 21, word by word
 
@@ -207,7 +206,7 @@ module _ (f : Format) (a : Request) (good : Sendable f a) (words : List ℕ) (di
     unfolding repairs_at
     near_repairs_at b = repairs_by (differs_at b)
 
-    -- ---- tests 22 to 27
+    -- ---- tests 22 to 26
     module _ (t : ℕ) (l : t < s) where
       -- 22: every stream has the words of stream 1
       same_ln0 : holds22 s word line_start t ≡ true
@@ -291,21 +290,6 @@ module _ (f : Format) (a : Request) (good : Sendable f a) (words : List ℕ) (di
           ∙ ap (λ (k : ℕ). get_or (span_words f a) k 0) e ∙ fill_word_lem f a i (omega arith) in
           simp (u, eq-eqb (word (s * j + t)) fill_word filled))
 
-      -- 27: made-up streams
-      made_up_holds : (j : ℕ) → holds27 s word f j t ≡ true
-      unfolding holds27
-      made_up_holds j =
-          on_test (within picture_start (eav_start - 1) j)
-          (λ u.
-          on_test (made_up f t)
-          (λ up.
-          let i = j - 4 in
-          let e : j ≡ 4 + i = omega (arith, from_low _ _ _ u) in
-          let h : i < 1920 = omega (arith, to_high _ _ _ u) in
-          simp (u, up, eq-eqb (word (s * j + t)) made_up_word (ap (λ (k : ℕ). word (s * k + t)) e ∙ is_picture t l i h ∙ made_up_sent f a good t i l h up)))
-          (λ up. simp (u, up)))
-          (λ u. simp u)
-
     -- all tests of the words hold
     pub near_passes : Passes f word
     near_passes =
@@ -318,5 +302,4 @@ module _ (f : Format) (a : Request) (good : Sendable f a) (words : List ℕ) (di
           crcc = at_place s has_streams n (holds24 s word) (λ j t l h. crcc_holds t l j);
           picture = at_place s has_streams n (holds25 s word f) (λ j t l h. picture_holds t l j);
           fill = at_place s has_streams n (holds26 s word f) (λ j t l h. fill_holds t l j h);
-          made_up = at_place s has_streams n (holds27 s word f) (λ j t l h. made_up_holds t l j);
         }

@@ -59,7 +59,7 @@ module _ (f : Format) (a : Request) where
   as_sent : Sendable f a → Disturbed f a words
   as_sent good = record { long = length_words f a; small = λ k _. sent_twelve_bits f a good k; same = λ k h x y. refl }
 
-  -- a span that is sent meets rules 21 to 27
+  -- a span that is sent meets rules 21 to 26
   pub sent_meets : Sendable f a → Meets f (word_in words)
   sent_meets good =
       passes_meets f good.known (word_in words) (near_passes f a good words (as_sent good) (λ k h x. omega (arith, right_at k)))

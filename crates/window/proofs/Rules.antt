@@ -1,4 +1,4 @@
--- Tests 21 to 27 are the papers' rules (specs/Rules): each holds where its rule is met, and nowhere else.
+-- Tests 21 to 26 are document 01's rules (specs/Rules): each holds where its rule is met, and nowhere else.
 -- Assumes nothing.
 use mathlib.Core.Path.{◌≡◌, refl, sym, ap, ap₂, ◌∙◌}
 use mathlib.Core.Bool.{Bool, true, false, not, cond, ◌&&◌}
@@ -26,19 +26,16 @@ use Rattle.word.proofs.LineNumbers.{named_is_line, named_ln0, named_ln1, line_ag
 use Rattle.crcc.specs.Crcc.{crc, crcc_words}
 use Rattle.span.specs.declared.format.Format.{Format}
 use Rattle.span.specs.Format.{is_known, numbered, shape_of, streams}
-use Rattle.span.specs.Image.{made_up}
-use Rattle.span.specs.Numbers.{IsFormat, Ancillary}
-use Rattle.span.specs.Sample.{made_up_word}
+use Rattle.span.specs.Numbers.{Ancillary}
 use Rattle.span.specs.Span.{fill_word}
 use Rattle.span.proofs.Formats.{known_told}
-use Rattle.span.proofs.Images.{made_up_is}
 use Rattle.span.proofs.Numbers.{is_of_lem, of_is}
 use Rattle.span.proofs.Lengths.{known_has_streams}
 use Rattle.window.specs.Encoded.{Everywhere, words_of, Meets}
 use Rattle.window.specs.Read.{placed}
-use Rattle.window.specs.Rules.{Near, Rule21, Names, Follows, Rule22, FitsLine, Rule23, covered, IsEav, Rule24, Rule25, Rule26, Rule27}
+use Rattle.window.specs.Rules.{Near, Rule21, Names, Follows, Rule22, FitsLine, Rule23, covered, IsEav, Rule24, Rule25, Rule26}
 use Rattle.ground.specs.Inside.Test.{Reflects}
-use Rattle.window.specs.Tests.{same, word_of, column, holds21, next_line, line_read, holds22, holds23, register_of, holds24, holds25, holds26, holds27}
+use Rattle.window.specs.Tests.{same, word_of, column, holds21, next_line, line_read, holds22, holds23, register_of, holds24, holds25, holds26}
 use Rattle.window.specs.Inside.Encoded.{Passes}
 use Rattle.window.proofs.Meeting.{line_named}
 use Rattle.window.proofs.Nearest.{same_test, same_told, near_h, near_v, near_repaired, near_read}
@@ -310,7 +307,7 @@ module _ (s : ℕ) (word : ℕ → ℕ) where
         (λ r. eq-eqb (at 1931 t) (crcc_words (register_of s word t)).crcc1 (r.crcc1 x near refl ∙ ap (λ (r : ℕ). (crcc_words r).crcc1) over))
         (λ j x y r. simp (ne_eqb j 1930 x, ne_eqb j 1931 y))
 
-    -- 25, 26 and 27, of a format
+    -- 25 and 26, of a format
     module _ (f : Format) (j : ℕ) where
       abbrev in_range : Bool
       in_range = within 16 4079 (at j t)
@@ -376,28 +373,6 @@ module _ (s : ℕ) (word : ℕ → ℕ) where
           let is : Ancillary f a = let k = known_told f known in of_is (λ n. (numbered n).ancillary) f.number a k.from k.to refl in
           on_test (ltb j (1932 + a)) (λ u. simp u) (λ u. simp (u, eq-eqb (at j t) fill_word (r.fill a is (ltb-false j (1932 + a) u))))
 
-      told_27 : IsFormat f → holds27 s word f j t ≡ true → Rule27 f at j t
-      unfolding holds27
-      told_27 known e =
-          record {
-            made_up =
-                λ up l h.
-                let is : at j t ≡ made_up_word = eqb-true (at j t) made_up_word (rw (is_within 4 1923 j l h, (made_up_is f known t).holds up) at e) in
-                omega arith;
-          }
-
-      holds_27 : IsFormat f → Rule27 f at j t → holds27 s word f j t ≡ true
-      unfolding holds27
-      holds_27 known r =
-          on_test (within 4 1923 j)
-          (λ u.
-          on_test (made_up f t)
-          (λ up.
-          let is = r.made_up ((made_up_is f known t).told up) (from_low 4 1923 j u) (to_high 4 1923 j u) in
-          simp (u, up, eq-eqb (at j t) made_up_word (omega arith)))
-          (λ up. simp (u, up)))
-          (λ u. simp u)
-
 -- ---- at every place of a span
 
 module _ (f : Format) (known : is_known f ≡ true) (word : ℕ → ℕ) where
@@ -413,7 +388,7 @@ module _ (f : Format) (known : is_known f ≡ true) (word : ℕ → ℕ) where
       let place = all (st * j + t) (in_span (shape_of f) j t (omega arith) l) in
       rw (word_of_place st some j t l, stream_of_place st some j t l) at place
 
-  -- 21, 22, 26 and 27
+  -- 21, 22 and 26
   pub says_21 : (k : ℕ) → Reflects (placed st (holds21 st word) k) (Rule21 (words_of f word) (k / st) (k % st))
   says_21 k = record { told = told_21 st word (k % st) (k / st); holds = holds_21 st word (k % st) (k / st) }
 
@@ -422,11 +397,6 @@ module _ (f : Format) (known : is_known f ≡ true) (word : ℕ → ℕ) where
 
   pub says_26 : (k : ℕ) → Reflects (placed st (holds26 st word f) k) (Rule26 f (words_of f word) (k / st) (k % st))
   says_26 k = record { told = told_26 st word (k % st) f (k / st); holds = holds_26 st word (k % st) f (k / st) known }
-
-  pub says_27 : (k : ℕ) → Reflects (placed st (holds27 st word f) k) (Rule27 f (words_of f word) (k / st) (k % st))
-  says_27 k =
-      let is = known_told f known in
-      record { told = told_27 st word (k % st) f (k / st) is; holds = holds_27 st word (k % st) f (k / st) is }
 
   -- where 21 is met, both XYZ of every stream are near words of their H
   module _ (timings : Everywhere f (Rule21 (words_of f word))) where
@@ -477,7 +447,6 @@ module _ (f : Format) (known : is_known f ≡ true) (word : ℕ → ℕ) where
         crcc = λ k h. (says_24 timings k).told (p.crcc k h);
         picture = λ k h. (says_25 numbers k).told (p.picture k h);
         fill = λ k h. (says_26 k).told (p.fill k h);
-        made_up = λ k h. (says_27 k).told (p.made_up k h);
       }
 
   pub meets_passes : Meets f word → Passes f word
@@ -489,5 +458,4 @@ module _ (f : Format) (known : is_known f ≡ true) (word : ℕ → ℕ) where
         crcc = λ k h. (says_24 m.timing k).holds (m.crcc k h);
         picture = λ k h. (says_25 m.line_number k).holds (m.picture k h);
         fill = λ k h. (says_26 k).holds (m.fill k h);
-        made_up = λ k h. (says_27 k).holds (m.made_up k h);
       }

@@ -1,22 +1,20 @@
 -- The words of a span that is sent: each has twelve bits, its picture words may be received, and the register over them is the one sent.
 -- Assumes nothing.
 use mathlib.Core.Path.{◌≡◌, refl, sym, ap, ap₂, ◌∙◌}
-use mathlib.Core.Bool.{Bool, true, false, and-false}
+use mathlib.Core.Bool.{Bool, true, false}
 use mathlib.Core.List.{List, [], ◌∷◌, ◌++◌}
 use mathlib.Core.Logic.{◌⊎◌, inl, inr}
-use Prim.Native.Nat.{ℕ, zero, suc, ◌+◌, ◌*◌, ◌/◌, ◌%◌, ◌<◌}
+use Prim.Native.Nat.{ℕ, zero, suc, ◌+◌, ◌*◌, ◌/◌, ◌<◌}
 use native.Mathlib.Nat.{mul-le-mul_left}
 use native.Mathlib.Omega.{arith}
-use borrow.Author.Tests.{eq-eqb, eqb-true}
 use lib.ListN.{length, get_or, replicate}
 use Rattle.ground.specs.Written.{upto, table}
 use Rattle.ground.proofs.Cases.{on_test}
-use Rattle.ground.proofs.Ranges.{is_within}
 use Rattle.ground.proofs.Writing.{replicate_table, table_same}
 use Rattle.line.specs.Stream.{is_active, v_of, line_after}
 use Rattle.crcc.specs.Crcc.{crc, crcc_words}
 use Rattle.word.specs.LineNumber.{ln0, ln1}
-use Rattle.packing.specs.Sample.{allowed_at_depth as allowed_at, word_at_depth as word_at, allowed_word}
+use Rattle.packing.specs.Sample.{allowed_at_depth as allowedAt, word_at_depth as word_at, allowed_word}
 use Rattle.word.specs.Timing.{timing, timing_code}
 use Rattle.word.proofs.Guards.{guard_below}
 use Rattle.word.proofs.LineNumbers.{ln0_below, ln1_below}
@@ -25,8 +23,7 @@ use Rattle.word.proofs.Timings.{timing_below}
 use Rattle.span.specs.declared.format.Format.{Format}
 use Rattle.span.specs.Format.{shape_of, streams}
 use Rattle.span.specs.Numbers.{IsFormat}
-use Rattle.span.specs.Image.{made_up}
-use Rattle.span.specs.Sample.{blank_word, made_up_word, allowed, sample_word}
+use Rattle.span.specs.Sample.{blank_word, allowed, sample_word}
 use Rattle.span.specs.Span.{across, interleaved, fill_word, words_from_sav, words_from_eav, span_words}
 use Rattle.span.specs.Stream.{Request, sav, picture, eav, line_number, crcc, register, ancillary, from_sav, from_eav}
 use Rattle.span.specs.Layout.{picture_start, eav_start, line_start, eav_xyz}
@@ -87,18 +84,9 @@ pair_twelve x y h l = cons_twelve x (y ∷ []) h (cons_twelve y [] l none_twelve
 -- ---- a span that is sent
 
 -- the word of a sample that may be sent may be received
-received : (depth x : ℕ) → (depth ≡ 10) ⊎ (depth ≡ 12) → allowed_at depth x ≡ true → allowed_word depth (word_at depth x) ≡ true
+received : (depth x : ℕ) → (depth ≡ 10) ⊎ (depth ≡ 12) → allowedAt depth x ≡ true → allowed_word depth (word_at depth x) ≡ true
 received depth x (inl e) ok = rw e (sent_ten x (rw e at ok)).1
 received depth x (inr e) ok = rw e (sent_twelve x (rw e at ok)).1
-
--- on an active line the depth alone says what may be received
-on_active : (f : Format) (n t x : ℕ) → is_active n ≡ true → allowed_word f.depth x ≡ true → may_bring f n t x ≡ true
-on_active f n t x active ok = simp active ok
-
--- 800 may be received at both depths
-800-received : (depth x : ℕ) → (depth ≡ 10) ⊎ (depth ≡ 12) → x ≡ made_up_word → allowed_word depth x ≡ true
-800-received depth x (inl d) e = rw d (simp (is_within 16 4079 x (omega arith) (omega arith)) (eq-eqb (x % 4) 0 (omega arith)))
-800-received depth x (inr d) e = rw d (simp (is_within 16 4079 x (omega arith) (omega arith)))
 
 module _ (f : Format) (a : Request) (good : Sendable f a) where
   abbrev s : ℕ
@@ -149,24 +137,11 @@ module _ (f : Format) (a : Request) (good : Sendable f a) where
       (interleaved_twelve s (8 + (shape_of f).ancillary) (from_eav f a) from_eav_twelve)
       (again_twelve (2 * (shape_of f).fill_pairs) fill_word (omega arith)))
 
-  -- a sample of a made-up stream is sent as it is, and is 800
-  sent_as : (t i : ℕ) → made_up f t ≡ true → sample_word f a.line t (sample t i) ≡ sample t i
-  sent_as t i up = simp (up, and-false (is_active a.line))
-
-  made_up_sample : (t i : ℕ) → t < s → i < 1920 → made_up f t ≡ true → sample t i ≡ made_up_word
-  made_up_sample t i l h up = eqb-true (sample t i) made_up_word (simp up at (may_send t i l h))
-
-  pub made_up_sent : (t i : ℕ) → t < s → i < 1920 → made_up f t ≡ true → sample_word f a.line t (sample t i) ≡ made_up_word
-  made_up_sent t i l h up = sent_as t i up ∙ made_up_sample t i l h up
-
   -- a picture word may be received
   pub may_bring_lem : (t i : ℕ) → t < s → i < 1920 → may_bring f a.line t (sample_word f a.line t (sample t i)) ≡ true
   may_bring_lem t i l h =
       on_test (is_active a.line)
-      (λ active.
-      on_test (made_up f t)
-      (λ up. on_active f a.line t _ active (800-received f.depth _ known.bits (made_up_sent t i l h up)))
-      (λ up. simp (active, up) (received f.depth (sample t i) known.bits (simp (active, up) at (may_send t i l h)))))
+      (λ active. simp active (received f.depth (sample t i) known.bits (simp active at (may_send t i l h))))
       (λ blanking. simp blanking)
 
 -- ---- a stream with the words of a span that is sent

@@ -2,18 +2,18 @@
 -- blanking is sent, it is that span.
 -- Assumes nothing.
 use mathlib.Core.Path.{◌≡◌, sym, ap, ◌∙◌}
-use mathlib.Core.Bool.{true, false, and-false}
-use mathlib.Core.List.{List}
+use mathlib.Core.Bool.{true, false}
+use mathlib.Core.List.{List, map}
 use mathlib.Core.Logic.{inl, inr, ⊎_elim}
 use Prim.Native.Nat.{ℕ, ◌+◌, ◌-◌, ◌*◌, ◌/◌, ◌%◌, ◌≤◌, ◌<◌}
 use native.Mathlib.Nat.{div-lt_iff_lt-mul, le-div_iff_mul-le}
 use native.Mathlib.Omega.{arith}
-use lib.ListN.{length, get_or}
+use lib.ListN.{length, get_or, length-map, get_or-map}
 use borrow.Author.Tests.{eq-eqb}
 use Rattle.ground.specs.Answer.{given}
 use Rattle.ground.specs.Written.{table}
 use Rattle.ground.proofs.Cases.{on_test}
-use Rattle.ground.proofs.Writing.{length_table, get_d_table, is_table, table_same, get_d_upto}
+use Rattle.ground.proofs.Writing.{length_table, get_d_table, is_table, get_d_upto}
 use Rattle.line.specs.Stream.{is_line, is_active}
 use Rattle.line.proofs.Lines.{before_is_line}
 use Rattle.span.specs.declared.content.Content.TheVariants.{Named}
@@ -21,8 +21,7 @@ use Rattle.span.specs.declared.content.ContentBytes.{ContentBytes}
 use Rattle.span.specs.declared.format.Format.{Format}
 use Rattle.span.specs.Encoding.{symbols_from}
 use Rattle.span.specs.Format.{is_known, shape_of, streams, samples_in, pairs_in, symbols_in}
-use Rattle.span.specs.Image.{made_up}
-use Rattle.span.specs.Sample.{blank_word, made_up_word, allowed, sample_word}
+use Rattle.span.specs.Sample.{blank_word, allowed, sample_word}
 use Rattle.span.specs.Span.{span_words, span_symbols}
 use Rattle.span.specs.Stream.{Request, register}
 use Rattle.span.specs.Layout.{picture_start, eav_start, line_start, ancillary_start, sav_xyz, eav_xyz}
@@ -43,7 +42,7 @@ use Rattle.window.specs.Inside.Encoded.{Passes, Sendable, samples_read, request_
 use Rattle.window.proofs.Accepting.{Accepted, accepted_told, delivers}
 use Rattle.window.proofs.Bytes.{word_below}
 use Rattle.window.proofs.Exact.{encoded_again, accepted_encodes}
-use Rattle.window.proofs.Meeting.{sav_told, eav_told, fill_told, ln0_told, ln1_told, sav_near, eav_near, eav_repaired, sav_xyz_lem, eav_xyz_lem, crcc0_told, crcc1_told, picture_told, made_up_told}
+use Rattle.window.proofs.Meeting.{sav_told, eav_told, fill_told, ln0_told, ln1_told, sav_near, eav_near, eav_repaired, sav_xyz_lem, eav_xyz_lem, crcc0_told, crcc1_told, picture_told}
 use Rattle.window.proofs.Placing.{place_again, stream_below, split, four, each_of_two}
 use Rattle.window.proofs.RoundTrip.{sent_chars}
 use Rattle.window.proofs.Sent.{register_is}
@@ -53,34 +52,28 @@ use Rattle.window.proofs.Windows.{length_rows}
 
 -- a word that stream t of line n may bring is the one sent for its sample
 module _ (f : Format) (known : is_known f ≡ true) (n t x : ℕ) (may : may_bring f n t x ≡ true) where
-  sample_back : sample_word f n t (sample_of f n t x) ≡ x
+  sample_back : sample_word f n t (sample_of f n x) ≡ x
   sample_back =
       on_test (is_active n)
       (λ active.
-      on_test (made_up f t)
-      (λ up. rw (active, up))
-      (λ up.
       let ok : allowed_word f.depth x ≡ true = rw active at may in
       ⊎_elim
-      (λ e. rw (active, up) (rw e (received_ten x (rw e at ok)).1))
-      (λ e. rw (active, up) (rw e (received_twelve x (rw e at ok)).1))
-      (known_told f known).bits))
+      (λ e. rw active (rw e (received_ten x (rw e at ok)).1))
+      (λ e. rw active (rw e (received_twelve x (rw e at ok)).1))
+      (known_told f known).bits)
       (λ b. rw b)
 
-  -- which may be sent, if it is 800 on a made-up stream, and else blanking on a blanking line
-  sample_allowed : (made_up f t ≡ true → x ≡ made_up_word) → (is_active n ≡ false → x ≡ blank_word f) → allowed f n t (sample_of f n t x) ≡ true
-  sample_allowed made blanking =
-      on_test (made_up f t)
-      (λ up. simp (up, and-false (is_active n)) (eq-eqb x made_up_word (made up)))
-      (λ up.
+  -- which may be sent, if it is blanking on a blanking line
+  sample_allowed : (is_active n ≡ false → x ≡ blank_word f) → allowed f n t (sample_of f n x) ≡ true
+  sample_allowed blanking =
       on_test (is_active n)
       (λ active.
       let ok : allowed_word f.depth x ≡ true = rw active at may in
       ⊎_elim
-      (λ e. rw (up, active) (rw e (received_ten x (rw e at ok)).0))
-      (λ e. rw (up, active) (rw e (received_twelve x (rw e at ok)).0))
+      (λ e. rw active (rw e (received_ten x (rw e at ok)).0))
+      (λ e. rw active (rw e (received_twelve x (rw e at ok)).0))
       (known_told f known).bits)
-      (λ b. rw (up, b) (eq-eqb x (blank_word f) (blanking b))))
+      (λ b. rw b (eq-eqb x (blank_word f) (blanking b)))
 
 -- ---- words
 
@@ -96,7 +89,7 @@ module _ (f : Format) (known : is_known f ≡ true) (word : ℕ → ℕ) (m : Pa
 
   -- sample i
   sample_at : (i : ℕ) → i < samples_in (shape_of f)
-      → get_or a.samples i 0 ≡ sample_of f a.line (i / 1920) (word_of s word (picture_start + i % 1920) (i / 1920))
+      → get_or a.samples i 0 ≡ sample_of f a.line (word_of s word (picture_start + i % 1920) (i / 1920))
   sample_at i h = get_d_table (samples_in (shape_of f)) _ i 0 h
 
   -- words of stream t: as they are, and as they are sent
@@ -119,7 +112,7 @@ module _ (f : Format) (known : is_known f ≡ true) (word : ℕ → ℕ) (m : Pa
         (λ x. absurd (omega arith)) j (omega arith) h
 
     -- the picture, sample by sample
-    sample_of_lem : (i : ℕ) → i < 1920 → get_or a.samples (1920 * t + i) 0 ≡ sample_of f a.line t (at (picture_start + i))
+    sample_of_lem : (i : ℕ) → i < 1920 → get_or a.samples (1920 * t + i) 0 ≡ sample_of f a.line (at (picture_start + i))
     sample_of_lem i h =
         let q : (1920 * t + i) / 1920 ≡ t = omega arith in
         let r : (1920 * t + i) % 1920 ≡ i = omega arith in
@@ -253,7 +246,6 @@ module _ (f : Format) (known : is_known f ≡ true) (word : ℕ → ℕ) (m : Pa
         rw (sample_at i h)
         (sample_allowed f known a.line (i / 1920) (at (i / 1920) l (picture_start + i % 1920))
         (picture_told f word m (i / 1920) l (i % 1920) b)
-        (λ up. made_up_told f word m (i / 1920) l up (i % 1920) b)
         (λ x. blank_line x (picture_start + i % 1920) (i / 1920) (omega arith) (omega arith) l))
 
     -- the line is one
@@ -283,7 +275,7 @@ module _ (f : Format) (w : List ℕ) where
   abbrev line : ℕ
   line = line_read st (word_at (shape_of f) w)
 
-  pub picture_at : (i : ℕ) → i < 1920 * st
+  picture_at : (i : ℕ) → i < 1920 * st
       → get_or (picture_of f w) i 0 ≡ word_of st (word_at (shape_of f) w) (picture_start + i % 1920) (i / 1920)
   unfolding picture_of rows
   picture_at i h =
@@ -294,13 +286,12 @@ module _ (f : Format) (w : List ℕ) where
       ∙ get_d_upto 1920 col (λ t. length_table 1920 _) st (i / 1920) (i % 1920) 0 (omega arith) l
       ∙ get_d_table 1920 (λ k. word_of st (word_at (shape_of f) w) (picture_start + k) (i / 1920)) (i % 1920) 0 l
 
-  same_samples :
-      table (length (picture_of f w)) (λ i. sample_of f line (i / 1920) (get_or (picture_of f w) i 0)) ≡ samples_read f (word_at (shape_of f) w)
+  same_samples : map (sample_of f line) (picture_of f w) ≡ samples_read f (word_at (shape_of f) w)
   unfolding picture_of
   same_samples =
-      ap (λ (n : ℕ). table n (λ i. sample_of f line (i / 1920) (get_or (picture_of f w) i 0))) (length_rows st (word_at (shape_of f) w))
-      ∙ table_same (samples_in (shape_of f)) (λ i. sample_of f line (i / 1920) (get_or (picture_of f w) i 0)) _
-      (λ i h. ap (sample_of f line (i / 1920)) (picture_at i h))
+      is_table (samples_in (shape_of f)) _ (sample_of f line 0) (map (sample_of f line) (picture_of f w))
+      (length-map (picture_of f w) (sample_of f line) ∙ length_rows st (word_at (shape_of f) w))
+      (λ i h. get_or-map (sample_of f line) (picture_of f w) i 0 ∙ ap (sample_of f line) (picture_at i h))
 
   request_again_lem : (r : Delivery) → read_span f w ≡ given r → request_again f w ≡ request_of f r (picture_of f w)
   unfolding delivery_of

@@ -1,8 +1,7 @@
 -- A window as the encoding of words and content bytes: what a sender puts on the link, whatever its words say. A span that is sent is one
 -- (law `sent-encodes`), and so is every window that is read (law `accepted-encodes`).
 -- Assumes nothing.
-use Rattle.std.specs.Prelude.{ℕ, ◌+◌, ◌*◌, ◌/◌, ◌%◌, ◌≤◌, ◌<◌, ◌≡◌, cond, not, ◌&&◌, List, ◌++◌, ◌⊎◌, eqb, length, get_or, take, drop}
-use Rattle.ground.specs.Written.{table}
+use Rattle.std.specs.Prelude.{ℕ, ◌+◌, ◌*◌, ◌/◌, ◌%◌, ◌≤◌, ◌<◌, ◌≡◌, cond, ◌&&◌, List, ◌++◌, map, ◌⊎◌, eqb, length, get_or, take, drop}
 use Rattle.line.specs.Stream.{is_active}
 use Rattle.symbol.specs.declared.disparity.Disparity.{Disparity}
 use Rattle.symbol.specs.declared.special.Special.TheVariants.{K28_5, K29_7}
@@ -12,13 +11,12 @@ use Rattle.span.specs.declared.format.Format.{Format}
 use Rattle.span.specs.declared.format.Shape.{Shape}
 use Rattle.span.specs.Encoding.{symbols_from}
 use Rattle.span.specs.Format.{shape_of, streams, pairs_in}
-use Rattle.span.specs.Image.{made_up}
 use Rattle.span.specs.Layout.{eav_start, sav_xyz, eav_xyz}
 use Rattle.span.specs.Span.{bytes, synchronised, span_words}
 use Rattle.span.specs.Stream.{Request}
 use Rattle.word.specs.Repair.{distance, differs_at}
 use Rattle.window.specs.declared.delivery.Delivery.{Delivery}
-use Rattle.window.specs.Rules.{Rule21, Rule22, Rule23, Rule24, Rule25, Rule26, Rule27}
+use Rattle.window.specs.Rules.{Rule21, Rule22, Rule23, Rule24, Rule25, Rule26}
 
 -- the characters of a span's words, with the special characters and the content bytes put in
 unfoldable pub chars_of : Shape → ContentBytes → List ℕ → List ℕ
@@ -51,7 +49,7 @@ Everywhere f rule = (k : ℕ) → k < 2 * pairs_in (shape_of f) → rule (k / st
 abbrev pub words_of : Format → (ℕ → ℕ) → ℕ → ℕ → ℕ
 words_of f word j t = word (streams (shape_of f) * j + t)
 
--- words that meet rules 21 to 27: a window is read if and only if it is the encoding of such words (laws `exactIf`, `exactOnlyIf`)
+-- words that meet rules 21 to 26: a window is read if and only if it is the encoding of such words (laws `exactIf`, `exactOnlyIf`)
 pub record Meets (f : Format) (word : ℕ → ℕ) : Type 0 where
   pub timing : Everywhere f (Rule21 (words_of f word))
   pub line_number : Everywhere f (Rule22 (words_of f word))
@@ -59,7 +57,6 @@ pub record Meets (f : Format) (word : ℕ → ℕ) : Type 0 where
   pub crcc : Everywhere f (Rule24 (words_of f word))
   pub picture : Everywhere f (Rule25 f (words_of f word))
   pub fill : Everywhere f (Rule26 f (words_of f word))
-  pub made_up : Everywhere f (Rule27 f (words_of f word))
 
 -- ---- what is sent, and what arrives
 
@@ -93,19 +90,13 @@ pub record DisturbedBefore (f : Format) (a : Request) (words : List ℕ) (k : �
 
 -- ---- what is read, sent again
 
--- the sample that a word of stream t of line n carries: on an active line at ten bits the word without its two low bits, else the word, and
--- of a made-up stream always the word
-abbrev pub sample_of : Format → ℕ → ℕ → ℕ → ℕ
-sample_of f n t x = cond (is_active n && not (made_up f t)) (cond (eqb f.depth 10) (x / 4) x) x
+-- the sample that a word of line n carries: on an active line at ten bits the word without its two low bits, else the word
+abbrev pub sample_of : Format → ℕ → ℕ → ℕ
+sample_of f n x = cond (is_active n && eqb f.depth 10) (x / 4) x
 
 -- the answer for a span and its picture words, as a request
 abbrev pub request_of : Format → Delivery → List ℕ → Request
-request_of f r words =
-    record {
-      line = r.line.0;
-      content = Named r.content;
-      samples = table (length words) (λ i. sample_of f r.line.0 (i / 1920) (get_or words i 0));
-    }
+request_of f r words = record { line = r.line.0; content = Named r.content; samples = map (sample_of f r.line.0) words }
 
 -- the words of a sent span, but for XYZ, which have at most one wrong bit, and for the ancillary area
 pub record SentBut (f : Format) (a : Request) (word : ℕ → ℕ) : Type 0 where

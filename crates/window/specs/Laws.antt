@@ -17,17 +17,17 @@ use Rattle.word.specs.Timing.{timing}
 use Rattle.span.specs.declared.format.Format.{Format}
 use Rattle.span.specs.Encoding.{symbols_from}
 use Rattle.span.specs.Format.{shape_of, streams, pairs_in, symbols_in, eav_at}
-use Rattle.span.specs.Numbers.{IsFormat, Symbols, Samples, MadeUp}
+use Rattle.span.specs.Numbers.{IsFormat, Symbols, Samples}
 use Rattle.span.specs.Sample.{blank_word}
 use Rattle.span.specs.Span.{bytes, span_words, span_symbols}
 use Rattle.span.specs.Stream.{Request}
 use Rattle.window.specs.declared.delivery.Delivery.{Delivery}
 use Rattle.window.specs.Encoded.{chars_of, word_in, Everywhere, words_of, Meets, request_of}
 use Rattle.window.specs.Read.{placed, content_in, delivery_of, picture_of, read_span, judge_of, read_of, rows_read}
-use Rattle.window.specs.Rules.{Rule20, Rule21, Rule22, Rule23, Rule24, Rule25, Rule26, Rule27}
+use Rattle.window.specs.Rules.{Rule20, Rule21, Rule22, Rule23, Rule24, Rule25, Rule26}
 use Rattle.ground.specs.Inside.Test.{Reflects}
 use Rattle.window.specs.Scan.{symbol_at, start_of, running_at, holds20}
-use Rattle.window.specs.Tests.{word_of, holds21, holds22, holds23, holds24, holds25, holds26, holds27, line_read, repair_count}
+use Rattle.window.specs.Tests.{word_of, holds21, holds22, holds23, holds24, holds25, holds26, line_read, repair_count}
 use Rattle.word.specs.Received.{has_h, repaired}
 use Rattle.window.specs.Words.{word_at}
 use Rattle.window.specs.Inside.Encoded.{Sendable}
@@ -47,7 +47,7 @@ module _ (f : Format) (w : List ℕ) where
   abbrev word : ℕ → ℕ → ℕ
   word = word_of (streams (shape_of f)) (word_at (shape_of f) w)
 
-  -- tests 20 to 27 by their numbers, the last seven over the words
+  -- tests 20 to 26 by their numbers, the last six over the words
   abbrev test20 : ℕ → Bool
   test20 = holds20 (shape_of f) w
 
@@ -69,9 +69,6 @@ module _ (f : Format) (w : List ℕ) where
   abbrev test26 : ℕ → Bool
   test26 = placed (streams (shape_of f)) (holds26 (streams (shape_of f)) (word_at (shape_of f) w) f)
 
-  abbrev test27 : ℕ → Bool
-  test27 = placed (streams (shape_of f)) (holds27 (streams (shape_of f)) (word_at (shape_of f) w) f)
-
   -- the test of the symbols holds everywhere; a test of the words does
   abbrev Scanned : Type 0
   Scanned = Holds (symbols_in (shape_of f)) test20
@@ -85,13 +82,13 @@ module _ (f : Format) (w : List ℕ) where
 
 -- Which windows are judged and read, and what each refusal is (document 01, "Receiving and finding" and its table of refusals).
 pub record WindowRefusals : Type 0 where
-  -- an unknown format is refused with 1, a wrong number of symbols with 3; any other window goes through tests 20 to 27
+  -- an unknown format is refused with 1, a wrong number of symbols with 3; any other window goes through tests 20 to 26
   pub judge_meets1 : (f : Format) (w : List ℕ) → (IsFormat f → ⊥) → judge_of f w ≡ refused 1 0
   pub judge_meets3 : (f : Format) (w : List ℕ) → IsFormat f → (Symbols f (length w) → ⊥) → judge_of f w ≡ refused 3 0
   pub judged : (f : Format) (w : List ℕ) → IsFormat f → Symbols f (length w) → judge_of f w ≡ read_span f w
   -- into rows of the right length a window is read as it is judged
   pub read_as_judged : (f : Format) (w : List ℕ) (room : ℕ) → Samples f room → read_of f w room ≡ judge_of f w
-  -- the rows: unchanged after refusals 1, 3 and 4, all zero after 20 to 27, the picture if the window is delivered
+  -- the rows: unchanged after refusals 1, 3 and 4, all zero after 20 to 26, the picture if the window is delivered
   pub rows_after1 : (f : Format) (w entry : List ℕ) → (IsFormat f → ⊥) → rows_read f w entry ≡ entry
   pub rows_after3 : (f : Format) (w entry : List ℕ) → IsFormat f → (Symbols f (length w) → ⊥) → rows_read f w entry ≡ entry
   pub rows_after4 :
@@ -116,7 +113,7 @@ pub record WindowRefusals : Type 0 where
       → (r : Delivery)
       → read_span f w ≡ given r
       → rows_read f w entry ≡ picture_of f w
-  -- the refusal is the first test, from 20 to 27, that does not hold everywhere, with the lowest place at which it does not
+  -- the refusal is the first test, from 20 to 26, that does not hold everywhere, with the lowest place at which it does not
   pub meets20 : (f : Format) (w : List ℕ) (k : ℕ) → Fails (symbols_in (shape_of f)) (test20 f w) k → read_span f w ≡ refused 20 k
   pub meets21 :
       (f : Format) (w : List ℕ) → Scanned f w → (k : ℕ) → Met f w (test21 f w) k → read_span f w ≡ refused 21 k
@@ -165,22 +162,10 @@ pub record WindowRefusals : Type 0 where
       → (k : ℕ)
       → Met f w (test26 f w) k
       → read_span f w ≡ refused 26 k
-  pub meets27 :
-      (f : Format) (w : List ℕ)
-      → Scanned f w
-      → Held f w (test21 f w)
-      → Held f w (test22 f w)
-      → Held f w (test23 f w)
-      → Held f w (test24 f w)
-      → Held f w (test25 f w)
-      → Held f w (test26 f w)
-      → (k : ℕ)
-      → Met f w (test27 f w) k
-      → read_span f w ≡ refused 27 k
   -- and there are no other numbers
-  pub numbers : (f : Format) (w : List ℕ) (number place : ℕ) → read_span f w ≡ refused number place → (20 ≤ number) × (number ≤ 27)
+  pub numbers : (f : Format) (w : List ℕ) (number place : ℕ) → read_span f w ≡ refused number place → (20 ≤ number) × (number ≤ 26)
   -- which words each test judges: at every other word it holds, so no word of the ancillary area is judged, and no picture word of a
-  -- blanking line but those of made-up streams. 21: SAV and EAV,
+  -- blanking line. 21: SAV and EAV,
   pub judged21 : (s : ℕ) (word : ℕ → ℕ) (j t : ℕ) → holds21 s word j t ≡ false → (j < 4) ⊎ ((1924 ≤ j) × (j ≤ 1927))
   -- 22: the line numbers; whether stream 1 names a line is judged at its LN0, not at its LN1,
   pub judged22 : (s : ℕ) (word : ℕ → ℕ) (j t : ℕ) → holds22 s word j t ≡ false → (1928 ≤ j) × (j ≤ 1929)
@@ -196,18 +181,12 @@ pub record WindowRefusals : Type 0 where
       (s : ℕ) (word : ℕ → ℕ) (j t : ℕ) (f : Format)
       → holds25 s word f j t ≡ false
       → (4 ≤ j) × (j ≤ 1923) × (42 ≤ line_read s word) × (line_read s word ≤ 1121)
-  -- 26: the fill,
+  -- 26: the fill
   pub judged26 : (s : ℕ) (word : ℕ → ℕ) (j t : ℕ) (f : Format) → holds26 s word f j t ≡ false → 1932 + (shape_of f).ancillary ≤ j
-  -- 27: the picture of made-up streams
-  pub judged27 :
-      (s : ℕ) (word : ℕ → ℕ) (j t : ℕ) (f : Format)
-      → IsFormat f
-      → holds27 s word f j t ≡ false
-      → (4 ≤ j) × (j ≤ 1923) × MadeUp f t
   -- an XYZ with at most one wrong bit does not pass for one with the other H (004, 6.2)
   pub other_h : (w : ℕ) (v h : Bool) → distance w (timing v h) ≤ 1 → has_h (not h) (nearest w) ≡ false
 
--- Tests 20 to 27 are the papers' rules (specs/Rules). Each test is asked where those before it hold, and is the rule there; so the place
+-- Tests 20 to 26 are document 01's rules (specs/Rules). Each test is asked where those before it hold, and is the rule there; so the place
 -- that a refusal gives is the lowest at which the rule is not met.
 pub record WindowRules : Type 0 where
   -- the symbols: where the rule is met at symbol k it is met, and the test holds, at those before it too
@@ -270,12 +249,6 @@ pub record WindowRules : Type 0 where
       → (k : ℕ)
       → let s = streams (shape_of f) in
       Reflects (placed s (holds26 s word f) k) (Rule26 f (words_of f word) (k / s) (k % s))
-  pub made_up :
-      (f : Format) (word : ℕ → ℕ)
-      → IsFormat f
-      → (k : ℕ)
-      → let s = streams (shape_of f) in
-      Reflects (placed s (holds27 s word f) k) (Rule27 f (words_of f word) (k / s) (k % s))
 
 -- What holds for a window that is read, and how a sent span is read.
 pub record WindowLaws : Type 0 where
@@ -312,7 +285,7 @@ pub record WindowLaws : Type 0 where
       → (e : Disparity)
       → symbol_at w i ≡ symbol_of e (number_of K29_7)
       → (eav_at (shape_of f) ≤ i) × (i ≤ eav_at (shape_of f) + 1)
-  -- a sent span passes tests 21 to 27
+  -- a sent span passes tests 21 to 26
   pub sent_meets : (f : Format) (a : Request) → Sendable f a → Meets f (word_in (span_words f a))
   -- a sent span with one of the ten bits of one symbol inverted is refused
   pub inverted_refused :

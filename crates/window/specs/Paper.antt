@@ -11,8 +11,7 @@ use Rattle.span.specs.declared.content.ContentBytes.{ContentBytes}
 use Rattle.span.specs.declared.format.Format.{Format}
 use Rattle.span.specs.Encoding.{after_run}
 use Rattle.span.specs.Format.{format_from, shape_of, streams, pairs_in}
-use Rattle.span.specs.Image.{made_up}
-use Rattle.span.specs.Numbers.{IsFormat, Symbols, MadeUp}
+use Rattle.span.specs.Numbers.{IsFormat, Symbols}
 use Rattle.span.specs.Span.{interleaved, bytes, span_words}
 use Rattle.span.specs.Stream.{Request}
 use Rattle.window.specs.declared.delivery.Delivery.{Delivery}
@@ -156,19 +155,9 @@ pub record WindowPaper : Type 0 where
       → (v h : Bool) (i : ℕ)
       → i < 4
       → get_or (bytes (interleaved (2 * half) 4 (λ _. timing_code v h))) i 0 ≡ fixed_byte (2 * half) i
-  -- a window that is read has 800 throughout in its made-up rows
-  pub made_up_rows :
-      (f : Format) (w : List ℕ) (r : Delivery)
-      → IsFormat f
-      → read_span f w ≡ given r
-      → (t i : ℕ)
-      → MadeUp f t
-      → t < streams (shape_of f)
-      → i < 1920
-      → get_or (picture_of f w) (1920 * t + i) 0 ≡ 0x800
-  -- of component and structure nothing is read but which streams are made up: a span of C'B in 4:4:4 is also read as one of Y'
-  pub only_made_up :
-      (number depth size c e structure other : ℕ) (w : List ℕ)
+  -- what is read does not depend on the component that the link carries: a span of C'B is also read as one of Y'
+  pub component_unread :
+      (number depth structure size c e : ℕ) (w : List ℕ)
       → let f = format_from number depth c structure size in
-      let g = format_from number depth e other size in
-      ((t : ℕ) → made_up f t ≡ made_up g t) → (read_span f w ≡ read_span g w) × (picture_of f w ≡ picture_of g w)
+      let g = format_from number depth e structure size in
+      (read_span f w ≡ read_span g w) × (picture_of f w ≡ picture_of g w)

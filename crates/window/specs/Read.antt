@@ -12,7 +12,7 @@ use Rattle.window.specs.declared.delivery.Delivery.{Delivery}
 use Rattle.window.specs.declared.delivery.Repairs.{Repairs}
 use Rattle.window.specs.declared.delivery.RepairsOfBit.{RepairsOfBit}
 use Rattle.window.specs.Scan.{byte_of, symbol_at, start_of, running_at, holds20}
-use Rattle.window.specs.Tests.{holds21, holds22, holds23, holds24, holds25, holds26, holds27, line_read, repair_count, repairs_at, rows}
+use Rattle.window.specs.Tests.{holds21, holds22, holds23, holds24, holds25, holds26, line_read, repair_count, repairs_at, rows}
 use Rattle.window.specs.Words.{word_at}
 
 -- a test of n places: it fails at the lowest place at which it does not hold
@@ -23,7 +23,7 @@ lowest number n holds = record { number = number; fails = first_below n (λ k. n
 abbrev pub placed : ℕ → (ℕ → ℕ → Bool) → ℕ → Bool
 placed s holds k = holds (k / s) (k % s)
 
--- tests 21 to 27 over the words of a span
+-- tests 21 to 26 over the words of a span
 abbrev pub word_tests : Format → (ℕ → ℕ) → List Row
 word_tests f word =
     let s = streams (shape_of f) in
@@ -34,7 +34,6 @@ word_tests f word =
     ∷ lowest 24 n (placed s (holds24 s word))
     ∷ lowest 25 n (placed s (holds25 s word f))
     ∷ lowest 26 n (placed s (holds26 s word f))
-    ∷ lowest 27 n (placed s (holds27 s word f))
     ∷ []
 
 -- all tests of a window, each over the whole of it

@@ -1,4 +1,4 @@
--- What a span has that meets none of the refusals 20 to 27, row by row from document 01's table of refusals and in its own numbers, without
+-- What a span has that meets none of the refusals 20 to 26, row by row from document 01's table of refusals and in its own numbers, without
 -- the reader's tests. The laws of `WindowRules` say that the reader's tests are these rules. Words and streams count from 0, so the paper's
 -- stream 1 is stream 0, and `word j t` is word j of stream t from the SAV on.
 -- Assumes nothing.
@@ -12,7 +12,7 @@ use Rattle.word.specs.Repair.{distance}
 use Rattle.crcc.specs.Crcc.{crc, crcc_words}
 use Rattle.span.specs.declared.format.Format.{Format}
 use Rattle.span.specs.Encoding.{symbols_from}
-use Rattle.span.specs.Numbers.{Ancillary, MadeUp}
+use Rattle.span.specs.Numbers.{Ancillary}
 
 -- ---- the symbols
 
@@ -99,7 +99,3 @@ pub record Rule25 (f : Format) (word : ℕ → ℕ → ℕ) (j t : ℕ) : Type 0
 -- 26, "fill word not 100": after the ancillary area
 pub record Rule26 (f : Format) (word : ℕ → ℕ → ℕ) (j t : ℕ) : Type 0 where
   pub fill : (a : ℕ) → Ancillary f a → 1932 + a ≤ j → word j t ≡ 0x100
-
--- 27 (document 02, A5): "any other made-up sample", on every line
-pub record Rule27 (f : Format) (word : ℕ → ℕ → ℕ) (j t : ℕ) : Type 0 where
-  pub made_up : MadeUp f t → 4 ≤ j → j ≤ 1923 → word j t ≡ 0x800

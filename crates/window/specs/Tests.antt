@@ -1,4 +1,4 @@
--- Tests 21 to 27 over the words of a span alone (document 01, "Receiving and finding" and its table of refusals; document 02, A5). There are s streams,
+-- Tests 21 to 26 over the words of a span alone (document 01, "Receiving and finding" and its table of refusals). There are s streams,
 -- and `word k` is the word at interleaved place k; word j of stream t, both from 0, is at s * j + t. Each test is stated for every j and
 -- t, and holds where it has nothing to check.
 -- Assumes nothing.
@@ -10,9 +10,7 @@ use Rattle.ground.specs.Written.{upto, table}
 use Rattle.line.specs.Stream.{is_active, v_of, line_before}
 use Rattle.span.specs.declared.format.Format.{Format}
 use Rattle.span.specs.Format.{shape_of}
-use Rattle.span.specs.Image.{made_up}
 use Rattle.span.specs.Layout.{picture_start, eav_start, line_start, crcc_start, ancillary_start, sav_xyz, eav_xyz}
-use Rattle.span.specs.Sample.{made_up_word}
 use Rattle.span.specs.Span.{fill_word}
 use Rattle.crcc.specs.Crcc.{crc, crcc_words}
 use Rattle.word.specs.LineNumber.{line_of}
@@ -92,11 +90,6 @@ module _ (s : ℕ) (word : ℕ → ℕ) where
   -- 26: the fill, after all words of the streams
   unfoldable pub holds26 : Format → ℕ → ℕ → Bool
   holds26 f j t = cond (ltb j (ancillary_start + (shape_of f).ancillary)) true (eqb (word_of j t) fill_word)
-
-  -- 27: the picture words of made-up streams, on every line. Document 02, A5 says "any other made-up sample", where 25 says "on an active
-  -- line"; what speaks against it is in docs/DECISIONS.md. The choice stands here alone, and in `Rule27`.
-  unfoldable pub holds27 : Format → ℕ → ℕ → Bool
-  holds27 f j t = cond (within picture_start (eav_start - 1) j && made_up f t) (eqb (word_of j t) made_up_word) true
 
   -- how many bits were wrong in all timing words together
   unfoldable pub repair_count : ℕ

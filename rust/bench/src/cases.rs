@@ -19,7 +19,7 @@ pub const WIRE_SAMPLES: f64 = 518.4;
 
 /// The wrapper's format.
 pub fn given(format: Format) -> brazulint::Format {
-    brazulint::Format::plain(format.number, format.depth).carrying(format.component).sampled(format.structure)
+    brazulint::Format::plain(format.number, format.depth).carrying(format.component)
 }
 
 #[derive(Clone)]
@@ -47,21 +47,7 @@ pub const BESIDE: [Case; 6] = [
     Case { label: "format 3, a blanking line", format: Format::plain(3, 12), line: 1 },
 ];
 
-/// Links of C'B with made-up streams, which are measured beside links in 4:4:4.
-pub const MADE_UP: [Case; 5] = [
-    Case { label: "format 1, 4:2:0, 12 bits", format: Format::plain(1, 12).carrying(5).sampled(3), line: 100 },
-    Case { label: "format 2, 4:2:0, 12 bits", format: Format::plain(2, 12).carrying(5).sampled(3), line: 100 },
-    Case { label: "format 3, 4:2:2, 12 bits", format: Format::plain(3, 12).carrying(5).sampled(2), line: 100 },
-    Case { label: "format 3, 4:2:0, 12 bits", format: Format::plain(3, 12).carrying(5).sampled(3), line: 100 },
-    Case { label: "format 3, 4:2:0, 10 bits", format: Format::plain(3, 10).carrying(5).sampled(3), line: 100 },
-];
-
 impl Case {
-    /// The same for another sampling structure.
-    pub fn sampled(&self, structure: u32) -> Case {
-        Case { format: self.format.sampled(structure), ..self.clone() }
-    }
-
     /// The same for another component.
     pub fn carrying(&self, component: u32) -> Case {
         Case { format: self.format.carrying(component), ..self.clone() }

@@ -1,7 +1,7 @@
 //! Measures the library against plain Rust, prints the tables of docs/BENCHMARKS.md, and writes its plot to the named file. Each
 //! measurement is reported on standard error as it comes.
 
-use bench::operations::beside;
+use bench::operations::components;
 use bench::{growth, memory, operations, plot, tables};
 use std::process::ExitCode;
 
@@ -10,11 +10,9 @@ fn main() -> ExitCode {
         eprintln!("usage: bench FILE.svg");
         return ExitCode::FAILURE;
     };
-    let (speeds, components, structures) = (operations::measure(), beside::components(), beside::structures());
-    let growth = growth::measure();
+    let (speeds, components, growth) = (operations::measure(), components::measure(), growth::measure());
     println!("{}", tables::speeds(&speeds));
-    println!("{}", tables::beside(["Y'", "C'B"], &components));
-    println!("{}", tables::beside(["4:4:4", "made up"], &structures));
+    println!("{}", tables::components(&components));
     println!("{}\n", memory::measure());
     println!("{}", tables::growth(&growth));
     println!("{}", tables::worst(&growth));

@@ -1,7 +1,7 @@
 //! What is measured: each operation by the library, by the version written to be fast and by the plain one. Before that, all of them are
 //! tried once on the measured input, and have to agree.
 
-pub mod beside;
+pub mod components;
 mod delivering;
 mod finding;
 mod judging;

@@ -88,12 +88,12 @@ pub fn begun_twice(format: Format) -> Vec<u16> {
         let mut characters = span_characters(&mut random, format);
         fill_area(&mut random, shape, &mut characters);
         let span = symbols(random.seldom(2), &characters).0;
-        assert!(window(format, &span).is_ok());
+        assert!(window(shape, format.depth, &span).is_ok());
         [beginning.clone(), span].concat()
     })
 }
 
-/// The same with a last picture word that no sample has: only test 25 fails, and only after the whole span was read.
+/// The same with a last picture word that no sample has: only test 25 fails, the last that is tried.
 pub fn begun_twice_and_refused(format: Format) -> Vec<u16> {
     let (mut random, shape) = (Random(7), shape_of(format));
     let beginning = begun(&mut random, format);
@@ -121,7 +121,7 @@ pub fn late_special_characters(format: Format) -> Vec<u16> {
 /// The symbols of a span that is refused. Its refusal, with the place, is given.
 fn refused_span(random: &mut Random, format: Format, characters: &[u16], refused: Refused) -> Vec<u16> {
     let span = symbols(random.seldom(2), characters).0;
-    assert_eq!(window(format, &span).err(), Some(refused));
+    assert_eq!(window(shape_of(format), format.depth, &span).err(), Some(refused));
     span
 }
 

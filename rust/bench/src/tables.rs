@@ -2,7 +2,7 @@
 
 use crate::cases::WIRE;
 use crate::growth::{Growth, LENGTHS, SHORTEST};
-use crate::operations::beside::Beside;
+use crate::operations::components::Beside;
 use crate::operations::Speeds;
 
 /// A whole number with a comma between groups of three digits.
@@ -25,15 +25,15 @@ pub fn speeds(all: &[Speeds]) -> String {
     table
 }
 
-/// Two links side by side, by their names.
-pub fn beside([one, other]: [&str; 2], all: &[Beside]) -> String {
-    let mut table = format!(
-        "| operation | case | {one}, library, M symbols/s | {other}, library, M symbols/s | {other}, times the speed of {one} \
-         | the same, hand-optimised | {other}, times the hand-optimised version's speed |\n|---|---|--:|--:|--:|--:|--:|\n",
+/// C'B beside Y'.
+pub fn components(all: &[Beside]) -> String {
+    let mut table = String::from(
+        "| operation | case | Y', library, M symbols/s | C'B, library, M symbols/s | C'B, times the speed of Y' \
+         | the same, hand-optimised | C'B, times the hand-optimised version's speed |\n|---|---|--:|--:|--:|--:|--:|\n",
     );
-    for Beside { operation, case, library, fast } in all {
-        let [of_library, of_fast, over_fast] = [library[1] / library[0], fast[1] / fast[0], library[1] / fast[1]];
-        let rates = library.map(grouped).join(" | ");
+    for Beside { operation, case, library: [luma, difference], fast: [fast_luma, fast_difference] } in all {
+        let [of_library, of_fast, over_fast] = [difference / luma, fast_difference / fast_luma, difference / fast_difference];
+        let rates = [luma, difference].map(|rate| grouped(*rate)).join(" | ");
         table += &format!("| {operation} | {case} | {rates} | {of_library:.2} | {of_fast:.2} | {over_fast:.2} |\n");
     }
     table

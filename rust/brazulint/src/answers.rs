@@ -28,7 +28,7 @@ structs! {
     /// Refusals 1, 2, 3, 4 and 6.
     #[must_use]
     SendAnswer { number: u32, positive_after: bool, place: u64 }
-    /// Refusals 1, 3, 4 and 20 to 27.
+    /// Refusals 1, 3, 4 and 20 to 26.
     #[must_use]
     ReadAnswer { number: u32, place: u64, delivery: Delivery }
     /// Refusals 1, 3 and 5.

@@ -12,10 +12,9 @@ pub struct Format {
     /// 10 or 12 bits.
     pub depth: u32,
     /// The component of the picture that the link carries: `Format::G`, `Format::B`, `Format::R`, `Format::Y`, `Format::CB`, `Format::CR`.
-    /// The last two blank at 0x800, the others at 0x100.
+    /// The last two blank at 0x800, the others at 0x100. What is read does not depend on it.
     pub component: u32,
-    /// The sampling structure: `Format::SAMPLING_444`; `Format::SAMPLING_422`, `Format::SAMPLING_420`, which have Y', C'B and C'R alone. It
-    /// says which streams of C'B and C'R are made up (the header has the table). What is read depends on it and on the component by that alone.
+    /// The sampling structure: `Format::SAMPLING_444`.
     pub structure: u32,
     /// The size of the picture: `Format::SIZE_4K`.
     pub size: u32,
@@ -34,12 +33,9 @@ impl Format {
     pub const CR: u32 = 6;
 
     pub const SAMPLING_444: u32 = 1;
-    pub const SAMPLING_422: u32 = 2;
-    pub const SAMPLING_420: u32 = 3;
-
     pub const SIZE_4K: u32 = 1;
 
-    /// The plain format: the link carries G' of a 4K picture in 4:4:4. For another component see `carrying`, for another structure `sampled`.
+    /// The plain format: the link carries G' of a 4K picture in 4:4:4. For any other component see `carrying`.
     pub const fn plain(number: u32, depth: u32) -> Format {
         Format { number, depth, component: Format::G, structure: Format::SAMPLING_444, size: Format::SIZE_4K }
     }
@@ -48,12 +44,6 @@ impl Format {
     #[must_use]
     pub const fn carrying(self, component: u32) -> Format {
         Format { component, ..self }
-    }
-
-    /// The same format for a picture of another sampling structure.
-    #[must_use]
-    pub const fn sampled(self, structure: u32) -> Format {
-        Format { structure, ..self }
     }
 }
 

@@ -80,18 +80,7 @@ pub fn lengths(format: Format) -> LengthsAnswer {
     call!(brazulint4_lengths(format))
 }
 
-/// Sends the span of a stream line into `symbols`. The samples of a stream that is made up are 0x800:
-///
-/// ```
-/// use brazulint::{send, Format, Refusal, Request, StreamLine};
-///
-/// let format = Format::plain(Format::HZ_120, 10).carrying(Format::CB).sampled(Format::SAMPLING_420);
-/// let (request, mut symbols) = (Request::new(StreamLine(42), false), [0; 7920]);
-/// let [image, mut made_up] = [[512; 1920], [0x800; 1920]];
-/// assert!(send(format, request, &[image, made_up].concat(), &mut symbols).result().is_ok());
-/// made_up[7] = 512;
-/// assert_eq!(send(format, request, &[image, made_up].concat(), &mut symbols).result(), Err(Refusal::NotAllowed(1927)));
-/// ```
+/// Sends the span of a stream line into `symbols`.
 pub fn send(format: Format, request: Request, samples: &[u16], symbols: &mut [u16]) -> SendAnswer {
     let (from, to) = (samples.as_ptr(), symbols.as_mut_ptr());
     call!(brazulint4_send(format, request, from, samples.len(), to, symbols.len()))
@@ -157,7 +146,7 @@ pub fn place(line: PictureLine, sample: u32) -> PlaceAnswer {
 }
 
 /// The way back: the line of the picture that a stream line brings, and its basic image. `link` is one of the links of its component, `stream`
-/// one of the link's streams that is not made up, both from 1.
+/// one of the link's streams, both from 1.
 pub fn way_back(format: Format, link: u32, stream: u32, line: StreamLine) -> WayBackAnswer {
     call!(brazulint4_way_back(format, link, stream, line))
 }

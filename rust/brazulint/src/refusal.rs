@@ -12,7 +12,7 @@ use std::fmt;
 /// assert_eq!(brazulint::lengths(Format::plain(0, 12)).result(), Err(Refusal::UnknownFormat));
 /// let none = brazulint::place(PictureLine(2161), 0).result().unwrap_err();
 /// assert_eq!((none.number(), none.place()), (2, None));
-/// for number in (1..=8).chain(20..=27) {
+/// for number in (1..=8).chain(20..=26) {
 ///     let refusal = Refusal::check(number, 7).unwrap_err();
 ///     assert_eq!(refusal.number(), number);
 ///     assert_eq!(refusal.place(), (number == 6 || number >= 20).then_some(7));
@@ -35,7 +35,6 @@ pub enum Refusal {
     WrongCrcc(u64),
     WrongSample(u64),
     WrongFill(u64),
-    WrongMadeUp(u64),
     /// A number that the header does not have: the library never answers it.
     Unknown(u32),
 }
@@ -62,7 +61,6 @@ impl Refusal {
             24 => WrongCrcc(place),
             25 => WrongSample(place),
             26 => WrongFill(place),
-            27 => WrongMadeUp(place),
             _ => Unknown(number),
         })
     }
@@ -84,7 +82,7 @@ impl Refusal {
     pub fn place(self) -> Option<u64> {
         match self {
             NotAllowed(place) | WrongSymbol(place) | WrongTiming(place) | WrongLine(place) => Some(place),
-            WrongV(place) | WrongCrcc(place) | WrongSample(place) | WrongFill(place) | WrongMadeUp(place) => Some(place),
+            WrongV(place) | WrongCrcc(place) | WrongSample(place) | WrongFill(place) => Some(place),
             _ => None,
         }
     }
@@ -107,7 +105,6 @@ impl Refusal {
             WrongCrcc(_) => (24, "a CRCC word is not the one computed", "word"),
             WrongSample(_) => (25, "on an active line a word that no sample has", "word"),
             WrongFill(_) => (26, "a fill word is not 0x100", "word"),
-            WrongMadeUp(_) => (27, "a word of a made-up stream is not 0x800", "word"),
             Unknown(number) => (number, "not a refusal", ""),
         }
     }

@@ -13,8 +13,8 @@ use std::sync::atomic::{AtomicU64, Ordering};
 /// How often such a span must be delivered, and how often it must be refused.
 const OFTEN: u64 = 200;
 
-/// Spans of each kind on each link.
-const ROUNDS: usize = 30;
+/// Spans of each kind and component.
+const ROUNDS: usize = 60;
 
 pub fn run() -> Report {
     let [delivered, refused] = [(); 2].map(|()| AtomicU64::new(0));

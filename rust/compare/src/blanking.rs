@@ -1,9 +1,8 @@
-//! Blanking lines (004, 6.8): the row, what may be sent of it, and what comes back, of every component and structure in every format at
-//! every depth.
+//! Blanking lines (004, 6.8): the row, what may be sent of it, and what comes back, of every component in every format at every depth.
 
 use crate::calls;
 use crate::report::{in_two, Report};
-use crate::spans::{any_asked, every_second, shape_of};
+use crate::spans::{any_asked, every_second, shape_of, COMPONENTS};
 use plain::format::Format;
 use random::Random;
 
@@ -38,7 +37,7 @@ fn rows(part: usize, r: &mut Report) {
     }
 }
 
-/// The row is sent, and is delivered again as it was given; read as any component in 4:4:4, where nothing is made up.
+/// The row is sent, and is delivered again as it was given; read as any component.
 fn sent(part: usize, r: &mut Report) {
     let mut random = Random(0x606 + part as u64);
     for (format, line) in every_second(part).flat_map(|format| LINES.map(|line| (format, line))) {
@@ -49,8 +48,8 @@ fn sent(part: usize, r: &mut Report) {
             r.holds(|| format!("{format:?}: the blanking of line {line} is refused"), false);
             continue;
         };
-        for component in 1..=6 {
-            let read = calls::read(r, format.carrying(component).sampled(1), &symbols, samples.len());
+        for component in COMPONENTS {
+            let read = calls::read(r, format.carrying(component), &symbols, samples.len());
             let same = read.is_ok_and(|d| (d.line, &d.rows) == (line, &samples));
             r.holds(|| format!("{format:?}: line {line} is not read as it was sent, as component {component}"), same);
         }

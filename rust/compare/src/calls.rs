@@ -11,8 +11,8 @@ use plain::Answer;
 
 /// The wrapper's format, field for field.
 pub fn given(format: Format) -> brazulint::Format {
-    let mut given = brazulint::Format::plain(format.number, format.depth).carrying(format.component).sampled(format.structure);
-    given.size = format.size;
+    let mut given = brazulint::Format::plain(format.number, format.depth).carrying(format.component);
+    (given.structure, given.size) = (format.structure, format.size);
     given
 }
 

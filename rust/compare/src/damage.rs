@@ -18,7 +18,7 @@ pub enum Change {
 
 use Change::{Characters, Late, Symbols, Words};
 
-pub const DAMAGES: [(&str, Change); 44] = [
+pub const DAMAGES: [(&str, Change); 43] = [
     ("nothing", Words(|_, _| ())),
     ("a bit of a fixed word of a SAV", Words(|random, draft| fixed_bit(random, draft, 0))),
     ("a bit of a fixed word of an EAV", Words(|random, draft| fixed_bit(random, draft, 1924))),
@@ -49,7 +49,6 @@ pub const DAMAGES: [(&str, Change); 44] = [
     ("a bit of CRCC1", Late(|random, draft| bit_of_a_stream(random, draft, 1931))),
     ("a word at the end of what samples have", Words(row_word)),
     ("low bits in a word of the row", Words(low_bits)),
-    ("a word next to 800 in the row", Words(next_to_800)),
     ("any word of the row", Words(|random, draft| any_of(random, draft, 4, 1924))),
     ("the first fill word", Late(|random, draft| fill(random, draft, 0))),
     ("the last fill word", Late(|random, draft| fill(random, draft, draft.shape.fill - 1))),
@@ -210,12 +209,6 @@ fn row_word(random: &mut Random, draft: &mut Draft) {
     let k = random.pick(&[4, 5, 1000, 1922, 1923]);
     let at = draft.at(k, stream(random, draft));
     draft.words[at] = random.pick(&[0, 12, 15, 16, 17, 4076, 4079, 4080, 4095]);
-}
-
-/// Words that a sample may have and a made-up stream may not.
-fn next_to_800(random: &mut Random, draft: &mut Draft) {
-    let at = draft.at(4 + random.below(1920), stream(random, draft));
-    draft.words[at] = random.pick(&[0x400, 0x7FC, 0x7FF, 0x801, 0x804, 0x900]);
 }
 
 fn low_bits(random: &mut Random, draft: &mut Draft) {

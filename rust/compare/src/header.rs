@@ -14,7 +14,7 @@ fn header_name(refusal: Refusal) -> String {
 }
 
 /// What a format is made of, by its names.
-const OF_FORMATS: [(&str, u32); 13] = [
+const OF_FORMATS: [(&str, u32); 11] = [
     ("120_HZ", Format::HZ_120),
     ("100_HZ", Format::HZ_100),
     ("50_HZ", Format::HZ_50),
@@ -25,8 +25,6 @@ const OF_FORMATS: [(&str, u32); 13] = [
     ("CB", Format::CB),
     ("CR", Format::CR),
     ("444", Format::SAMPLING_444),
-    ("422", Format::SAMPLING_422),
-    ("420", Format::SAMPLING_420),
     ("4K", Format::SIZE_4K),
 ];
 
@@ -34,7 +32,7 @@ const OF_FORMATS: [(&str, u32); 13] = [
 /// no bit.
 pub fn run() -> Report {
     let mut r = Report::default();
-    for number in (1..=8).chain(20..=27) {
+    for number in (1..=8).chain(20..=26) {
         let refusal = Refusal::check(number, 0).expect_err("a refusal");
         let name = header_name(refusal);
         r.holds(|| format!("the header has no {name} = {number}"), HEADER.contains(&format!("    {name} = {number}")));

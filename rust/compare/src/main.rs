@@ -9,7 +9,6 @@ mod expected;
 mod flips;
 mod header;
 mod lent;
-mod made_up;
 mod night;
 mod pictures;
 mod pieces;
@@ -29,7 +28,7 @@ use std::process::ExitCode;
 type Comparison = fn() -> Report;
 
 /// All comparisons except the random one.
-const COMPARISONS: [(&str, Comparison); 15] = [
+const COMPARISONS: [(&str, Comparison); 14] = [
     ("header", header::run),
     ("vectors", vectors::run),
     ("characters", characters::run),
@@ -37,7 +36,6 @@ const COMPARISONS: [(&str, Comparison); 15] = [
     ("pictures", pictures::run),
     ("sending", sending::run),
     ("blanking", blanking::run),
-    ("made-up", made_up::run),
     ("refused-calls", refused_calls::run),
     ("reading", reading::run),
     ("areas", areas::run),

@@ -25,13 +25,12 @@ const PIECES: [Piece; 14] = [
     |random, format| changed(random, format, inverted),
 ];
 
-/// Random pieces, until there are that many symbols. Half of them are of any link: a span of another is refused where it has a picture in a
-/// stream that is made up here, and else it is delivered.
+/// Random pieces, until there are that many symbols. Each is of any component: reading does not depend on it.
 pub fn any_recording(random: &mut Random, format: Format, symbols: usize) -> Vec<u16> {
     let mut recording = Vec::new();
     while recording.len() < symbols {
         let piece = random.pick(&PIECES);
-        let format = if random.flip() { format } else { any_carrying(random, format) };
+        let format = any_carrying(random, format);
         recording.extend(piece(random, format));
     }
     recording
@@ -72,12 +71,10 @@ fn commas(random: &mut Random) -> Vec<u16> {
     (0..count).map(|i| forms[(from + i * turns) % 2]).collect()
 }
 
-/// A span that is right except for one late fault: in the CRCC, the row, the fill, or the last symbol. Next to 800 is a fault in a made-up
-/// stream alone.
+/// A span that is right except for one late fault: in the CRCC, the row, the fill, or the last symbol.
 fn near_span(random: &mut Random, format: Format) -> Vec<u16> {
     let draft = Draft::at_random(random, format);
-    let late =
-        ["a bit of CRCC1", "a word at the end of what samples have", "a word next to 800 in the row", "the last fill word", "nothing"];
+    let late = ["a bit of CRCC1", "a word at the end of what samples have", "the last fill word", "nothing"];
     let name = random.pick(&late);
     let change = DAMAGES.iter().find(|(damage, _)| *damage == name).expect("a known damage").1;
     let mut symbols = damaged(random, draft, &[change], true);

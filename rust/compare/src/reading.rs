@@ -3,9 +3,8 @@
 use crate::calls;
 use crate::damage::{bit_of_xyzs, damaged, DAMAGES};
 use crate::report::{in_two, Report};
-use crate::spans::{any_carrying, any_line, every_second, on, shape_of, Draft, EDGES, KINDS, LINKS};
+use crate::spans::{any_carrying, any_line, every_second, shape_of, Draft, COMPONENTS, EDGES, KINDS};
 use plain::format::Format;
-use plain::images::is_made_up;
 use random::Random;
 use std::sync::atomic::{AtomicU64, Ordering};
 
@@ -15,10 +14,10 @@ const OFTEN: u64 = 50;
 /// How often each bit of each XYZ must be wrong in a span that is delivered, in each format.
 const OF_EACH_BIT: u64 = 20;
 
-/// How often each of 20 to 27 was met, how often a delivery had repairs, and how often by format, XYZ and bit.
+/// How often each of 20 to 26 was met, how often a delivery had repairs, and how often by format, XYZ and bit.
 #[derive(Default)]
 pub struct Met {
-    numbers: [AtomicU64; 28],
+    numbers: [AtomicU64; 27],
     repaired: AtomicU64,
     of_bit: [[[AtomicU64; 12]; 8]; 3],
 }
@@ -26,13 +25,13 @@ pub struct Met {
 pub fn run() -> Report {
     let met = Met::default();
     let mut r = in_two(valid);
-    r.add(in_two(as_each_link));
+    r.add(in_two(as_each_component));
     r.add(in_two(|part, r| single(part, r, &met)));
     r.add(in_two(|part, r| pairs(part, r, &met)));
     r.add(in_two(service_bits));
     r.add(in_two(|part, r| timing_words(part, r, &met)));
     r.add(in_two(|part, r| row_limits(part, r, &met)));
-    for number in 20..=27 {
+    for number in 20..=26 {
         let times = met.numbers[number].load(Ordering::Relaxed);
         r.holds(|| format!("refusal {number} was met {times} times only"), times >= OFTEN);
     }
@@ -47,12 +46,12 @@ pub fn run() -> Report {
     r
 }
 
-/// Sent spans of every format and depth, on every link, are delivered, with what was sent.
+/// Sent spans of every format, depth and component are delivered, with what was sent.
 fn valid(part: usize, r: &mut Report) {
     let mut random = Random(0xBB + part as u64);
     for format in every_second(part) {
         let edges = EDGES.into_iter().chain([2, 43, 127, 128, 255, 256, 1123, 1124]);
-        let lines: Vec<u32> = edges.chain((0..12).map(|_| random.within(1, 1125))).collect();
+        let lines: Vec<u32> = edges.chain((0..40).map(|_| random.within(1, 1125))).collect();
         for line in lines {
             let draft = Draft::of_line(&mut random, format, line);
             r.context = format!("a sent span of line {line}");
@@ -65,22 +64,19 @@ fn valid(part: usize, r: &mut Report) {
     }
 }
 
-/// A span is read alike as of whatever link on which the same streams are made up: one of C'B in 4:4:4 as Y', one of Y' in 4:2:2 as in 4:4:4.
-/// Sent as it should be, and with a damage.
-fn as_each_link(part: usize, r: &mut Report) {
+/// A span is read alike as whatever component: one of C'B as Y', and as any other. Sent as it should be, and with a damage.
+fn as_each_component(part: usize, r: &mut Report) {
     let mut random = Random(0x131 + part as u64);
-    for format in every_second(part).flat_map(|format| [format; 2]) {
-        let line = any_line(&mut random);
+    for (format, line) in every_second(part).flat_map(|format| EDGES.map(|line| (format, line))) {
         let (name, damage) = random.pick(&[DAMAGES[0], DAMAGES[random.0 as usize % DAMAGES.len()]]);
         let draft = Draft::of_line(&mut random, format, line);
         let samples = draft.shape.samples();
         let symbols = damaged(&mut random, draft, &[damage], true);
-        r.context = format!("line {line} of {format:?}, damage: {name}");
+        r.context = format!("line {line} of component {}, damage: {name}", format.component);
         let own = calls::read(r, format, &symbols, samples);
-        for other in LINKS.map(|link| on(format, link)) {
+        for other in COMPONENTS.map(|component| format.carrying(component)) {
             let read = calls::read(r, other, &symbols, samples);
-            let alike = (0..shape_of(format).streams).all(|t| is_made_up(other, t) == is_made_up(format, t));
-            r.holds(|| format!("read as {other:?} it is another span"), !alike || read == own);
+            r.holds(|| format!("read as component {} it is another span", other.component), read == own);
             calls::judge(r, other, &symbols);
             calls::next(r, other, &symbols, 0, samples);
         }

@@ -3,7 +3,7 @@
 use crate::calls;
 use crate::expected;
 use crate::report::{in_two, Report};
-use crate::spans::{any_asked, any_carrying, any_samples, any_sent, every_second, on, shape_of, FIELDS, KINDS, LINKS};
+use crate::spans::{any_asked, any_carrying, any_samples, any_sent, shape_of, COMPONENTS, FIELDS, KINDS};
 use brazulint::{raw, Request, StreamLine};
 use plain::format::Format;
 use plain::recording::LIMIT;
@@ -14,7 +14,7 @@ use std::ptr::{null, null_mut};
 const NUMBERS: [u32; 9] = [0, 1, 2, 3, 4, 5, 257, 65_537, u32::MAX];
 const DEPTHS: [u32; 10] = [0, 8, 10, 11, 12, 14, 266, 268, 65_546, u32::MAX];
 /// One above the highest known number of each field.
-const ABOVE: [u32; 5] = [4, 13, 7, 4, 2];
+const ABOVE: [u32; 5] = [4, 13, 7, 2, 2];
 const LINES: [u32; 10] = [0, 1, 41, 42, 1121, 1122, 1125, 1126, 65_578, u32::MAX];
 const SAMPLES: [usize; 7] = [0, 3839, 3840, 3841, 7679, 7680, 7681];
 const SYMBOLS: [usize; 10] = [0, 7919, 7920, 7921, 9503, 9504, 9505, 19_007, 19_008, 19_009];
@@ -32,10 +32,10 @@ pub fn run() -> Report {
     r
 }
 
-/// Calls `work` with every second of the formats: every number with every depth, every link, and formats of which one field is unknown.
+/// Calls `work` with every second of the formats: every number with every depth, every component, and formats of which one field is unknown.
 fn each_kind(part: usize, work: impl FnMut(Format)) {
     let plain = NUMBERS.into_iter().flat_map(|number| DEPTHS.map(|depth| Format::plain(number, depth)));
-    let carrying = LINKS.into_iter().flat_map(|link| KINDS.map(|kind| on(kind, link)));
+    let carrying = COMPONENTS.into_iter().flat_map(|component| KINDS.map(|kind| kind.carrying(component)));
     let unknown = [KINDS[1], KINDS[4]].into_iter().flat_map(unknown);
     plain.chain(carrying).chain(unknown).skip(part).step_by(2).for_each(work);
 }
@@ -50,9 +50,9 @@ fn formats(r: &mut Report) {
 }
 
 /// A format with each of its fields unknown, one at a time: 0, one above the known, and numbers that would be the known one if they were cut
-/// to eight bits, to sixteen or to thirty-one; and with components that a structure lacks, G', B' and R' in 4:2:2 and in 4:2:0.
+/// to eight bits, to sixteen or to thirty-one.
 fn unknown(good: Format) -> Vec<Format> {
-    let mut all: Vec<Format> = [(1, 2), (2, 2), (3, 2), (1, 3), (2, 3), (3, 3)].map(|lacked| on(good, lacked)).into();
+    let mut all = Vec::new();
     for (field, above) in FIELDS.into_iter().zip(ABOVE) {
         let mut format = good;
         let known = *field(&mut format);
@@ -67,12 +67,15 @@ fn unknown(good: Format) -> Vec<Format> {
 /// One field of a format unknown, and all else good: every call that takes a format refuses it with 1, and leaves what it was lent.
 fn unknown_fields(part: usize, r: &mut Report) {
     let mut random = Random(0x5B + part as u64);
-    for good in every_second(part) {
-        let [samples, span] = [any_samples(&mut random, good, 42), any_sent(&mut random, good)];
-        every_call(r, good, &samples, &span);
-        for format in unknown(good) {
-            r.holds(|| format!("plain knows {format:?}"), plain::span::lengths(format) == Err((1, 0)));
-            every_call(r, format, &samples, &span);
+    for good in KINDS.into_iter().skip(part).step_by(2) {
+        for component in COMPONENTS {
+            let good = good.carrying(component);
+            let [samples, span] = [any_samples(&mut random, good, 42), any_sent(&mut random, good)];
+            every_call(r, good, &samples, &span);
+            for format in unknown(good) {
+                r.holds(|| format!("plain knows {format:?}"), plain::span::lengths(format) == Err((1, 0)));
+                every_call(r, format, &samples, &span);
+            }
         }
     }
 }

@@ -1,17 +1,16 @@
 //! Random spans, as words that can still be changed.
 
 use plain::format::Format;
-use plain::images::{is_made_up, MADE_UP};
-use plain::span::{characters, row_words, shape, symbols, words, Asked, Shape, ROW};
+use plain::span::{characters, row_words, shape, symbols, words, Asked, Shape};
 use plain::words::{blanking, crcc_of, is_active, nearest};
 use random::Random;
 
-/// Every format at every depth, of G' in 4:4:4.
+/// Every format at every depth, of G'.
 pub const KINDS: [Format; 6] =
     [Format::plain(1, 10), Format::plain(1, 12), Format::plain(2, 10), Format::plain(2, 12), Format::plain(3, 10), Format::plain(3, 12)];
 
-/// What a link may carry, component and structure: G', B', R', Y', C'B, C'R in 4:4:4, and the last three in 4:2:2 and in 4:2:0.
-pub const LINKS: [(u32, u32); 12] = [(1, 1), (2, 1), (3, 1), (4, 1), (5, 1), (6, 1), (4, 2), (5, 2), (6, 2), (4, 3), (5, 3), (6, 3)];
+/// The components that a link may carry: G', B', R', Y', C'B, C'R.
+pub const COMPONENTS: [u32; 6] = [1, 2, 3, 4, 5, 6];
 
 /// The fields of a format, in the order of the header.
 pub const FIELDS: [fn(&mut Format) -> &mut u32; 5] =
@@ -24,25 +23,20 @@ pub fn shape_of(format: Format) -> Shape {
     shape(format).expect("a known format")
 }
 
-/// A kind, on one of these links.
-pub fn on(kind: Format, (component, structure): (u32, u32)) -> Format {
-    kind.carrying(component).sampled(structure)
-}
-
-/// A kind, on any link.
+/// A kind, of any component.
 pub fn any_carrying(random: &mut Random, kind: Format) -> Format {
-    on(kind, random.pick(&LINKS))
+    kind.carrying(random.pick(&COMPONENTS))
 }
 
-/// Any kind, on any link.
+/// Any kind, of any component.
 pub fn any_kind(random: &mut Random) -> Format {
     let kind = random.pick(&KINDS);
     any_carrying(random, kind)
 }
 
-/// Every second kind, on every link.
+/// Every second kind, with every component.
 pub fn every_second(part: usize) -> impl Iterator<Item = Format> {
-    KINDS.into_iter().skip(part).step_by(2).flat_map(|kind| LINKS.map(|link| on(kind, link)))
+    KINDS.into_iter().skip(part).step_by(2).flat_map(|kind| COMPONENTS.map(|component| kind.carrying(component)))
 }
 
 /// A line: an edge, or any.
@@ -69,7 +63,7 @@ pub fn any_samples(random: &mut Random, format: Format, line: u32) -> Vec<u16> {
         1 => high,
         _ => random.within(low, high),
     };
-    (0..count).map(|i| if is_made_up(format, i / ROW) { MADE_UP } else { sample() as u16 }).collect()
+    (0..count).map(|_| sample() as u16).collect()
 }
 
 /// A random span as it is sent.

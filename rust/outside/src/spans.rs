@@ -1,7 +1,6 @@
 //! Random spans to read, sent correctly (01, "A span" and "Sending").
 
 use plain::format::Format;
-use plain::images::{is_made_up, MADE_UP};
 use plain::span::{characters, shape, symbols, words, Shape, ROW};
 use plain::words::{blanking, is_active};
 use random::Random;
@@ -21,7 +20,6 @@ fn rows(random: &mut Random, format: Format, line: u32) -> Vec<u16> {
     }
     for (k, t) in (0..ROW).flat_map(|k| (0..shape.streams).map(move |t| (k, t))) {
         rows[t * ROW + k] = match (format.depth, ends_alone) {
-            _ if is_made_up(format, t) => MADE_UP,
             (10, true) => random.pick(&[16, 4076]),
             (10, false) => (random.within(4, 1019) as u16) << 2,
             (_, true) => random.pick(&[16, 4079]),

@@ -1,4 +1,4 @@
-//! The format of a link: five numbers, as the caller gives them, and which of them are known (01, "A span"; 02, A3 and A5).
+//! The format of a link: five numbers, as the caller gives them, and which of them are known (01, "A span"; 02, A3).
 
 /// In every field 0 is unknown, so that a forgotten one is refused and never guessed.
 #[derive(Clone, Copy, Debug, PartialEq, Eq)]
@@ -9,7 +9,7 @@ pub struct Format {
     pub depth: u32,
     /// 1 to 6: G', B', R', Y', C'B, C'R.
     pub component: u32,
-    /// 1, 2, 3: 4:4:4, 4:2:2, 4:2:0.
+    /// 1: 4:4:4.
     pub structure: u32,
     /// 1: 4K.
     pub size: u32,
@@ -26,20 +26,9 @@ impl Format {
         Format { component, ..self }
     }
 
-    /// The same for another sampling structure.
-    pub const fn sampled(self, structure: u32) -> Format {
-        Format { structure, ..self }
-    }
-
-    /// Whether every field is one of the numbers above, and the structure has the component: 4:2:2 and 4:2:0 have Y', C'B and C'R alone
-    /// (004, table 3).
+    /// Whether every field is one of the numbers above.
     pub fn is_known(self) -> bool {
-        let components = match self.structure {
-            1 => 1..=6,
-            2 | 3 => 4..=6,
-            _ => return false,
-        };
-        let link = (1..=3).contains(&self.number) && [10, 12].contains(&self.depth) && self.size == 1;
-        link && components.contains(&self.component)
+        let link = (1..=3).contains(&self.number) && [10, 12].contains(&self.depth) && (1..=6).contains(&self.component);
+        link && self.structure == 1 && self.size == 1
     }
 }

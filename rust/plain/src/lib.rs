@@ -4,7 +4,6 @@
 
 pub mod code;
 pub mod format;
-pub mod images;
 pub mod picture;
 pub mod published;
 pub mod read;

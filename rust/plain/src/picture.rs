@@ -1,7 +1,7 @@
 //! Dividing a picture into basic images (004, 5.3), and which row a stream line carries.
 
 use crate::format::Format;
-use crate::images::links;
+use crate::span::shape;
 use crate::words::is_active;
 use crate::{refuse_unless, Answer};
 
@@ -28,12 +28,12 @@ pub fn place(line: u32, sample: u32) -> Answer<Place> {
     Ok(Place { image, line: of_image, stream_line: of_image + 41, sample: sample / 2 })
 }
 
-/// The basic image and the line of the picture that come on a stream line of a link; 2 also for a link that the component does not have, and
-/// for a stream that is made up. Tried by the place of every line.
+/// The basic image and the line of the picture that come on a stream line of a link: at 120 and 100 Hz the two links of a component have two
+/// streams each, at 50 Hz the one has four (01, "Dividing a picture"). Tried by the place of every line.
 pub fn way_back(format: Format, link: u32, stream: u32, stream_line: u32) -> Answer<(u32, u32)> {
-    refuse_unless(format.is_known(), 1)?;
-    let images = links(format).get(link.wrapping_sub(1) as usize).ok_or((2, 0))?;
-    let image = images.get(stream.wrapping_sub(1) as usize).copied().flatten().ok_or((2, 0))?;
+    let carried: &[&[u32]] = if shape(format)?.streams == 2 { &[&[1, 2], &[3, 4]] } else { &[&[1, 2, 3, 4]] };
+    let link = carried.get(link.wrapping_sub(1) as usize).ok_or((2, 0))?;
+    let image = *link.get(stream.wrapping_sub(1) as usize).ok_or((2, 0))?;
     let goes_there = |line: &u32| (0..2).any(|sample| place(*line, sample).is_ok_and(|p| (p.image, p.stream_line) == (image, stream_line)));
     (1..=2160).find(goes_there).map(|line| (image, line)).ok_or((2, 0))
 }

@@ -1,8 +1,7 @@
-//! Reading one span (01, "Receiving and finding" and "Refusal numbers"): tests 20 to 27, each over the whole span before the next.
+//! Reading one span (01, "Receiving and finding" and "Refusal numbers"): tests 20 to 26, each over the whole span before the next.
 
 use crate::code::{encode, meaning, K28_5, K29_7};
 use crate::format::Format;
-use crate::images::{is_made_up, MADE_UP};
 use crate::span::{shape, Shape, ROW};
 use crate::words::{crcc_of, differ, is_active, line_before, named, nearest, Repaired, FILL};
 use crate::{refuse_unless, Answer};
@@ -151,14 +150,8 @@ fn test_fill(shape: Shape, words: &Words) -> Answer<()> {
     }
 }
 
-/// 27: on every line each word of the row of a made-up stream is 800 (004, 7.2.3 and 7.2.4; 02, A5).
-fn test_made_up(words: &Words, format: Format) -> Answer<()> {
-    words.each(27, ROW_AT..EAV_AT, |k, t| !is_made_up(format, t) || words.at(k, t) == MADE_UP)
-}
-
 /// A span of the right length.
-pub fn window(format: Format, symbols: &[u16]) -> Answer<Delivered> {
-    let shape = shape(format)?;
+pub fn window(shape: Shape, depth: u32, symbols: &[u16]) -> Answer<Delivered> {
     let (characters, positive_before, positive_after) = characters(shape, symbols)?;
     let words = words(shape, &characters);
     test_timing(&words)?;
@@ -166,9 +159,8 @@ pub fn window(format: Format, symbols: &[u16]) -> Answer<Delivered> {
     let line = line_before(next);
     test_v(&words, line, next)?;
     test_crcc(&words)?;
-    test_samples(&words, format.depth, line)?;
+    test_samples(&words, depth, line)?;
     test_fill(shape, &words)?;
-    test_made_up(&words, format)?;
 
     let eav = shape.eav_symbol();
     let content = [2, 3, eav + 2, eav + 3].map(|i| characters[i] as u8);
@@ -184,12 +176,12 @@ pub fn read(format: Format, symbols: &[u16], room: usize) -> Answer<Delivered> {
     let shape = shape(format)?;
     refuse_unless(symbols.len() == shape.symbols(), 3)?;
     refuse_unless(room == shape.samples(), 4)?;
-    window(format, symbols)
+    window(shape, format.depth, symbols)
 }
 
 /// The same without rows.
 pub fn judge(format: Format, symbols: &[u16]) -> Answer<Delivered> {
     let shape = shape(format)?;
     refuse_unless(symbols.len() == shape.symbols(), 3)?;
-    window(format, symbols)
+    window(shape, format.depth, symbols)
 }

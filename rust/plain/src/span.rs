@@ -2,7 +2,6 @@
 
 use crate::code::{encode, K28_5, K29_7};
 use crate::format::Format;
-use crate::images::{is_made_up, MADE_UP};
 use crate::words::{blanking, crcc_of, is_active, line_after, line_words, timing_code, FILL};
 use crate::{refuse_unless, Answer};
 
@@ -101,11 +100,10 @@ pub fn symbols(positive: bool, characters: &[u16]) -> (Vec<u16>, bool) {
     (symbols, disparity)
 }
 
-/// The word of a sample of a stream, counted from 0: itself on a blanking line and in a made-up stream, where it already has twelve bits, or
-/// shifted at depth 10 (004, 6.1). None if the sample may not be sent (01, "Words of a stream" and "Sending"; 02, A5).
-fn word_of(format: Format, line: u32, stream: usize, sample: u16) -> Option<u16> {
+/// The word of a sample: itself on a blanking line, where it already has twelve bits, or shifted at depth 10 (004, 6.1). None if the sample
+/// may not be sent (01, "Words of a stream" and "Sending").
+fn word_of(format: Format, line: u32, sample: u16) -> Option<u16> {
     match (is_active(line), format.depth) {
-        _ if is_made_up(format, stream) => (sample == MADE_UP).then_some(sample),
         (false, _) => (sample == blanking(format)).then_some(sample),
         (true, 10) => (4..=1019).contains(&sample).then_some(sample << 2),
         (true, _) => (16..=4079).contains(&sample).then_some(sample),
@@ -114,7 +112,7 @@ fn word_of(format: Format, line: u32, stream: usize, sample: u16) -> Option<u16>
 
 /// Samples stream by stream to words; 6 at the lowest index of one that may not be sent.
 pub fn row_words(format: Format, line: u32, samples: &[u16]) -> Answer<Vec<u16>> {
-    let word = |(i, &sample): (usize, &u16)| word_of(format, line, i / ROW, sample).ok_or((6, i as u64));
+    let word = |(i, &sample): (usize, &u16)| word_of(format, line, sample).ok_or((6, i as u64));
     samples.iter().enumerate().map(word).collect()
 }
 

@@ -1,4 +1,4 @@
--- The check of the samples of a stream against its bounds.
+-- The check of samples against the bounds of a line.
 -- Assumes nothing.
 use Rattle.std.specs.Prelude.{ℕ, Bool, true, not, ◌&&◌, List, [], ◌∷◌, length, get_or}
 use Rattle.std.proofs.Math.Option

@@ -1,19 +1,14 @@
 -- Sending a span: definitions that only loops and proofs use. The rest is in specs/Send.
 -- Assumes nothing.
 use Rattle.std.specs.Prelude.{ℕ, ◌<◌, ◌≡◌, true, false, length}
-use Rattle.std.proofs.Math.Option.{get_or}
 use Rattle.span.specs.declared.format.Format.{Format}
 use Rattle.span.specs.Format.{is_known, shape_of, samples_in}
+use Rattle.span.specs.Sample.{allowed}
 use Rattle.span.specs.Stream.{Request}
-use Rattle.request.specs.Send.{forbidden, first_forbidden}
+use Rattle.request.specs.Send.{forbidden}
 
 -- what may be sent, the symbol buffer apart
 pub record Accepted (f : Format) (a : Request) : Type 0 where
   pub known : is_known f ≡ true
   pub samples : length a.samples ≡ samples_in (shape_of f)
   pub allowed : (i : ℕ) → i < length a.samples → forbidden f a i ≡ false
-
--- 6 as a number for a loop: the lowest index of a sample that may not be sent; the number of samples if there is none
-unfoldable pub first_wrong : Format → Request → ℕ
-unfolding first_forbidden
-first_wrong f a = get_or (first_forbidden f a) (length a.samples)

@@ -1,7 +1,7 @@
 -- What the sender's loops put into the symbol buffer, with the running disparity kept as its offset in the encoder's tables. Only private
 -- functions use this. Law `whole_is`: all of it together is the characters of the span.
 -- Assumes nothing.
-use Rattle.std.specs.Prelude.{◌≡◌, ℕ, zero, suc, ◌+◌, ◌-◌, ◌*◌, ◌/◌, ◌<◌, true, false, cond, List, [], ◌∷◌, ◌++◌, length, drop, ◌==◌, slice_index, slice_set}
+use Rattle.std.specs.Prelude.{◌≡◌, ℕ, zero, suc, ◌+◌, ◌-◌, ◌*◌, ◌<◌, true, false, cond, List, [], ◌∷◌, ◌++◌, length, drop, ◌==◌, slice_index, slice_set}
 use Rattle.std.proofs.lemmas.List.Edits.{sets}
 use Rattle.ground.specs.Written.{upto, table}
 use Rattle.symbol.specs.declared.disparity.Disparity.{Disparity}
@@ -26,7 +26,6 @@ use Rattle.span.specs.declared.format.Shape.{Shape}
 use Rattle.span.specs.Content.{content_of}
 use Rattle.span.specs.Encoding.{symbols_from, after_run}
 use Rattle.span.specs.Format.{shape_of}
-use Rattle.span.specs.Inside.Sample.{bounds_of}
 use Rattle.span.specs.Sample.{blank_word}
 use Rattle.span.specs.Span.{interleaved, bytes_listed, bytes, fill_word}
 use Rattle.send.specs.declared.coder.Coded.{Coded}
@@ -80,13 +79,9 @@ unfoldable pub timing_chars : ℕ → ℕ → ℕ → ℕ → ℕ → List ℕ
 timing_chars pairs k content1 content2 xyz =
     k ∷ k ∷ content1 ∷ content2 ∷ drop 4 (bytes (interleaved (2 * pairs) 4 (λ t. 0xFFF ∷ 0x000 ∷ 0x000 ∷ xyz ∷ [])))
 
--- the samples of a stream, each by the factor that makes it a word
+-- each sample by the factor that makes it a word
 unfoldable pub scaled_words : ℕ → List ℕ → List ℕ
 scaled_words factor xs = table (length xs) (λ i. slice_index xs i * factor)
-
--- the samples of all streams of line n: sample i is one of stream i / 1920, and goes by that stream's factor
-unfoldable pub words_by : Format → ℕ → List ℕ → List ℕ
-words_by f n xs = table (length xs) (λ i. slice_index xs i * (bounds_of f n (i / 1920)).factor)
 
 -- word j of stream t of the picture
 abbrev pub picture_word : List ℕ → ℕ → ℕ → ℕ
@@ -162,7 +157,3 @@ pub record AreWords (xs : List ℕ) : Type 0 where
 -- each sample by the factor is one
 pub record Fits (factor : ℕ) (xs : List ℕ) : Type 0 where
   pub fits : (i : ℕ) → i < length xs → slice_index xs i * factor < 4096
-
--- and so is each by the factor of its stream
-pub record FitsBy (f : Format) (n : ℕ) (xs : List ℕ) : Type 0 where
-  pub fits : (i : ℕ) → i < length xs → slice_index xs i * (bounds_of f n (i / 1920)).factor < 4096

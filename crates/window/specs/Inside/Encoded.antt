@@ -18,7 +18,7 @@ use Rattle.line.specs.Stream.{is_line}
 use Rattle.window.specs.declared.delivery.Delivery.{Delivery}
 use Rattle.window.specs.Encoded.{chars_of, AreContent, word_in, sample_of}
 use Rattle.window.specs.Read.{placed, content_in, repairs_of}
-use Rattle.window.specs.Tests.{word_of, holds21, holds22, holds23, holds24, holds25, holds26, holds27, line_read, repair_count, repairs_at}
+use Rattle.window.specs.Tests.{word_of, holds21, holds22, holds23, holds24, holds25, holds26, line_read, repair_count, repairs_at}
 use Rattle.window.specs.Words.{fixed_byte, word_at}
 
 -- words whose replaced bytes, in SAV and EAV, have the values that a receiver assumes
@@ -26,7 +26,7 @@ pub record Restored (p : Shape) (words : List ℕ) : Type 0 where
   pub sav : (i : ℕ) → i < 4 → get_or (bytes words) i 0 ≡ fixed_byte (streams p) i
   pub eav : (i : ℕ) → i < 4 → get_or (bytes words) (eav_at p + i) 0 ≡ fixed_byte (streams p) i
 
--- words that pass tests 21 to 27: those that meet the rules (`passes-meets`, `meets-passes`)
+-- words that pass tests 21 to 26: those that meet the rules (`passes-meets`, `meets-passes`)
 pub record Passes (f : Format) (word : ℕ → ℕ) : Type 0 where
   pub timing : (k : ℕ) → k < 2 * pairs_in (shape_of f) → placed (streams (shape_of f)) (holds21 (streams (shape_of f)) word) k ≡ true
   pub line_number : (k : ℕ) → k < 2 * pairs_in (shape_of f) → placed (streams (shape_of f)) (holds22 (streams (shape_of f)) word) k ≡ true
@@ -34,7 +34,6 @@ pub record Passes (f : Format) (word : ℕ → ℕ) : Type 0 where
   pub crcc : (k : ℕ) → k < 2 * pairs_in (shape_of f) → placed (streams (shape_of f)) (holds24 (streams (shape_of f)) word) k ≡ true
   pub picture : (k : ℕ) → k < 2 * pairs_in (shape_of f) → placed (streams (shape_of f)) (holds25 (streams (shape_of f)) word f) k ≡ true
   pub fill : (k : ℕ) → k < 2 * pairs_in (shape_of f) → placed (streams (shape_of f)) (holds26 (streams (shape_of f)) word f) k ≡ true
-  pub made_up : (k : ℕ) → k < 2 * pairs_in (shape_of f) → placed (streams (shape_of f)) (holds27 (streams (shape_of f)) word f) k ≡ true
 
 -- what is answered for words that pass the tests
 abbrev pub answered : Format → Disparity → ContentBytes → List ℕ → Delivery
@@ -64,7 +63,7 @@ pub record Sendable (f : Format) (a : Request) : Type 0 where
 abbrev pub samples_read : Format → (ℕ → ℕ) → List ℕ
 samples_read f word =
     let s = streams (shape_of f) in
-    table (samples_in (shape_of f)) (λ i. sample_of f (line_read s word) (i / 1920) (word_of s word (picture_start + i % 1920) (i / 1920)))
+    table (samples_in (shape_of f)) (λ i. sample_of f (line_read s word) (word_of s word (picture_start + i % 1920) (i / 1920)))
 
 -- the request that has such words and content bytes sent
 abbrev pub request_for : Format → ContentBytes → (ℕ → ℕ) → Request

@@ -8,8 +8,7 @@ use super::words::{crcc_words, named, repair, step, XYZ};
 use brazulint::{Content, Delivery, StreamLine};
 use plain::code::{encode, K28_5, K29_7};
 use plain::format::Format;
-use plain::images::{is_made_up, MADE_UP};
-use plain::span::{shape, Shape, ROW};
+use plain::span::{shape, Shape};
 use plain::words::{is_active, line_before, FILL};
 use plain::{refuse_unless, Answer};
 
@@ -185,25 +184,16 @@ unsafe fn picture<const S: usize>(reader: &mut Reader, rows: &mut [u16]) -> [u32
     std::array::from_fn(|t| (two[t / 2 * 2] >> (32 * (t % 2))) as u32)
 }
 
-/// Whether an active line may carry all words of a stream.
-fn are_samples(depth: u32, row: &[u16]) -> bool {
-    let outside = row.iter().fold(0, |outside, word| outside | word.wrapping_sub(16).saturating_sub(4063));
-    let bits = row.iter().fold(0, |bits, word| bits | word);
+/// Whether an active line may carry all words.
+fn all_allowed(depth: u32, rows: &[u16]) -> bool {
+    let outside = rows.iter().fold(0, |outside, word| outside | word.wrapping_sub(16).saturating_sub(4063));
+    let bits = rows.iter().fold(0, |bits, word| bits | word);
     outside == 0 && (depth == 12 || bits % 4 == 0)
-}
-
-/// Whether a line may carry all words. Made-up streams are looked at once: what is 800 is a sample too.
-fn all_allowed(format: Format, line: u32, rows: &[u16]) -> bool {
-    let allowed = |(stream, row): (usize, &[u16])| match is_made_up(format, stream) {
-        true => row.iter().fold(0, |wrong, word| wrong | (word ^ MADE_UP)) == 0,
-        false => !is_active(line) || are_samples(format.depth, row),
-    };
-    rows.chunks_exact(ROW).enumerate().all(allowed)
 }
 
 /// A span of S streams; none if anything in it is wrong. Sound if both lengths are right.
 #[inline(never)]
-unsafe fn span<const S: usize>(tables: &Tables, shape: Shape, format: Format, symbols: &[u16], rows: &mut [u16]) -> Option<Delivery> {
+unsafe fn span<const S: usize>(tables: &Tables, shape: Shape, depth: u32, symbols: &[u16], rows: &mut [u16]) -> Option<Delivery> {
     if symbols.iter().fold(0, |all, symbol| all | symbol) > 1023 {
         return None;
     }
@@ -235,40 +225,40 @@ unsafe fn span<const S: usize>(tables: &Tables, shape: Shape, format: Format, sy
         }
     }
     let reader = reader.area(shape.ancillary * S / 2 * 3);
-    let fine = reader.bad == 0 && reader.is_filled() && all_allowed(format, line, rows);
+    let fine = reader.bad == 0 && reader.is_filled() && (!is_active(line) || all_allowed(depth, rows));
     let content = Content { sav1, sav2, eav1, eav2 };
     let (line, positive_after) = (StreamLine(line), reader.mask == POSITIVE);
     fine.then_some(Delivery { line, content, positive_before, positive_after, repairs, repairs_of_bit })
 }
 
-/// Gives what the span says about itself. Its words go into rows, or zeros if it is refused by 20 to 27.
+/// Gives what the span says about itself. Its words go into rows, or zeros if it is refused by 20 to 26.
 #[inline(never)]
 pub fn read(tables: &Tables, format: Format, symbols: &[u16], rows: &mut [u16]) -> Answer<Delivery> {
-    let shape = shape(format)?;
+    let (shape, depth) = (shape(format)?, format.depth);
     refuse_unless(symbols.len() == shape.symbols(), 3)?;
     refuse_unless(rows.len() == shape.samples(), 4)?;
     // Sound: both lengths were checked above.
     let delivery = unsafe {
         match shape.streams {
-            2 => span::<2>(tables, shape, format, symbols, rows),
-            _ => span::<4>(tables, shape, format, symbols, rows),
+            2 => span::<2>(tables, shape, depth, symbols, rows),
+            _ => span::<4>(tables, shape, depth, symbols, rows),
         }
     };
     delivery.ok_or_else(|| {
         rows.fill(0);
-        plain::read::window(format, symbols).expect_err("something was wrong")
+        plain::read::window(shape, depth, symbols).expect_err("something was wrong")
     })
 }
 
 /// The same for a caller who does not ask why a span is refused, and does not use the rows then.
 #[inline(never)]
-fn accepted(tables: &Tables, shape: Shape, format: Format, symbols: &[u16], rows: &mut [u16]) -> Option<Delivery> {
+fn accepted(tables: &Tables, shape: Shape, depth: u32, symbols: &[u16], rows: &mut [u16]) -> Option<Delivery> {
     assert!(symbols.len() == shape.symbols() && rows.len() == shape.samples());
     // Sound: both lengths are right.
     unsafe {
         match shape.streams {
-            2 => span::<2>(tables, shape, format, symbols, rows),
-            _ => span::<4>(tables, shape, format, symbols, rows),
+            2 => span::<2>(tables, shape, depth, symbols, rows),
+            _ => span::<4>(tables, shape, depth, symbols, rows),
         }
     }
 }

@@ -1,11 +1,9 @@
-//! Sending (01, "A span" and "Sending"): the samples of each stream are checked in one pass without branches, and then a span is written in
-//! one pass.
+//! Sending (01, "A span" and "Sending"): all samples are checked in one pass without branches, and then a span is written in one pass.
 
 use super::words::{crcc_words, line_words, step, xyz};
 use plain::code::{encode, K28_5, K29_7};
 use plain::format::Format;
-use plain::images::{is_made_up, MADE_UP};
-use plain::span::{shape, Asked, Shape, ROW};
+use plain::span::{shape, Asked};
 use plain::words::{blanking, is_active, line_after, FILL};
 use plain::{refuse_unless, Answer};
 
@@ -127,63 +125,34 @@ unsafe fn span<const S: usize>(tables: &Tables, asked: Asked, samples: &[u16], s
     out.offset == 268
 }
 
-/// The lowest and the highest sample allowed in a stream, and by how much samples are shifted (004, 6.1, 6.8, 7.2.3 and 7.2.4).
-pub fn allowed(format: Format, line: u32, stream: usize) -> (u16, u16, u32) {
+/// The lowest and the highest sample allowed, and by how much samples are shifted (004, 6.1 and 6.8).
+pub fn allowed(format: Format, line: u32) -> (u16, u16, u32) {
     match (is_active(line), format.depth) {
-        _ if is_made_up(format, stream) => (MADE_UP, MADE_UP, 0),
         (false, _) => (blanking(format), blanking(format), 0),
         (true, 10) => (4, 1019, 2),
         (true, _) => (16, 4079, 0),
     }
 }
 
-/// 6 at the first sample that is not allowed, which is searched for only if there is one.
-fn check(format: Format, line: u32, samples: &[u16]) -> Answer<()> {
-    for (stream, row) in samples.chunks_exact(ROW).enumerate() {
-        let (low, high, _) = allowed(format, line, stream);
-        let beyond = |x: u16| x.wrapping_sub(low).saturating_sub(high - low);
-        if row.iter().fold(0, |bad, &x| bad | beyond(x)) != 0 {
-            let place = row.iter().position(|&x| beyond(x) != 0).expect("one was bad");
-            return Err((6, (ROW * stream + place) as u64));
-        }
-    }
-    Ok(())
-}
-
-/// The samples, with 200 in made-up streams, which shifted by two is 800.
-#[inline(never)]
-fn for_shift(format: Format, samples: &[u16]) -> [u16; 4 * ROW] {
-    let mut rows = [MADE_UP >> 2; 4 * ROW];
-    for (stream, row) in samples.chunks_exact(ROW).enumerate().filter(|&(stream, _)| !is_made_up(format, stream)) {
-        rows[ROW * stream..ROW * (stream + 1)].copy_from_slice(row);
-    }
-    rows
-}
-
-/// Gives the disparity after the span.
+/// Gives the disparity after the span. A bad sample is searched for only if there is one.
 #[inline(never)]
 pub fn send(tables: &Tables, asked: Asked, samples: &[u16], symbols: &mut [u16]) -> Answer<bool> {
     let shape = shape(asked.format)?;
     refuse_unless((1..=1125).contains(&asked.line), 2)?;
     refuse_unless(samples.len() == shape.samples(), 3)?;
     refuse_unless(symbols.len() == shape.symbols(), 4)?;
-    check(asked.format, asked.line, samples)?;
-    // Stream 1 is never made up.
-    let (_, _, shift) = allowed(asked.format, asked.line, 0);
-    // Sound: everything was checked above.
-    Ok(if shift == 2 && (0..shape.streams).any(|stream| is_made_up(asked.format, stream)) {
-        let rows = for_shift(asked.format, samples);
-        unsafe { whole(tables, shape, asked, &rows[..samples.len()], shift, symbols) }
-    } else {
-        unsafe { whole(tables, shape, asked, samples, shift, symbols) }
-    })
-}
-
-/// Sound if nothing in the request is to be refused.
-unsafe fn whole(tables: &Tables, shape: Shape, asked: Asked, samples: &[u16], shift: u32, symbols: &mut [u16]) -> bool {
-    let fill = shape.fill / 2 * 3;
-    match shape.streams {
-        2 => span::<2>(tables, asked, samples, shift, fill, symbols),
-        _ => span::<4>(tables, asked, samples, shift, fill, symbols),
+    let (low, high, shift) = allowed(asked.format, asked.line);
+    let beyond = |x: u16| x.wrapping_sub(low).saturating_sub(high - low);
+    if samples.iter().fold(0, |bad, &x| bad | beyond(x)) != 0 {
+        let place = samples.iter().position(|&x| beyond(x) != 0);
+        return Err((6, place.expect("one was bad") as u64));
     }
+    let fill = shape.fill / 2 * 3;
+    // Sound: everything was checked above.
+    Ok(unsafe {
+        match shape.streams {
+            2 => span::<2>(tables, asked, samples, shift, fill, symbols),
+            _ => span::<4>(tables, asked, samples, shift, fill, symbols),
+        }
+    })
 }

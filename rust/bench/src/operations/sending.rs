@@ -5,17 +5,14 @@ use crate::cases::{given, Case, CASES, SPANS, TURNS};
 use crate::fast::send::{allowed, send, tables, Tables};
 use crate::timing::Three;
 use brazulint::{Content, Request, StreamLine};
-use plain::span::{Asked, ROW};
+use plain::span::Asked;
 use random::Random;
 use std::hint::black_box;
 
 fn samples(case: &Case) -> Vec<u16> {
     let mut random = Random(2);
-    let mut sample = |i: usize| {
-        let (low, high, _) = allowed(case.format, case.line, i / ROW);
-        random.within(low.into(), high.into()) as u16
-    };
-    (0..case.shape().samples()).map(&mut sample).collect()
+    let (low, high, _) = allowed(case.format, case.line);
+    (0..case.shape().samples()).map(|_| random.within(low.into(), high.into()) as u16).collect()
 }
 
 fn asked(case: &Case, positive: bool) -> Asked {

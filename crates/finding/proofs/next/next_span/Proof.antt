@@ -32,8 +32,8 @@ returns c =
     let known = sym c.before.before.before.before.is_known.ensures ∙ c.before.before.before.if1.true in
     let long : limit < length r = omega (arith, c.before.before.limit.ensures, c.before.if2.true) in
     let met = next_meets_3 a.f r a.start a.rows.now known long in (
-      ap (λ (n : Next). paper_next n.answer) c.refused_at.ensures ∙ met.0,
-      (ap (λ (n : Next). n.after) c.refused_at.ensures ∙ met.1, met.2),
+      ap (λ (n : Next). paper_next n.answer) c.refused-at.ensures ∙ met.0,
+      (ap (λ (n : Next). n.after) c.refused-at.ensures ∙ met.1, met.2),
     )
 
 span-lengths-requires : tie.Need-span-lengths-requires

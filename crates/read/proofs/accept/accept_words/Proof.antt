@@ -5,15 +5,14 @@ use mathlib.Core.List.{List}
 use mathlib.Core.Option.{some}
 use Prim.Native.Nat.{ℕ}
 use Rattle.read_test20.specs.declared.whole.Valid.{Valid}
-use Rattle.read_test21_27.specs.declared.call.Service.{Service}
-use Rattle.read_test21_27.specs.Inside.Call.{service_of}
-use Rattle.read_test21_27.specs.Inside.Verdict.{first_row}
+use Rattle.read_test21_26.specs.declared.call.Service.{Service}
+use Rattle.read_test21_26.specs.Inside.Call.{service_of}
+use Rattle.read_test21_26.specs.Inside.Verdict.{first_row}
 use Rattle.span.specs.Format.{shape_of}
 use Rattle.read.specs.Inside.Accept.{delivered_in}
-use Rattle.read.specs.Inside.Picture.{line_tests, right_picture, right_made_up}
+use Rattle.read.specs.Inside.Picture.{line_tests, right_picture}
 use Rattle.read.proofs.Accepted.{not_accepted}
-use Rattle.read.proofs.MadeUp.{picture_long}
-use Rattle.read.proofs.Picturing.{all_right, picture_refused, made_up_refused}
+use Rattle.read.proofs.Picturing.{both_hold, picture_refused}
 use Rattle.read.proofs.Verdicts.{serves_told, refused_told, never_none}
 use Rattle.read.proofs.Windows.{judged_is, first_hold, first_fails, read_by, delivery_is}
 use borrow.Author.Rules.{rules}
@@ -29,63 +28,41 @@ enum-known-service c = search rules
 picture-is-right-requires : tie.Need-picture-is-right-requires
 picture-is-right-requires c κs = search rules
 
-made-up-is-right-requires : tie.Need-made-up-is-right-requires
-made-up-is-right-requires c κs =
-    let s = c.before.before.before.before.before.before.before.before.before in
-    picture_long s.args.f s.args.symbols.now s.requires.1.1.1.1
-
 delivery-requires : tie.Need-delivery-requires
 delivery-requires c κs = search rules
 
 returns : tie.Need-returns
 returns c =
-    let m = c.before.before in
-    let p = m.before.before in
-    let s = p.before.before.before.before.before.before.before.before in
+    let s = c.before.before.before.before.before.before.before.before.before.before in
     let a = s.args in
     let w = a.symbols.now in
     let is = s.requires.0 in
-    let judged = judged_is a.f w is (ap (λ (x : Valid). x.sums) s.requires.1.1.0) p.before.before.before.before.service-of.ensures in
-    let told = serves_told (service_of (shape_of a.f) w) (first_row (line_tests a.f w)) (sym p.before.before.service.given.1 ∙ judged) in
+    let judged = judged_is a.f w is (ap (λ (x : Valid). x.sums) s.requires.1.1.0) c.before.before.before.before.before.before.service-of.ensures in
+    let told = serves_told (service_of (shape_of a.f) w) (first_row (line_tests a.f w)) (sym c.before.before.before.before.service.given.1 ∙ judged) in
     let right =
     sym (ap₂ (λ (n : ℕ) (l : List ℕ). right_picture a.f n l) (ap (λ (x : Service). x.line.0) told.1) s.requires.1.1.1.1)
-    ∙ sym p.picture-is-right.ensures ∙ m.before.if1.true in
-    let made = sym (ap (right_made_up a.f) s.requires.1.1.1.1) ∙ sym m.made-up-is-right.ensures ∙ c.before.if2.true in
-    let read = read_by a.f w is s.requires.1.0 (first_hold a.f w is told.0 ∙ sym (all_right a.f w is right s.requires.1.1.1.0 made)) in
+    ∙ sym c.before.before.picture-is-right.ensures ∙ c.before.if1.true in
+    let read = read_by a.f w is s.requires.1.0 (first_hold a.f w is told.0 ∙ sym (both_hold a.f w is right s.requires.1.1.1.0)) in
     ap some (c.delivery.ensures ∙ delivery_is a.f w is s.requires.1.1.0 told.1) ∙ sym (ap delivered_in read)
 
 returns-2 : tie.Need-returns-2
 returns-2 c =
-    let m = c.before in
-    let p = m.before.before in
-    let s = p.before.before.before.before.before.before.before.before in
+    let s = c.before.before.before.before.before.before.before.before.before in
     let a = s.args in
     let w = a.symbols.now in
     let is = s.requires.0 in
-    let judged = judged_is a.f w is (ap (λ (x : Valid). x.sums) s.requires.1.1.0) p.before.before.before.before.service-of.ensures in
-    let told = serves_told (service_of (shape_of a.f) w) (first_row (line_tests a.f w)) (sym p.before.before.service.given.1 ∙ judged) in
-    let made = sym (ap (right_made_up a.f) s.requires.1.1.1.1) ∙ sym m.made-up-is-right.ensures ∙ c.if2.false in
-    not_accepted a.f w is s.requires.1.0 told.0 (made_up_refused a.f w is made)
-
-returns-3 : tie.Need-returns-3
-returns-3 c =
-    let p = c.before in
-    let s = p.before.before.before.before.before.before.before.before in
-    let a = s.args in
-    let w = a.symbols.now in
-    let is = s.requires.0 in
-    let judged = judged_is a.f w is (ap (λ (x : Valid). x.sums) s.requires.1.1.0) p.before.before.before.before.service-of.ensures in
-    let told = serves_told (service_of (shape_of a.f) w) (first_row (line_tests a.f w)) (sym p.before.before.service.given.1 ∙ judged) in
+    let judged = judged_is a.f w is (ap (λ (x : Valid). x.sums) s.requires.1.1.0) c.before.before.before.before.before.service-of.ensures in
+    let told = serves_told (service_of (shape_of a.f) w) (first_row (line_tests a.f w)) (sym c.before.before.before.service.given.1 ∙ judged) in
     let right =
     sym (ap₂ (λ (n : ℕ) (l : List ℕ). right_picture a.f n l) (ap (λ (x : Service). x.line.0) told.1) s.requires.1.1.1.1)
-    ∙ sym p.picture-is-right.ensures ∙ c.if1.false in
+    ∙ sym c.before.picture-is-right.ensures ∙ c.if1.false in
     not_accepted a.f w is s.requires.1.0 told.0 (picture_refused a.f w is right)
 
 enum_told : tie.Need-enum-told
 enum_told c = search rules
 
-returns-4 : tie.Need-returns-4
-returns-4 c =
+returns-3 : tie.Need-returns-3
+returns-3 c =
     let s = c.before.before.before.before.before.before in
     let a = s.args in
     let w = a.symbols.now in
@@ -97,8 +74,8 @@ returns-4 c =
 enum-told-2 : tie.Need-enum-told-2
 enum-told-2 c = search rules
 
-returns-5 : tie.Need-returns-5
-returns-5 c =
+returns-4 : tie.Need-returns-4
+returns-4 c =
     let s = c.before.before.before.before.before.before in
     let a = s.args in
     let w = a.symbols.now in
@@ -113,12 +90,10 @@ accept_words_spec =
     service-of-requires
     enum-known-service
     picture-is-right-requires
-    made-up-is-right-requires
     delivery-requires
     returns
     returns-2
-    returns-3
     enum_told
-    returns-4
+    returns-3
     enum-told-2
-    returns-5)
+    returns-4)

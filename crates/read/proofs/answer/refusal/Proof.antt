@@ -21,13 +21,10 @@ returns-5 : tie.Need-returns-5
 returns-5 c = rw c.if5.true
 
 returns-6 : tie.Need-returns-6
-returns-6 c = rw c.if6.true
-
-returns-7 : tie.Need-returns-7
-returns-7 c =
-    let last : c.before.before.before.before.before.before.args.number ≡ 27 = omega arith in
+returns-6 c =
+    let last : c.before.before.before.before.before.args.number ≡ 26 = omega arith in
     rw last
 
 pub refusal_spec : {M : Type 1} → statement M
 refusal_spec =
-    tie.close (tie.spec returns returns-2 returns-3 returns-4 returns-5 returns-6 returns-7)
+    tie.close (tie.spec returns returns-2 returns-3 returns-4 returns-5 returns-6)

@@ -3,7 +3,7 @@
 use mathlib.Core.Path.{sym, ap, ◌∙◌}
 use mathlib.Core.Bool.{Bool, true, cond}
 use Prim.Native.Nat.{ℕ}
-use Rattle.read_test21_27.specs.Inside.Picture.{all_allowed}
+use Rattle.read_test21_26.specs.Inside.Picture.{all_allowed}
 use borrow.Author.Rules.{rules}
 use Rattle.read.proofs.picture.picture_is_right.Statement.{statement}
 use Rattle.read.proofs.picture.picture_is_right.Tie as tie

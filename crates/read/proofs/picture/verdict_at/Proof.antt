@@ -1,7 +1,7 @@
 -- `read::picture::verdict_at` meets its contract.
 -- Assumes nothing.
 use mathlib.Core.Path.{sym, ◌∙◌}
-use Rattle.read_test21_27.specs.Inside.Call.{wrong_place}
+use Rattle.read.specs.Inside.Picture.{wrong_place}
 use Rattle.read.proofs.Verdicts.{place_told, none_told, always_told}
 use Rattle.read.proofs.Windows.{lowest_is}
 use borrow.Author.Rules.{rules}

@@ -1,10 +1,10 @@
--- `read::read::read_picture` meets its contract: tests 25 to 27 after those that hold.
+-- `read::read::read_picture` meets its contract: tests 25 and 26 after those that hold.
 -- Assumes nothing.
 use mathlib.Core.Path.{sym, ap, ◌∙◌}
 use native.Mathlib.Omega.{arith}
 use Rattle.ground.specs.Answer.{Answer, given}
 use Rattle.read_test20.specs.declared.whole.Valid.{Valid}
-use Rattle.read_test21_27.specs.declared.call.Service.{Service}
+use Rattle.read_test21_26.specs.declared.call.Service.{Service}
 use Rattle.window.specs.declared.delivery.Delivery.{Delivery}
 use Rattle.window.specs.Read.{picture_of, rows_left}
 use Rattle.read.proofs.Windows.{first_hold, met_range, read_by, rows_zero, delivery_is}

@@ -1,10 +1,10 @@
--- `read::read::read_words` meets its contract: tests 21 to 24, and after them 25 to 27.
+-- `read::read::read_words` meets its contract: tests 21 to 24, and after them 25 and 26.
 -- Assumes nothing.
 use mathlib.Core.Path.{sym, ap, ◌∙◌}
 use native.Mathlib.Omega.{arith}
 use Rattle.read_test20.specs.declared.whole.Valid.{Valid}
-use Rattle.read_test21_27.specs.Inside.Call.{service_of}
-use Rattle.read_test21_27.specs.Inside.Verdict.{first_row}
+use Rattle.read_test21_26.specs.Inside.Call.{service_of}
+use Rattle.read_test21_26.specs.Inside.Verdict.{first_row}
 use Rattle.span.specs.Format.{shape_of}
 use Rattle.window.specs.Read.{picture_of}
 use Rattle.read.specs.Inside.Picture.{line_tests}

@@ -18,7 +18,7 @@ none-outside-requires c κs = search rules
 returns : tie.Need-returns invariant-loop decreases-loop
 returns c =
     let a = c.before.before.before.args in
-    let t = sym c.before.none_outside.ensures ∙ c.if1.true in
+    let t = sym c.before.none-outside.ensures ∙ c.if1.true in
     sym (outside_never a.low a.high a.samples.now (each_within a.low a.high a.samples.now t))
 
 loop-holds : tie.Need-loop-init invariant-loop decreases-loop

@@ -78,12 +78,6 @@ enum-known-r-8 c = search rules
 read-refused-requires-10 : tie.Need-read-refused-requires-10
 read-refused-requires-10 c κs = search rules
 
-enum-known-r-9 : tie.Need-enum-known-r-9
-enum-known-r-9 c = search rules
-
-read-refused-requires-11 : tie.Need-read-refused-requires-11
-read-refused-requires-11 c κs = search rules
-
 returns : tie.Need-returns
 returns c = by_case told c.delivered.ensures c.before.before.r.given.1
 
@@ -117,9 +111,6 @@ returns-10 c = by_case told c.read-refused9.ensures c.before.before.r7.given.1
 returns-11 : tie.Need-returns-11
 returns-11 c = by_case told c.read-refused10.ensures c.before.before.r8.given.1
 
-returns-12 : tie.Need-returns-12
-returns-12 c = by_case told c.read-refused11.ensures c.before.before.r9.given.1
-
 pub read_answer_spec : {M : Type 1} → statement M
 read_answer_spec =
     tie.close
@@ -146,8 +137,6 @@ read_answer_spec =
     read-refused-requires-9
     enum-known-r-8
     read-refused-requires-10
-    enum-known-r-9
-    read-refused-requires-11
     returns
     returns-2
     returns-3
@@ -158,5 +147,4 @@ read_answer_spec =
     returns-8
     returns-9
     returns-10
-    returns-11
-    returns-12)
+    returns-11)

@@ -18,15 +18,15 @@ impl Judge<'_> {
     }
 
     /// What a span says about itself, its words left in the first rows; none if it is refused.
-    pub(super) fn accepted(&mut self, shape: Shape, format: Format, symbols: &[u16]) -> Option<Delivery> {
-        accepted(self.tables, shape, format, symbols, &mut self.rows[..shape.samples()])
+    pub(super) fn accepted(&mut self, shape: Shape, depth: u32, symbols: &[u16]) -> Option<Delivery> {
+        accepted(self.tables, shape, depth, symbols, &mut self.rows[..shape.samples()])
     }
 
     #[inline(never)]
     pub fn judge(&mut self, format: Format, symbols: &[u16]) -> Answer<Delivery> {
-        let shape = shape(format)?;
+        let (shape, depth) = (shape(format)?, format.depth);
         refuse_unless(symbols.len() == shape.symbols(), 3)?;
-        let refusal = || plain::read::window(format, symbols).expect_err("something was wrong");
-        self.accepted(shape, format, symbols).ok_or_else(refusal)
+        let refusal = || plain::read::window(shape, depth, symbols).expect_err("something was wrong");
+        self.accepted(shape, depth, symbols).ok_or_else(refusal)
     }
 }

@@ -66,7 +66,7 @@ fn bytes_follow(tables: &Tables, symbols: &[u16]) -> bool {
 /// The first span from a place on, its words left in the judge's rows. The reader always goes through a span to its end. So it is called
 /// only after a check of the first symbols, which noise does not pass; and within a span that it refused, after a check of all up to the
 /// EAV, so that many starts close to each other do not cost that many spans.
-fn first(judge: &mut Judge, shape: Shape, format: Format, symbols: &[u16], start: usize) -> Option<(usize, Delivery)> {
+fn first(judge: &mut Judge, shape: Shape, depth: u32, symbols: &[u16], start: usize) -> Option<(usize, Delivery)> {
     let end = (symbols.len() + 1).saturating_sub(shape.symbols());
     let (mut from, mut refused_until) = (start, 0);
     while from < end {
@@ -79,7 +79,7 @@ fn first(judge: &mut Judge, shape: Shape, format: Format, symbols: &[u16], start
                 let window = &symbols[place..place + shape.symbols()];
                 let look = if place < refused_until { shape.eav_symbol() } else { LOOK };
                 if bytes_follow(judge.tables, &window[..look]) {
-                    if let Some(delivery) = judge.accepted(shape, format, window) {
+                    if let Some(delivery) = judge.accepted(shape, depth, window) {
                         return Some((place, delivery));
                     }
                     refused_until = place + shape.symbols();
@@ -97,7 +97,7 @@ pub fn find(judge: &mut Judge, format: Format, symbols: &[u16], start: u64) -> A
     let shape = shape(format)?;
     refuse_unless(symbols.len() <= LIMIT, 3)?;
     refuse_unless(start <= symbols.len() as u64, 5)?;
-    Ok(first(judge, shape, format, symbols, start as usize).map(|(place, _)| place as u64))
+    Ok(first(judge, shape, format.depth, symbols, start as usize).map(|(place, _)| place as u64))
 }
 
 /// The same with what is read there. Rows stay as they were if there is none, so it is read into others first.
@@ -107,7 +107,7 @@ pub fn next(judge: &mut Judge, format: Format, symbols: &[u16], start: u64, rows
     refuse_unless(symbols.len() <= LIMIT, 3)?;
     refuse_unless(rows.len() == shape.samples(), 4)?;
     refuse_unless(start <= symbols.len() as u64, 5)?;
-    let found = first(judge, shape, format, symbols, start as usize);
+    let found = first(judge, shape, format.depth, symbols, start as usize);
     if found.is_some() {
         rows.copy_from_slice(&judge.rows[..shape.samples()]);
     }

@@ -1,0 +1,76 @@
+-- The tests by their numbers, at one place and over a run of places.
+-- Assumes nothing.
+use Rattle.std.specs.Prelude.{ℕ, ◌+◌, ◌-◌, ◌≡◌, Bool, true, not, cond, List, ◌∷◌, ◌++◌, eqb}
+use Rattle.std.proofs.Math.Option.{Option, none, some, get_or}
+use Rattle.ground.specs.Search.{first_from}
+use Rattle.span.specs.declared.format.Format.{Format}
+use Rattle.span.specs.declared.format.Shape.{Shape}
+use Rattle.span.specs.Format.{streams}
+use Rattle.span.specs.Span.{fill_word}
+use Rattle.span.specs.Layout.{eav_start, line_start, crcc_start, eav_xyz}
+use Rattle.crcc.specs.declared.crcc.CrccWords.{CrccWords}
+use Rattle.crcc.specs.Crcc.{crc, crcc_words}
+use Rattle.packing.specs.Sample.{allowed_word}
+use Rattle.crcc.specs.declared.sums.Sums.{Sums}
+use Rattle.window.specs.Read.{placed}
+use Rattle.window.specs.Tests.{word_of, column, named, holds21, holds22, holds23}
+use Rattle.word.specs.declared.line_number.Named.{Named}
+use Rattle.word.specs.declared.line_number.Named.TheVariants.{Line, Above4095, Nameless}
+use Rattle.word.specs.Received.{repaired}
+use Rattle.crcc.specs.Inside.Sums.{sum_in}
+use Rattle.window.specs.Words.{word_at}
+use Rattle.window.specs.Inside.Given.{Given}
+
+-- the line that an answer of the line-number reader names, if any
+abbrev pub line_in : Named → Option ℕ
+line_in (Line l) = some l.0
+line_in Above4095 = none
+line_in Nameless = none
+
+-- also known: the line that stream 1 names
+pub record LineKnown (p : Shape) (t w : List ℕ) (next : Named) : Type 0 where
+  pub given : Given p t w
+  pub line : line_in next ≡ named (streams p) (word_at p w)
+
+-- test 25 or 26 of a word, where it applies
+abbrev pub picture25 : Format → ℕ → (ℕ → ℕ) → ℕ → ℕ → Bool
+picture25 f s word j t = allowed_word f.depth (word_of s word j t)
+
+abbrev pub fill26 : ℕ → (ℕ → ℕ) → ℕ → ℕ → Bool
+fill26 s word j t = eqb (word_of s word j t) fill_word
+
+-- the CRCC words of stream t, whose picture leaves the CRC at c
+unfoldable pub crcc_received : Shape → List ℕ → ℕ → ℕ → CrccWords
+crcc_received p w t c =
+    let s = streams p in
+    crcc_words
+    (crc c (column s (word_at p w) eav_start 3 t ++ (repaired (word_of s (word_at p w) eav_xyz t) ∷ column s (word_at p w) line_start 2 t)))
+
+-- test 24, given the sums that the pictures of the streams leave; it is test 24 if these are the sums of the window (law `sums-right`)
+unfoldable pub holds24_by : Shape → List ℕ → Sums → ℕ → ℕ → Bool
+holds24_by p w c j t =
+    let word = word_of (streams p) (word_at p w) j t in
+    cond (eqb j crcc_start) (eqb word (crcc_received p w t (sum_in c t)).crcc0)
+    (cond (eqb j (crcc_start + 1)) (eqb word (crcc_received p w t (sum_in c t)).crcc1) true)
+
+-- the test with a number
+unfoldable pub holds_of : ℕ → Format → Shape → List ℕ → Sums → ℕ → ℕ → Bool
+holds_of number f p w c =
+    let s = streams p in
+    let word = word_at p w in
+    cond (eqb number 21) (holds21 s word)
+    (cond (eqb number 22) (holds22 s word)
+    (cond (eqb number 23) (holds23 s word)
+    (cond (eqb number 24) (holds24_by p w c) (cond (eqb number 25) (picture25 f s word) (fill26 s word)))))
+
+-- at interleaved place k of a window
+abbrev pub holds_at : ℕ → Format → Shape → List ℕ → Sums → ℕ → Bool
+holds_at number f p w c = placed (streams p) (holds_of number f p w c)
+
+-- the lowest place from one to another at which a test does not hold, if any
+unfoldable pub wrong_in : (ℕ → Bool) → ℕ → ℕ → Option ℕ
+wrong_in holds from to = first_from from (to - from) (λ k. not (holds k))
+
+-- the same as a number: the end of the range if there is none
+abbrev pub first_wrong : (ℕ → Bool) → ℕ → ℕ → ℕ
+first_wrong holds from to = get_or (wrong_in holds from to) to
