@@ -1,6 +1,6 @@
 // One span: its lengths, sending, blanking, reading and judging.
 ghost use Rattle.std.specs.Prelude.{◌≡◌};
-ghost use Rattle.face.specs.Calls.{fillBlanking·answer, fillBlanking·row, judge·answer, lengths·answer, read·answer, read·rows, send·answer, send·symbols};
+ghost use Rattle.face.specs.Calls.{fill_blanking·answer, fill_blanking·row, judge·answer, lengths·answer, read·answer, read·rows, send·answer, send·symbols};
 
 use boundary::numbers::{FormatNumbers, SendRequest, format_from};
 use span_answers::spans::{LengthsAnswer, ReadAnswer, SendAnswer};
@@ -36,8 +36,8 @@ pub extern "C" fn brazulint4_send(
 // A blanking row of all streams: 1, 4.
 #[unsafe(no_mangle)]
 pub extern "C" fn brazulint4_fill_blanking(format: FormatNumbers, row: &mut [u16]) -> u32
-    ensures answer { result ≡ fillBlanking·answer format row.old }
-    ensures row { row.new ≡ fillBlanking·row format row.old }
+    ensures answer { result ≡ fill_blanking·answer format row.old }
+    ensures row { row.new ≡ fill_blanking·row format row.old }
 {
     picture_answers::pictures::filled_number(span::blanking::fill_blanking(
         format_from(format),

@@ -1,2 +1,3 @@
 // What decoding and encoding answer to C.
+#![tactic(auto)]
 pub mod characters;

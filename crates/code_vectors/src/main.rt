@@ -1,5 +1,6 @@
 // Writes the whole code, to be compared with the published one: for each character at each disparity, its symbol and the disparity after;
 // for each symbol, and for two numbers that are not symbols, what it decodes to at each disparity, what it means and where it is legal.
+#![tactic(auto)]
 mod line;
 
 use decoder::decode::Decoded;

@@ -17,7 +17,7 @@ pub struct CrccWords {
 }
 
 // The register after one more word, of which twelve bits count. The twelve bits are shifted out of the register before any bit that they
-// feed back gets that far, so all of them can be computed at once (law word-step).
+// feed back gets that far, so all of them can be computed at once (law `word_step`).
 pub fn crc_word(c: u32, w: u16) -> u32
     ensures { result ≡ crc_word c w }
 {

@@ -1,5 +1,5 @@
 // The CRC of each stream over its picture words (004, 6.4); with two streams the last two are unused.
-#[derive(Drop)]
+#[derive(Clone, Copy)]
 pub struct Sums {
     pub first: u32,
     pub second: u32,

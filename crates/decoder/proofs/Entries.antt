@@ -20,6 +20,11 @@ use Rattle.decoder.specs.Meaning.{first_of}
 use Rattle.symbol.proofs.Inverse.{decode_encode, illegal_is}
 use Rattle.decoder.specs.Inside.Decoder.{entry_from, entry_of, decoding_table, legal_bit}
 
+-- what holds at both disparities holds at each
+pub at_both : (P : Disparity → Type 0) → P Negative → P Positive → (d : Disparity) → P d
+at_both P n p Negative = n
+at_both P n p Positive = p
+
 -- the character that an entry gives at a disparity, if any
 abbrev pub look : Disparity → ℕ → Option ℕ
 look d e = cond (legal_bit d e) (some (e % 512)) none

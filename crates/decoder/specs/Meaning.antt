@@ -27,7 +27,7 @@ abbrev pub first_of : Option ℕ → Option ℕ → Option ℕ
 first_of (some c) o = some c
 first_of none o = o
 
--- the character of symbol s at either disparity (there is at most one: law `one-meaning`)
+-- the character of symbol s at either disparity (there is at most one: law `one_meaning`)
 abbrev pub meant_by : ℕ → Option ℕ
 meant_by s = first_of (char_of Negative s) (char_of Positive s)
 

@@ -1,4 +1,4 @@
--- What a reading of windows must satisfy so that no window can begin inside another (spans satisfy it: law `span-marked`, crate
+-- What a reading of windows must satisfy so that no window can begin inside another (spans satisfy it: law `span_marked`, crate
 -- recording).
 -- Assumes nothing.
 use Rattle.std.specs.Prelude.{ℕ, ◌+◌, ◌<◌, List, [], ◌∷◌}

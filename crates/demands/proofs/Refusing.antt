@@ -1,7 +1,7 @@
 -- Which calls are refused, and with which number, by the rows of the table; and what a refused call leaves in lent memory. `Demands` puts
 -- them together.
 -- Assumes nothing.
-use mathlib.Core.Path.{◌≡◌, refl, sym, ap, ◌∙◌}
+use mathlib.Core.Path.{◌≡◌, refl, sym, ap, subst, ◌∙◌}
 use mathlib.Core.Bool.{Bool, true, false, true≢false, not, ◌&&◌}
 use mathlib.Core.List.{List, [], ◌∷◌}
 use mathlib.Core.Logic.{inl, inr, ⊎_elim}
@@ -11,7 +11,7 @@ use native.Mathlib.Omega.{arith}
 use lib.Dec.{eqb, ltb, leb}
 use lib.ListN.{length, get_or, take, drop}
 use borrow.Author.Tests.{eqb-true, eq-eqb, ne_eqb, ltb-true, lt-ltb, le-ltb, leb-true, le-leb, not-false}
-use Rattle.ground.specs.Answer.{Answer, given, Row, unless, checked, unless_refused}
+use Rattle.ground.specs.Answer.{Answer, given, Row, unless, or_else, checked, unless_refused}
 use Rattle.ground.specs.Range.{within}
 use Rattle.ground.specs.Search.{first_below, is_some}
 use Rattle.ground.proofs.Answers.{given_is, when_refused, when_given}
@@ -77,9 +77,9 @@ pub data Agree : List Row → List Refusal → Type 1 where
 -- a call by such rows answers as the table says
 pub tried : {A : Type 0} (a : A) {rs : List Row} {xs : List Refusal} → Agree rs xs → Tried (checked rs a) xs
 tried a end = (a, refl)
-tried a (then one more) = (
+tried a {rs = r ∷ rs} {xs = x ∷ xs} (then one more) = (
   λ bad. let (k, p, e) = one.met bad in (k, p, rw (e, one.same)),
-  λ g. rw (one.passed g) (tried a (more g)),
+  λ g. subst (λ (o : Option ℕ). Tried (or_else o r.number (checked rs a)) xs) (sym (one.passed g)) (tried a (more g)),
 )
 
 -- ---- tests

@@ -58,7 +58,7 @@ split_join n first second c q e =
     (λ j p. sym (sample_joined first second n j c p q)))
 
 module _ (n : ℕ) (row : List ℕ) where
-  -- what stands at sample j of the row that image u gets is the sample whose place is there (`step-again`)
+  -- what stands at sample j of the row that image u gets is the sample whose place is there (`step_again`)
   pub comes_from : (u j : ℕ) → j < n → get_or (divided (w u) n row) j 0 ≡ get_or row (sample_from u j) 0
   unfolding sample_from
   comes_from u j p = sample_divided row (w u) n j p

@@ -111,11 +111,11 @@ abbrev pub send·symbols : FormatNumbers → SendRequest → List ℕ → List �
 send·symbols format asked samples symbols =
     sent_buffer (disparity_from asked.positive) (format_given format) (asked_of asked samples) symbols
 
-abbrev pub fillBlanking·answer : FormatNumbers → List ℕ → ℕ
-fillBlanking·answer format row = number_in (fill_of (format_given format) row)
+abbrev pub fill_blanking·answer : FormatNumbers → List ℕ → ℕ
+fill_blanking·answer format row = number_in (fill_of (format_given format) row)
 
-abbrev pub fillBlanking·row : FormatNumbers → List ℕ → List ℕ
-fillBlanking·row format row = filled_row (format_given format) row
+abbrev pub fill_blanking·row : FormatNumbers → List ℕ → List ℕ
+fill_blanking·row format row = filled_row (format_given format) row
 
 abbrev pub read·answer : FormatNumbers → List ℕ → List ℕ → ReadAnswer
 read·answer format symbols rows = read_answer_of (read_of (format_given format) symbols (length rows))

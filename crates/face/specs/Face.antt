@@ -42,7 +42,7 @@ use Rattle.span_answers.specs.declared.spans.Values.{Values}
 use Rattle.demands.specs.Form.{Refusal, rule, Lent, Rows}
 use Rattle.demands.specs.Rules.{repair_rules, read_line_words_rules, crcc_rules, back_rules, split_rules, join_rules, fill_rules, send_rules, judge_rules, read_rules, find_rules, next_rules}
 use Rattle.face.specs.Refusals.{RefusalNumbers}
-use Rattle.face.specs.Calls.{decode·answer, encode·answer, line_words·answer, read_line_words·answer, repair·answer, crcc·answer, place·answer, way_back·answer, split·answer, split·first, split·second, join·answer, join·row, carries_picture·answer, lengths·answer, send·answer, send·symbols, version·answer, fillBlanking·answer, fillBlanking·row, read·answer, read·rows, judge·answer, find·answer, next·answer, next·rows}
+use Rattle.face.specs.Calls.{decode·answer, encode·answer, line_words·answer, read_line_words·answer, repair·answer, crcc·answer, place·answer, way_back·answer, split·answer, split·first, split·second, join·answer, join·row, carries_picture·answer, lengths·answer, send·answer, send·symbols, version·answer, fill_blanking·answer, fill_blanking·row, read·answer, read·rows, judge·answer, find·answer, next·answer, next·rows}
 
 -- ---- the number and the place of an answer
 
@@ -212,10 +212,10 @@ pub record Face : Type 1 where
       let k = 2886 * streams (shape_of (format_given format)) in
       Stands r 2 content.sav1 × Stands r 3 content.sav2 × Stands r (k + 2) content.eav1 × Stands r (k + 3) content.eav2
   pub fill_blanking_told :
-      (format : FormatNumbers) (row : List ℕ) → Told (fillBlanking·answer format row) 0 (fill_rules (format_given format) (length row))
+      (format : FormatNumbers) (row : List ℕ) → Told (fill_blanking·answer format row) 0 (fill_rules (format_given format) (length row))
   pub fill_blanking_lent :
       (format : FormatNumbers) (row : List ℕ)
-      → Lent (fill_of (format_given format) row) row (blank_row (format_given format)) (fillBlanking·row format row)
+      → Lent (fill_of (format_given format) row) row (blank_row (format_given format)) (fill_blanking·row format row)
   pub read_told :
       (format : FormatNumbers) (symbols rows : List ℕ)
       → let a = read·answer format symbols rows in

@@ -1,6 +1,7 @@
 // Generates a recording of the test picture. From standard input: a format byte, a depth byte, then the first stream line and the number of
 // spans, two bytes each, low byte first. To standard output: the format and depth bytes and then symbols, low byte first, as `list_spans`
 // reads them. To standard error: a refusal, or why a write failed.
+#![tactic(auto)]
 mod bytes;
 mod left;
 mod parameters;

@@ -5,7 +5,7 @@ ghost use Rattle.line.specs.Picture.{stream_line_of, basic_line_of, number_on, n
 use crate::stream::StreamLine;
 
 // A line of a picture or an image by its number, which may be any number, as with a stream line.
-#[derive(Drop)]
+#[derive(Clone, Copy)]
 pub struct PictureLine(u16);
 
 // The line with a number, for the edges.

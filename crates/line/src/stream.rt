@@ -3,7 +3,7 @@ ghost use Rattle.std.specs.Prelude.{◌≡◌};
 ghost use Rattle.line.specs.Stream.{is_line, is_active, v_of, line_after, line_before};
 
 // A line of a stream by its number. A caller may have any number, even 0: the calls that take a line refuse an invalid one.
-#[derive(Drop)]
+#[derive(Clone, Copy)]
 pub struct StreamLine(u16);
 
 // The line with a number, for the edges: programs, the C boundary, line number words.

@@ -1,5 +1,6 @@
 // Lists the repair of timing words: words from standard input, low byte first, up to 64 KiB; a line of text for each, to standard
 // output. Why the write failed, if it did, to standard error.
+#![tactic(auto)]
 mod listing;
 
 use libc::{STDIN_FILENO, STDOUT_FILENO};

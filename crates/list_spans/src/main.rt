@@ -1,5 +1,6 @@
 // Lists the spans of a recording: a format byte, a depth byte and symbols from standard input, low byte first, at most 32,767 of them; a
 // line of text for each span delivered, to standard output. Why the write failed, if it did, to standard error.
+#![tactic(auto)]
 mod list;
 
 use libc::{STDIN_FILENO, STDOUT_FILENO};

@@ -30,6 +30,6 @@ piece_bytes piece picture = upto 5 (λ i. cond (is_active (line_of_piece piece i
 abbrev pub file_of : Knock → List ℕ
 file_of k = header ++ upto 225 (λ piece. piece_bytes piece (picture_in k piece))
 
--- the row of picture line y, carried by stream line 41 + (y + 1) / 2: that of the test picture, or a black one (law `file-is`)
+-- the row of picture line y, carried by stream line 41 + (y + 1) / 2: that of the test picture, or a black one (law `file_is`)
 abbrev pub row_shown : Knock → ℕ → List ℕ
 row_shown k y = cond (lost k (41 + (y + 1) / 2)) (replicate 3840 0) (test_row y)

@@ -14,7 +14,7 @@ use Rattle.loopback.specs.declared.frame.Written.TheVariants.{All, Stopped}
 abbrev pub heard_of : Knock → List ℕ
 heard_of k = upto 225 (heard_in k)
 
--- the disparity after it: fresh at first, and handed from line to line (the pieces are one signal: law `sent-on`, crate rig)
+-- the disparity after it: fresh at first, and handed from line to line (the pieces are one signal: law `sent_on`, crate rig)
 abbrev pub after_frame : Disparity
 after_frame = after_from fresh 1 1125
 

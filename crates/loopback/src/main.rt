@@ -1,6 +1,7 @@
 // The loopback rig: a test picture over one link, line by line through a whole frame, with one plug knocked. Eight bytes from standard
 // input say where and for how long; the picture that arrives goes to a file, and a summary of what was lost to standard output. What cannot
 // be opened or written is said on standard error.
+#![tactic(auto)]
 mod file;
 mod frame;
 mod input;

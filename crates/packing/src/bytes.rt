@@ -9,7 +9,7 @@ pub struct ThreeBytes {
     pub third: u8,
 }
 
-#[derive(Drop)]
+#[derive(Clone, Copy)]
 pub struct TwoWords {
     pub a: u16,
     pub b: u16,

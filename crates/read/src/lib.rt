@@ -1,4 +1,5 @@
 // Reading a span: the answer and the rows.
+#![tactic(auto)]
 pub mod accept;
 pub mod answer;
 mod delivery;

@@ -100,13 +100,13 @@ module _ (w : List ℕ) {old : List ℕ} {j : ℕ} {v : Passed} {rows : List ℕ
 module _ (w : List ℕ) (j : ℕ) (v : Passed) where
   pub after_two : {a b c d : Three} → a ≡ seen_three w (12 + 3 * j) v.good v.flips
       → b ≡ seen_three w (12 + 3 * (j + 1)) a.good a.flips → c ≡ seen_three w (12 + 3 * (j + 2)) b.good b.flips
-      → d ≡ seen_three w (12 + 3 * (j + 3)) c.well-formed c.flips
+      → d ≡ seen_three w (12 + 3 * (j + 3)) c.good c.flips
       → record { good = d.good; flips = d.flips } ≡ place_two w (j + 3) (place_two w (j + 2) (place_two w (j + 1) (place_two w j v)))
   after_two ea eb ec ed = rw (ed, ec, eb, ea)
 
   pub after_four_lem : {a b c d : Six} → a ≡ seen_six w (24 + 6 * j) v.good v.flips
       → b ≡ seen_six w (24 + 6 * (j + 1)) a.good a.flips → c ≡ seen_six w (24 + 6 * (j + 2)) b.good b.flips
-      → d ≡ seen_six w (24 + 6 * (j + 3)) c.well-formed c.flips
+      → d ≡ seen_six w (24 + 6 * (j + 3)) c.good c.flips
       → record { good = d.good; flips = d.flips }
       ≡ place_four w (j + 3) (place_four w (j + 2) (place_four w (j + 1) (place_four w j v)))
   after_four_lem ea eb ec ed = rw (ed, ec, eb, ea)

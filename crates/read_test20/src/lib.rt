@@ -1,4 +1,5 @@
 // Test 20, and with it the rows and the CRCs of a window that passes: a window whose symbols are all valid is read in one pass.
+#![tactic(auto)]
 mod area;
 mod fill;
 mod picture;

@@ -13,7 +13,7 @@ use packing::bytes::TwoWords;
 const PIECE: usize = 120;
 
 // What is gathered after some words of each stream.
-#[derive(Drop)]
+#[derive(Clone, Copy)]
 pub(crate) struct Passed {
     pub(crate) good: u32,
     pub(crate) flips: u32,

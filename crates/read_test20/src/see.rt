@@ -30,7 +30,7 @@ pub(crate) struct Three {
 }
 
 // The words of six symbols, and what is gathered after them.
-#[derive(Drop)]
+#[derive(Clone, Copy)]
 pub(crate) struct Six {
     pub(crate) good: u32,
     pub(crate) flips: u32,

@@ -11,13 +11,13 @@ use span::format::{Format, Shape};
 use word::line_number::Named;
 
 // A test that does not hold, by its number, and its lowest place.
-#[derive(Drop)]
+#[derive(Clone, Copy)]
 pub struct Fault {
     pub number: u8,
     pub place: usize,
 }
 
-#[derive(Drop)]
+#[derive(Clone, Copy)]
 pub enum Verdict {
     AllHold,
     Fails(Fault),

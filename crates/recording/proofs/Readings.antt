@@ -32,7 +32,7 @@ use Rattle.recording.specs.Recording.{Reading, with_words, reading, accepts}
 use Rattle.recording.specs.Inside.Look.{is_comma, MayBegin}
 
 module _ (f : Format) (w : List ℕ) where
-  -- what is read has a span's length, and `readSpan` answers it
+  -- what is read has a span's length, and `read_span` answers it
   pub record Told (x : Reading) : Type 0 where
     pub long : length w ≡ symbols_in (shape_of f)
     pub values : read_span f w ≡ given x.values

@@ -23,7 +23,7 @@ abbrev pub with_words : Answer Delivery → List ℕ → Option Reading
 with_words (refused number place) words = none
 with_words (given d) words = some (record { values = d; words = words })
 
--- what the reader reads from symbols, if it accepts them: there are as many as a span has, and `readSpan` does not refuse them
+-- what the reader reads from symbols, if it accepts them: there are as many as a span has, and `read_span` does not refuse them
 unfoldable pub reading : Format → List ℕ → Option Reading
 reading f w = cond (eqb (length w) (symbols_in (shape_of f))) (with_words (read_span f w) (picture_of f w)) none
 

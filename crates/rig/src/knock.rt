@@ -4,7 +4,7 @@ ghost use Rattle.rig.specs.Knock.{struck};
 ghost use Rattle.rig.specs.Inside.Knock.{knocked};
 
 // The symbol of the frame from which there is no light, and for how many symbols.
-#[derive(Drop)]
+#[derive(Clone, Copy)]
 pub struct Knock {
     pub place: u32,
     pub long: u32,

@@ -1,4 +1,5 @@
 // Sending a span.
+#![tactic(auto)]
 mod check;
 mod coder;
 mod parts;

@@ -4,7 +4,7 @@ ghost use Rattle.span.specs.Format.{format_from, plain_format, is_depth, is_know
 
 // What both ends of a link have agreed on, as the caller wrote it. Any numbers may stand here: the calls that take a format refuse an unknown
 // one. 0 is unknown in every field, so that one which was forgotten is refused and not guessed.
-#[derive(Drop)]
+#[derive(Clone, Copy)]
 pub struct Format {
     // 1, 2, 3: 120, 100, 50 Hz.
     number: u8,
@@ -19,7 +19,7 @@ pub struct Format {
 }
 
 // The pairs of streams, the ancillary words per stream, the pairs of fill words.
-#[derive(Drop)]
+#[derive(Clone, Copy)]
 pub struct Shape {
     pub stream_pairs: usize,
     pub ancillary: usize,

@@ -1,2 +1,3 @@
 // What the calls on one span answer to C.
+#![tactic(auto)]
 pub mod spans;

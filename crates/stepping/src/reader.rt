@@ -1,5 +1,4 @@
-// A reader that holds the recording and its place, and gives one span at a time. `next_span` does the work; each function here is thin,
-// since its proof walks through what it compiles to.
+// A reader that holds the recording and its place, and gives one span at a time. `next_span` does the work; each function here is thin.
 ghost use Rattle.std.specs.Prelude.{◌≡◌};
 ghost use Rattle.recording.specs.Call.{paper_next};
 ghost use Rattle.stepping.specs.Reader.{answer_of, moved_of, rows_after_step};

@@ -4,7 +4,7 @@ use Rattle.std.specs.Prelude.{ℕ, zero, suc, ◌/◌, cond, List, ltb}
 use Rattle.io.specs.Digits.{last_digits}
 
 -- how many decimal digits a number takes: one below ten, else one more than a tenth of it takes. `most` bounds the steps, and the number
--- itself is bound enough: they are the fewest digits that hold it (law `places-fewest`).
+-- itself is bound enough: they are the fewest digits that hold it (law `places_fewest`).
 abbrev pub places_in : ℕ → ℕ → ℕ
 places_in zero n = 1
 places_in (suc most) n = cond (ltb n 10) 1 (suc (places_in most (n / 10)))

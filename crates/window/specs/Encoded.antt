@@ -1,5 +1,5 @@
 -- A window as the encoding of words and content bytes: what a sender puts on the link, whatever its words say. A span that is sent is one
--- (law `sent-encodes`), and so is every window that is read (law `accepted-encodes`).
+-- (law `sent_encodes`), and so is every window that is read (law `accepted_encodes`).
 -- Assumes nothing.
 use Rattle.std.specs.Prelude.{ℕ, ◌+◌, ◌*◌, ◌/◌, ◌%◌, ◌≤◌, ◌<◌, ◌≡◌, cond, ◌&&◌, List, ◌++◌, map, ◌⊎◌, eqb, length, get_or, take, drop}
 use Rattle.line.specs.Stream.{is_active}
@@ -49,7 +49,7 @@ Everywhere f rule = (k : ℕ) → k < 2 * pairs_in (shape_of f) → rule (k / st
 abbrev pub words_of : Format → (ℕ → ℕ) → ℕ → ℕ → ℕ
 words_of f word j t = word (streams (shape_of f) * j + t)
 
--- words that meet rules 21 to 26: a window is read if and only if it is the encoding of such words (laws `exactIf`, `exactOnlyIf`)
+-- words that meet rules 21 to 26: a window is read if and only if it is the encoding of such words (laws `exact_if`, `exact_only_if`)
 pub record Meets (f : Format) (word : ℕ → ℕ) : Type 0 where
   pub timing : Everywhere f (Rule21 (words_of f word))
   pub line_number : Everywhere f (Rule22 (words_of f word))

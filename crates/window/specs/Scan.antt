@@ -13,7 +13,7 @@ use Rattle.decoder.specs.Meaning.{meant_by}
 use Rattle.span.specs.declared.format.Shape.{Shape}
 use Rattle.span.specs.Format.{eav_at}
 
--- the character that a symbol stands for, at whichever disparity it is legal (if at both, it is the same: law `one-meaning`); 0 if none
+-- the character that a symbol stands for, at whichever disparity it is legal (if at both, it is the same: law `one_meaning`); 0 if none
 unfoldable pub meant : ℕ → ℕ
 meant s = Option.get_or (meant_by s) 0
 

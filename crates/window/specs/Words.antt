@@ -12,7 +12,7 @@ use Rattle.word.specs.Timing.{timing_code}
 use Rattle.window.specs.Scan.{byte_of, symbol_at}
 
 -- byte i of the interleaved timing code of s streams: its first four are replaced when it is sent, so they are known. They are the same
--- in SAV and EAV, whatever V and H: words 0 and 1 and the low eight bits of word 2 (law `fixed-bytes`).
+-- in SAV and EAV, whatever V and H: words 0 and 1 and the low eight bits of word 2 (law `fixed_bytes`).
 unfoldable pub fixed_byte : ℕ → ℕ → ℕ
 fixed_byte s i = get_or (bytes (interleaved s 4 (λ _. timing_code false false))) i 0
 

@@ -5,7 +5,7 @@ ghost use Rattle.word.specs.LineNumber.{line_words, paper_numbered, numbered_of,
 
 use line::stream::StreamLine;
 
-#[derive(Drop)]
+#[derive(Clone, Copy)]
 pub struct LineWords {
     pub ln0: u16,
     pub ln1: u16,
@@ -18,7 +18,7 @@ pub enum Numbered {
     NoLine,
 }
 
-#[derive(Drop)]
+#[derive(Clone, Copy)]
 pub enum Named {
     Line(StreamLine),
     // 7: no word has more than twelve bits.

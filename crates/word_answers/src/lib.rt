@@ -1,2 +1,3 @@
 // What the calls on words answer to C.
+#![tactic(auto)]
 pub mod words;

@@ -13,14 +13,6 @@ fn call_of(name: &str) -> Option<&str> {
     interface.parse::<u32>().ok().map(|_| call)
 }
 
-/// `fill_blanking` is `fillBlanking` in a definition.
-fn camel(name: &str) -> String {
-    let mut parts = name.split('_');
-    let first = parts.next().unwrap_or("").to_string();
-    let capital = |part: &str| part[..1].to_uppercase() + &part[1..];
-    parts.map(capital).fold(first, |name, part| name + &part)
-}
-
 /// The name and the type of each parameter.
 fn parameters(signature: &str) -> Vec<(&str, &str)> {
     let inside = signature.split_once('(').and_then(|(_, rest)| rest.rsplit_once("->")).map_or("", |(list, _)| list);
@@ -30,16 +22,16 @@ fn parameters(signature: &str) -> Vec<(&str, &str)> {
 
 /// The clauses that the function that exports a call has to have.
 fn expected(call: &str, function: &Function) -> Vec<String> {
-    let call = camel(call);
     let all = parameters(&function.signature);
-    let argument = |(name, kind): &(&str, &str)| match kind.starts_with('&') {
-        true => format!(" (now ({name} .entry))"),
-        false => format!(" {name}"),
+    let argument = |(name, kind): &(&str, &str)| match (kind.starts_with("&mut"), kind.starts_with('&')) {
+        (true, _) => format!(" {name}.old"),
+        (false, true) => format!(" {name}.now"),
+        (false, false) => format!(" {name}"),
     };
     let arguments = all.iter().map(argument).collect::<String>();
-    let answer = format!("{{ λ r. ⌜ r ≡ {call}·answer{arguments} ⌝ }}");
+    let answer = format!("{{ result ≡ {call}·answer{arguments} }}");
     let lent = all.iter().filter(|(_, kind)| kind.starts_with("&mut"));
-    let left = lent.map(|(name, _)| format!("{{ λ _. ⌜ now ({name} .exit) ≡ {call}·{name}{arguments} ⌝ }}"));
+    let left = lent.map(|(name, _)| format!("{{ {name}.new ≡ {call}·{name}{arguments} }}"));
     std::iter::once(answer).chain(left).collect()
 }
 
@@ -79,14 +71,14 @@ mod tests {
     use super::*;
     use crate::source::parse;
 
-    const SEND: &str = "#[no_mangle]
+    const SEND: &str = "#[unsafe(no_mangle)]
 pub extern \"C\" fn brazulint4_send_named(
     line: u32,
     samples: &[u16],
     symbols: &mut [u16],
 ) -> SendAnswer
-    ensures answer { λ r. ⌜ r ≡ sendNamed·answer line (now (samples .entry)) (now (symbols .entry)) ⌝ }
-    ensures symbols { λ _. ⌜ now (symbols .exit) ≡ sendNamed·symbols line (now (samples .entry)) (now (symbols .entry)) ⌝ }
+    ensures answer { result ≡ send_named·answer line samples.now symbols.old }
+    ensures symbols { symbols.new ≡ send_named·symbols line samples.now symbols.old }
 {
     send(line)
 }
@@ -104,7 +96,7 @@ pub extern \"C\" fn brazulint4_send_named(
     #[test]
     fn without_parameters() {
         let version =
-            "#[no_mangle]\npub extern \"C\" fn brazulint4_version() -> u32\n    ensures { λ r. ⌜ r ≡ version·answer ⌝ }\n{\n    1\n}\n";
+            "#[unsafe(no_mangle)]\npub extern \"C\" fn brazulint4_version() -> u32\n    ensures { result ≡ version·answer }\n{\n    1\n}\n";
         assert_eq!(told(version), None);
         assert!(told(&version.replace("version·answer", "lengths·answer")).is_some());
     }
@@ -122,13 +114,13 @@ pub extern \"C\" fn brazulint4_send_named(
 
     #[test]
     fn with_a_condition() {
-        assert!(told(&SEND.replace("    ensures answer", "    requires { ⌜ line ≡ 1 ⌝ }\n    ensures answer")).is_some());
-        assert!(told("pub fn half(n: u16) -> u16\n    requires { ⌜ n ≡ 1 ⌝ }\n    ensures { λ r. ⌜ r ≡ n ⌝ }\n{\n    n\n}\n").is_some());
+        assert!(told(&SEND.replace("    ensures answer", "    requires { line ≡ 1 }\n    ensures answer")).is_some());
+        assert!(told("pub fn half(n: u16) -> u16\n    requires { n ≡ 1 }\n    ensures { result ≡ n }\n{\n    n\n}\n").is_some());
     }
 
     #[test]
     fn another_answer() {
-        assert!(told(&SEND.replace("sendNamed·answer", "send·answer")).is_some());
+        assert!(told(&SEND.replace("send_named·answer", "send·answer")).is_some());
         assert!(told("pub fn half(n: u16) -> u16 {\n    n\n}\n").is_some());
     }
 }

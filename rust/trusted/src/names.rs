@@ -138,8 +138,8 @@ mod tests {
 
     #[test]
     fn patterns_bind_and_constructors_do_not() {
-        assert_eq!(of_clause("repair (given r) = f (r .word) row"), ["given", "f", "row"]);
-        assert_eq!(of_clause("a ⊕ b = bitXor a b"), ["bitXor"]);
+        assert_eq!(of_clause("repair (given r) = f r.word row"), ["given", "f", "row"]);
+        assert_eq!(of_clause("a ⊕ b = bit_xor a b"), ["bit_xor"]);
     }
 
     #[test]

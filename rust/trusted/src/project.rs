@@ -166,7 +166,7 @@ impl Project {
 
     /// What one name of a `use` line stands for. For a type's variants it is the type.
     fn meant(&self, used: &Use, name: &str) -> Option<Meant> {
-        let module = used.module.trim_end_matches(".the-variants");
+        let module = used.module.trim_end_matches(".TheVariants");
         let (module, name) = match module.starts_with("declared.") {
             true => module.rsplit_once('.')?,
             false => (module, name),
@@ -209,13 +209,13 @@ impl Project {
 
     /// What the names of types in a file of src/ stand for.
     fn types(&self, file: &File, source: &Source) -> HashMap<String, usize> {
-        let of_path = |path: &Vec<String>| {
+        let of_path = |(here, path): &(String, Vec<String>)| {
             let (krate, module, name) = self.resolved(&file.krate, path)?;
-            let meant = self.index.get(&(krate, format!("declared.{module}"), name.clone()))?;
-            Some((name, meant.node))
+            let meant = self.index.get(&(krate, format!("declared.{module}"), name))?;
+            Some((here.clone(), meant.node))
         };
         let own = file.nodes.iter().map(|id| (self.nodes[*id].name.clone(), *id));
-        source.types_used.iter().filter_map(of_path).chain(own).collect()
+        source.brought.iter().filter_map(of_path).chain(own).collect()
     }
 
     /// Enters what each definition or type of a file refers to.
@@ -240,16 +240,18 @@ impl Project {
         let Some(source) = file.source() else { return Vec::new() };
         let (types, (scope, _)) = (self.types(file, source), self.scope(file));
         let in_signature = source::names(&function.signature).filter_map(|name| types.get(name).copied());
-        let in_contract = taken_by(function).into_iter().filter_map(|name| scope.get(name)).map(|meant| meant.node);
+        // A contract needs no import for the types of its file's code.
+        let meant = |name| scope.get(name).map(|meant| meant.node).or(types.get(name).copied());
+        let in_contract = taken_by(function).into_iter().filter_map(meant);
         in_signature.chain(in_contract).collect()
     }
 }
 
-/// The names that a contract takes from outside; parameters are its own.
+/// The names that a contract takes from outside; parameters and `result` are its own.
 fn taken_by(function: &Function) -> Vec<&str> {
     let mut reader = Reader::new();
     let before_colon = function.signature.match_indices(": ").map(|(at, _)| &function.signature[..at]);
-    reader.own(before_colon.filter_map(|text| source::names(text).last()).collect());
+    reader.own(before_colon.filter_map(|text| source::names(text).last()).chain(["result"]).collect());
     for clause in &function.clauses {
         reader.expression(&words(clause));
     }

@@ -42,12 +42,14 @@ fn main_of<'a>(project: &'a Project, krate: &str) -> Option<&'a File> {
 
 /// What a program's main.rt calls, of its own modules and of the libraries.
 fn called<'a>(project: &'a Project, krate: &str) -> Functions<'a> {
-    let calls = main_of(project, krate).and_then(File::source).map_or(&[][..], |source| &source.calls);
+    let Some(main) = main_of(project, krate).and_then(File::source) else { return Vec::new() };
     let of_path = |path: &Vec<String>| {
-        let (krate, module, name) = project.resolved(krate, path)?;
+        let brought = main.brought.iter().find(|(here, _)| *here == path[0]).map(|(_, path)| &path[..]);
+        let whole = [brought.unwrap_or(&path[..1]), &path[1..]].concat();
+        let (krate, module, name) = project.resolved(krate, &whole).filter(|_| whole.len() > 1)?;
         Some(functions(project, &krate, &|of_module, function| of_module == module && function.name == name))
     };
-    calls.iter().filter_map(of_path).flatten().collect()
+    main.calls.iter().filter_map(of_path).flatten().collect()
 }
 
 impl Reached {
@@ -151,11 +153,11 @@ mod tests {
     use super::*;
 
     const CALLS: &str = "use form::format::Format;
-ghost use Rattle·form.specs.Length.{lengthOf, row as other};
+ghost use Rattle.form.specs.Length.{length_of, row as other};
 
-#[no_mangle]
+#[unsafe(no_mangle)]
 pub extern \"C\" fn length(format: Format, row: u32) -> u32
-    ensures row { λ r. ⌜ r ≡ lengthOf format row ⌝ }
+    ensures row { result ≡ length_of format row }
 {
     form::format::length(format)
 }
@@ -165,7 +167,7 @@ pub extern \"C\" fn length(format: Format, row: u32) -> u32
         let mut files = vec![
             (
                 "crates/form/specs/Length.antt",
-                "use Rattle·form·specs.specs.Inside.Row.{deep}\n\npub lengthOf : ℕ → ℕ\nlengthOf n = n\n\npub row : ℕ\nrow = deep\n",
+                "use Rattle.form.specs.Inside.Row.{deep}\n\npub length_of : ℕ → ℕ\nlength_of n = n\n\npub row : ℕ\nrow = deep\n",
             ),
             ("crates/form/specs/Inside/Row.antt", "pub deep : ℕ\ndeep = 1\n"),
             ("crates/form/specs/Laws.antt", "pub law : ℕ\nlaw = 1\n"),
@@ -185,7 +187,7 @@ pub extern \"C\" fn length(format: Format, row: u32) -> u32
         let reached = Reached::from(&project, &[ROOT]);
         let mut names: Vec<_> = reached.part.keys().map(|id| project.nodes[*id].name.as_str()).collect();
         names.sort();
-        assert_eq!(names, ["Format", "lengthOf"]);
+        assert_eq!(names, ["Format", "length_of"]);
         assert_eq!(reached.begun[0].lines, 1);
     }
 
@@ -202,9 +204,11 @@ pub extern \"C\" fn length(format: Format, row: u32) -> u32
 
     #[test]
     fn what_main_calls() {
-        let main = ("crates/calls/src/main.rt", "fn main() {\n    calls::length(f, 1);\n}\n");
-        let project = project(&[main]);
-        let found: Vec<_> = called(&project, "calls").into_iter().map(|(_, function)| function.name.as_str()).collect();
-        assert_eq!(found, ["length"]);
+        for text in ["calls::length(f, 1)", "length(f, 1)", "c::length(f, 1)"] {
+            let main = format!("use crate::{{calls as c, calls::length}};\n\nfn main() {{\n    {text};\n}}\n");
+            let project = project(&[("crates/calls/src/main.rt", &main)]);
+            let found: Vec<_> = called(&project, "calls").into_iter().map(|(_, function)| function.name.as_str()).collect();
+            assert_eq!(found, ["length"]);
+        }
     }
 }

@@ -12,7 +12,7 @@ pub enum Part {
 /// What part of a crate is a root.
 #[derive(Clone, Copy, PartialEq, Eq, Debug)]
 pub enum Start {
-    /// the contracts of what is marked `#[no_mangle] pub extern "C" fn`
+    /// the contracts of what is marked `#[unsafe(no_mangle)] pub extern "C" fn`
     Exported,
     /// the contracts of every `pub fn`
     All,

@@ -3,7 +3,7 @@
 
 use crate::words::{spelt, without_comment, words, Word};
 
-/// `use Rattle·CRATE.specs.MODULE.{a, b as c}`, or `.. as NAME`.
+/// `use Rattle.CRATE.specs.MODULE.{a, b as c}`, or `.. as NAME`.
 #[derive(Debug, PartialEq, Eq)]
 pub struct Use {
     pub krate: String,
@@ -61,14 +61,15 @@ fn name_pair(text: &str) -> (String, String) {
 pub fn parse_use(line: &str) -> Result<Option<Use>, ()> {
     let text = line.trim().trim_end_matches(';');
     let text = text.strip_prefix("ghost ").unwrap_or(text);
-    let Some(path) = text.strip_prefix("pub ").unwrap_or(text).strip_prefix("use Rattle·") else { return Ok(None) };
+    let Some(path) = text.strip_prefix("pub ").unwrap_or(text).strip_prefix("use Rattle.") else { return Ok(None) };
     let (krate, path) = path.split_once('.').ok_or(())?;
     let Some(path) = path.strip_prefix("specs.") else { return Ok(None) };
-    let krate = krate.trim_end_matches("·specs").to_string();
+    let krate = krate.to_string();
     if let Some((module, list)) = path.split_once(".{") {
         let list = list.strip_suffix('}').ok_or(())?;
         let names: Vec<_> = list.split(',').map(|n| name_pair(n.trim())).collect();
-        return if list.contains('*') { Err(()) } else { Ok(Some(Use { krate, module: module.to_string(), names })) };
+        let all = names.iter().any(|(there, _)| there.contains('*') && !there.contains('◌'));
+        return if all { Err(()) } else { Ok(Some(Use { krate, module: module.to_string(), names })) };
     }
     let (module, name) = path.split_once(" as ").ok_or(())?;
     Ok(Some(Use { krate, module: module.to_string(), names: vec![(String::new(), name.to_string())] }))
@@ -163,7 +164,7 @@ impl Parser {
         }
         self.heading = false;
         self.code(number, code);
-        // A line `infixl 60 _⊕_` belongs to the definition below it, as a comment does.
+        // A line `infixl 60 ◌⊕◌` belongs to the definition below it, as a comment does.
         self.above = if code.trim_start().starts_with("infix") { self.above + 1 } else { 0 };
     }
 
@@ -192,7 +193,7 @@ impl Parser {
         match begins(code) {
             _ if code.starts_with("use ") || code.starts_with("pub use ") => self.used(code),
             // A name with its whole path is not followed.
-            _ if code.contains("Rattle·") => self.spec.strange.push(code.trim().to_string()),
+            _ if code.contains("Rattle.") => self.spec.strange.push(code.trim().to_string()),
             _ if standing && code.trim_start().starts_with("module _") => self.opens(code),
             _ if code.trim_start().starts_with("infix") || code.starts_with("pub mod ") || code.starts_with("mod ") => {}
             Some((kind, name)) if standing => self.begin(number, code, kind, name),
@@ -240,9 +241,9 @@ mod tests {
 
     const TEXT: &str = "-- Finding (document 01, \"A span\").
 -- Assumes nothing.
-use Prim.Native.Nat.{ℕ}
-use Rattle·ground.specs.Search.{firstFrom, isSome as is}
-use Rattle·one·specs.specs.declared.at.Found.the-variants as Found
+use Rattle.std.specs.Prelude.{ℕ, ◌*◌}
+use Rattle.ground.specs.Search.{first_from, is_some as is}
+use Rattle.one.specs.declared.at.Found.TheVariants as Found
 
 -- what is found
 pub record At (A : Type 0) : Type 0 where
@@ -258,8 +259,8 @@ module _ (n : ℕ) where
   at (suc k) =
       at k
 
-infixl 60 _⊕_
-unfoldable pub _⊕_ : ℕ → ℕ → ℕ
+infixl 60 ◌⊕◌
+unfoldable pub ◌⊕◌ : ℕ → ℕ → ℕ
 a ⊕ b = a
 
 pub data Answer : Type 0 where
@@ -271,7 +272,7 @@ pub data Answer : Type 0 where
     fn definitions_and_their_lines() {
         let spec = parse(TEXT);
         let told: Vec<_> = spec.definitions.iter().map(|d| (d.name.as_str(), d.from, d.to, d.size, d.pieces.len())).collect();
-        assert_eq!(told, [("At", 8, 12, 6, 3), ("at", 16, 19, 5, 3), ("_⊕_", 22, 23, 3, 2), ("Answer", 25, 27, 3, 3)]);
+        assert_eq!(told, [("At", 8, 12, 6, 3), ("at", 16, 19, 5, 3), ("◌⊕◌", 22, 23, 3, 2), ("Answer", 25, 27, 3, 3)]);
         assert_eq!(spec.definitions[1].parameters, "(n : ℕ)");
         assert_eq!(spec.definitions[3].constructors, ["refused", "given"]);
         assert_eq!(spec.head, "Finding (document 01, \"A span\").");
@@ -280,16 +281,18 @@ pub data Answer : Type 0 where
     #[test]
     fn uses() {
         let spec = parse(TEXT);
-        assert_eq!(spec.uses.len(), 2);
-        assert_eq!(spec.uses[0].names[1], ("isSome".to_string(), "is".to_string()));
-        assert_eq!(spec.uses[1].module, "declared.at.Found.the-variants");
-        assert_eq!(spec.uses[1].names, [(String::new(), "Found".to_string())]);
-        assert!(parse_use("use Rattle·one.specs.Code").is_err());
+        assert_eq!(spec.uses.len(), 3);
+        assert_eq!(spec.uses[1].names[1], ("is_some".to_string(), "is".to_string()));
+        assert_eq!(spec.uses[2].module, "declared.at.Found.TheVariants");
+        assert_eq!(spec.uses[2].names, [(String::new(), "Found".to_string())]);
+        assert!(parse_use("use Rattle.one.specs.Code").is_err());
+        assert!(parse_use("use Rattle.one.specs.Code.{*}").is_err());
+        assert_eq!(parse_use("use Rattle.one.proofs.Code.{code}"), Ok(None));
     }
 
     #[test]
     fn what_is_not_understood() {
-        assert_eq!(parse("pub f : ℕ\nf = Rattle·a.specs.B.c\n\naxiom g : ℕ\n").strange, ["f = Rattle·a.specs.B.c", "axiom g : ℕ"]);
+        assert_eq!(parse("pub f : ℕ\nf = Rattle.a.specs.B.c\n\naxiom g : ℕ\n").strange, ["f = Rattle.a.specs.B.c", "axiom g : ℕ"]);
         assert!(parse(TEXT).strange.is_empty());
     }
 }

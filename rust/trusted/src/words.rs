@@ -1,5 +1,5 @@
 //! The words of antt: names, brackets, and the signs between them. A name is anything between blanks, brackets, commas, semicolons and
-//! dots, so that `foo-bar`, `n'`, `«K28_5»` and `⊕` are one each.
+//! dots, so that `foo_bar`, `n'`, `«K28_5»` and `⊕` are one each.
 
 #[derive(Debug, Clone, Copy, PartialEq, Eq)]
 pub enum Word<'a> {
@@ -53,10 +53,10 @@ pub fn words(text: &str) -> Vec<Word<'_>> {
     found
 }
 
-/// A name between the blanks of an operator, `⊕` of `_⊕_`, stands for it too.
+/// A name between the blanks of an operator, `⊕` of `◌⊕◌`, stands for it too.
 pub fn spelt(name: &str) -> Vec<String> {
-    let is_operator = name.contains('_') && !name.contains('«');
-    let parts = name.split('_').filter(|part| is_operator && !part.is_empty());
+    let is_operator = name.contains('◌') && !name.contains('«');
+    let parts = name.split('◌').filter(|part| is_operator && !part.is_empty());
     std::iter::once(name).chain(parts).map(String::from).collect()
 }
 
@@ -67,9 +67,16 @@ mod tests {
 
     #[test]
     fn names_fields_and_signs() {
-        let expected = [Name("r"), Sign('.'), Behind("place"), Name("+"), Open('('), Name("λ"), Name("x'"), Sign('.'), Name("a-b"), Close];
-        assert_eq!(words("r .place + (λ x'. a-b)"), expected);
+        let expected = [Name("r"), Sign('.'), Behind("place"), Name("+"), Open('('), Name("λ"), Name("x'"), Sign('.'), Name("a_b"), Close];
+        assert_eq!(words("r.place + (λ x'. a_b)"), expected);
+        assert_eq!(words("(f r).place.0"), [Open('('), Name("f"), Name("r"), Close, Sign('.'), Behind("place"), Sign('.'), Behind("0")]);
         assert_eq!(words("Meaning.Byte «K28_5»"), [Name("Meaning"), Sign('.'), Behind("Byte"), Name("«K28_5»")]);
+    }
+
+    #[test]
+    fn operators() {
+        assert_eq!(spelt("◌⊕◌"), ["◌⊕◌", "⊕"]);
+        assert_eq!(spelt("line_after"), ["line_after"]);
     }
 
     #[test]

@@ -21,6 +21,6 @@ unfoldable pub symbol_table : List ℕ
 symbol_table = table 536 (λ i. symbol_of (of_offset (i / 268)) (i % 268))
 
 -- 268 for a character that flips the disparity, else 0: the offset after it is the offset before it, exclusive-ored with this
--- (law `after-at`)
+-- (law `after_at`)
 unfoldable pub flip_table : List ℕ
 flip_table = table 268 (λ c. cond (flips c) 268 0)

@@ -1,4 +1,4 @@
--- What is gathered from symbols without an early exit. That it is correct is the law `see-step`.
+-- What is gathered from symbols without an early exit. That it is correct is the law `see_step`.
 -- Assumes nothing.
 use Rattle.std.specs.Prelude.{◌≡◌, ℕ, ◌+◌, ◌-◌, ◌*◌, ◌/◌, ◌%◌, ◌≤◌, ◌<◌, Bool, true, ◌&&◌, List, eqb, length, get_or}
 use Rattle.std.specs.Int.Bits.{bit_and, bit_or, bit_xor}

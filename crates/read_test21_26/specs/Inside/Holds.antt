@@ -46,7 +46,7 @@ crcc_received p w t c =
     crcc_words
     (crc c (column s (word_at p w) eav_start 3 t ++ (repaired (word_of s (word_at p w) eav_xyz t) ∷ column s (word_at p w) line_start 2 t)))
 
--- test 24, given the sums that the pictures of the streams leave; it is test 24 if these are the sums of the window (law `sums-right`)
+-- test 24, given the sums that the pictures of the streams leave; it is test 24 if these are the sums of the window (law `sums_right`)
 unfoldable pub holds24_by : Shape → List ℕ → Sums → ℕ → ℕ → Bool
 holds24_by p w c j t =
     let word = word_of (streams p) (word_at p w) j t in

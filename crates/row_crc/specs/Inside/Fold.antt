@@ -1,4 +1,4 @@
--- A row whose first words have been moved further along it, by a multiple of the polynomial of 004, 6.4 b (law `moves-nothing`).
+-- A row whose first words have been moved further along it, by a multiple of the polynomial of 004, 6.4 b (law `moves_nothing`).
 -- Assumes nothing.
 use Rattle.std.specs.Prelude.{ℕ, ◌+◌, ◌≤◌, cond, List, ◌≡◌, ltb, get_or}
 use Rattle.ground.specs.Written.{table}

@@ -28,6 +28,6 @@ unfoldable pub summed_of : List ℕ → Summed
 summed_of rows =
     cond (eqb (length rows) 3840) (Rows (sums_of_two rows)) (cond (eqb (length rows) 7680) (Rows (sums_of_four rows)) OtherLength)
 
--- of two rows or four (law `has-sums`)
+-- of two rows or four (law `has_sums`)
 abbrev pub sums_in : List ℕ → Sums
 sums_in rows = cond (eqb (length rows) 3840) (sums_of_two rows) (sums_of_four rows)

@@ -7,7 +7,7 @@ use Rattle.span.specs.declared.format.Format.{Format}
 use Rattle.span.specs.declared.sample.Bounds.{Bounds}
 use Rattle.span.specs.Sample.{blank_word}
 
--- the same for a loop: the lowest and highest sample allowed (law `allowed-is`), and the factor that turns it into a word (law `word-is`)
+-- the same for a loop: the lowest and highest sample allowed (law `allowed_is`), and the factor that turns it into a word (law `word_is`)
 abbrev pub bounds_of : Format → ℕ → Bounds
 bounds_of f n =
     cond (is_active n)

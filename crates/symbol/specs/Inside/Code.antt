@@ -6,7 +6,7 @@ use Rattle.symbol.specs.declared.disparity.Disparity.TheVariants.{Negative, Posi
 use Rattle.symbol.specs.Code.{after_of, symbol_of}
 use Rattle.symbol.specs.Disparity.{is_positive}
 
--- whether character c takes negative disparity to positive (and then positive to negative: law `flips-both`)
+-- whether character c takes negative disparity to positive (and then positive to negative: law `flips_both`)
 unfoldable pub flips : ℕ → Bool
 flips c = is_positive (after_of Negative c)
 

@@ -26,7 +26,7 @@ pub record Restored (p : Shape) (words : List ℕ) : Type 0 where
   pub sav : (i : ℕ) → i < 4 → get_or (bytes words) i 0 ≡ fixed_byte (streams p) i
   pub eav : (i : ℕ) → i < 4 → get_or (bytes words) (eav_at p + i) 0 ≡ fixed_byte (streams p) i
 
--- words that pass tests 21 to 26: those that meet the rules (`passes-meets`, `meets-passes`)
+-- words that pass tests 21 to 26: those that meet the rules (`passes_meets`, `meets_passes`)
 pub record Passes (f : Format) (word : ℕ → ℕ) : Type 0 where
   pub timing : (k : ℕ) → k < 2 * pairs_in (shape_of f) → placed (streams (shape_of f)) (holds21 (streams (shape_of f)) word) k ≡ true
   pub line_number : (k : ℕ) → k < 2 * pairs_in (shape_of f) → placed (streams (shape_of f)) (holds22 (streams (shape_of f)) word) k ≡ true

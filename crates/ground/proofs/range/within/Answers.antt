@@ -1,11 +1,14 @@
-use Rattle.std.proofs.Common.{rules, ◌≡◌, ℕ, ◌+◌, ◌-◌, ◌*◌, ◌<◌, ◌≤◌, length, ◌/◌, ◌%◌, Bool, true, false, nat_eq, nat_lt, List, [], ◌∷◌, ◌++◌, slice_index_or, slice_set, bit_and, bit_or, Fits, w8, w32, w64, Bor, MutBor}
-use Rattle.ground.specs.Range.{within as in_range}
+use mathlib.Core.Path.{sym}
+use Prim.Native.Nat.{◌≤◌}
+use native.Mathlib.Omega.{arith}
+use borrow.Author.Tests.{le-leb}
+use Rattle.ground.specs.Range.{within}
+use Rattle.ground.proofs.Ranges.{is_below}
 use Rattle.ground.proofs.range.within.Goals as goal
 
--- src/range.rt:9:9
-pub returns_then_n_low : goal.returns_then_n_low
-returns_then_n_low c = ?
+pub returns-then-n-low : goal.returns-then-n-low
+returns-then-n-low c = sym (is_below c.args.low c.args.high c.args.n c.if-n-low.true)
 
--- src/range.rt:5:1
 pub returns : goal.returns
-returns c = ?
+unfolding within
+returns c = simp (le-leb c.args.low c.args.n c.if-n-low.false)

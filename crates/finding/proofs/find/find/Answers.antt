@@ -1,0 +1,51 @@
+-- `finding::find::find` meets its contract.
+-- Assumes nothing.
+use mathlib.Core.Path.{refl, sym, ap, ◌∙◌}
+use native.Mathlib.Omega.{arith}
+use Prim.Native.Nat.{◌≤◌}
+use lib.ListN.{length}
+use lib.Seq.{length-take-le}
+use Rattle.span.specs.declared.length.SpanLengths.{SpanLengths}
+use Rattle.span.proofs.Formats.{small}
+use Rattle.recording.specs.Recording.{limit}
+use Rattle.finding.specs.Inside.Seek.{sought_of}
+use Rattle.recording.proofs.Calling.{finds_place, finds_none}
+use Rattle.finding.proofs.find.find.Goals as goal
+
+pub slice_bounds-rows-end : goal.slice_bounds-rows-end
+slice_bounds-rows-end c =
+    let few : c.span_lengths-m.result.samples ≤ 7680 = omega (arith, ap (λ (l : SpanLengths). l.samples) c.span_lengths-m.ensures, (small c.args.f refl).half) in
+    few
+
+pub slice_bounds-seek-end : goal.slice_bounds-seek-end
+slice_bounds-seek-end c =
+    let few : c.span_lengths-m.result.samples ≤ 7680 = omega (arith, ap (λ (l : SpanLengths). l.samples) c.span_lengths-m.ensures, (small c.args.f refl).half) in
+    sym (length-take-le _ _ few)
+
+pub seek-requires : goal.seek-requires
+seek-requires c =
+    let a = c.args in
+    let r = a.symbols.now in
+    let known = sym c.is_known.ensures ∙ c.if-is_known.true in
+    let short : length r ≤ limit = omega (arith, c.limit.ensures, c.if-limit-symbols.false) in
+    let inside : a.start ≤ length r = omega (arith, c.if-symbols-start.false) in
+    let few : c.span_lengths-m.result.samples ≤ 7680 = omega (arith, ap (λ (l : SpanLengths). l.samples) c.span_lengths-m.ensures, (small c.args.f refl).half) in
+    record { f_value = known; start_in_bounds = inside; rows_len = length-take-le _ _ few ∙ ap (λ (l : SpanLengths). l.samples) c.span_lengths-m.ensures }
+
+pub returns-in-Span : goal.returns-in-Span
+returns-in-Span c =
+    let a = c.args in
+    let r = a.symbols.now in
+    let known = sym c.is_known.ensures ∙ c.if-is_known.true in
+    let short : length r ≤ limit = omega (arith, c.limit.ensures, c.if-limit-symbols.false) in
+    let inside : a.start ≤ length r = omega (arith, c.if-symbols-start.false) in
+    finds_place a.f r a.start known short inside (sym (ap sought_of c.in-Span.is) ∙ c.seek.ensures.answer)
+
+pub returns-in-None : goal.returns-in-None
+returns-in-None c =
+    let a = c.args in
+    let r = a.symbols.now in
+    let known = sym c.is_known.ensures ∙ c.if-is_known.true in
+    let short : length r ≤ limit = omega (arith, c.limit.ensures, c.if-limit-symbols.false) in
+    let inside : a.start ≤ length r = omega (arith, c.if-symbols-start.false) in
+    finds_none a.f r a.start known short inside (sym (ap sought_of c.in-None.is) ∙ c.seek.ensures.answer)

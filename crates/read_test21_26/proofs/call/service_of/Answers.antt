@@ -1,0 +1,10 @@
+-- `read_test21_26::call::service_of` meets its contract.
+-- Assumes nothing.
+use mathlib.Core.Path.{sym, ◌∙◌}
+use mathlib.Core.Bool.{true}
+use Rattle.read_test21_26.specs.Inside.Call.{is_window}
+use Rattle.read_test21_26.proofs.Calls.{given}
+use Rattle.read_test21_26.proofs.call.service_of.Goals as goal
+
+pub judge_window-requires : goal.judge_window-requires
+judge_window-requires c = given _ (sym c.is_window.ensures ∙ c.if-is_window.true) c.shape_of.ensures c.decoding_table-t.ensures
