@@ -1,5 +1,5 @@
 // A line of text that is assembled and written.
-use libc::STDOUT_FILENO;
+use std::io;
 use symbol::disparity::Disparity;
 use symbol::special::Special;
 
@@ -19,11 +19,12 @@ fn digit(n: u16) -> u8 {
     }
 }
 
-// The first n bytes, to standard output.
-fn write_first(bytes: &[u8], n: usize) {
+// Prints the first n bytes.
+fn write_first(rt: &impl Print, bytes: &[u8], n: usize) -> io::Result<()> {
     if n <= bytes.len() {
-        io::write_all(STDOUT_FILENO, &bytes[..n]);
+        rt.write_all(&bytes[..n])?;
     }
+    Ok(())
 }
 
 impl Line {
@@ -91,11 +92,11 @@ impl Line {
         }
     }
 
-    // Writes the line with its newline to standard output.
-    pub(crate) fn write(self) {
+    // Prints the line with its newline.
+    pub(crate) fn write(self, rt: &impl Print) -> io::Result<()> {
         let whole = self.push(b'\n');
         let n = whole.len;
         let bytes = whole.bytes;
-        write_first(&bytes, n);
+        write_first(rt, &bytes, n)
     }
 }

@@ -1,12 +1,14 @@
 // Writes the whole code, to be compared with the published one: for each character at each disparity, its symbol and the disparity after;
 // for each symbol, and for two numbers that are not symbols, what it decodes to at each disparity, what it means and where it is legal.
 #![tactic(auto)]
+
 mod line;
 
 use decoder::decode::Decoded;
 use decoder::meaning::{Legal, Meaning};
 use encoder::encode::Encoded;
 use line::Line;
+use std::io;
 use symbol::disparity::Disparity;
 use symbol::special::Special;
 
@@ -17,19 +19,19 @@ fn encoded(start: Line, d: Disparity, e: Encoded) -> Line {
     before.hex(e.symbol, 3).space().sign(after)
 }
 
-fn byte_line(d: Disparity, b: u8) {
+fn byte_line(rt: &impl Print, d: Disparity, b: u8) -> io::Result<()> {
     let e = encoder::encode::encode_byte(d, b);
-    encoded(Line::new().hex(b as u16, 2), d, e).write();
+    encoded(Line::new().hex(b as u16, 2), d, e).write(rt)
 }
 
-fn special_line(d: Disparity, k: Special) {
+fn special_line(rt: &impl Print, d: Disparity, k: Special) -> io::Result<()> {
     let e = encoder::encode::encode_special(d, k);
-    encoded(Line::new().name(k), d, e).write();
+    encoded(Line::new().name(k), d, e).write(rt)
 }
 
-fn special_lines(k: Special) {
-    special_line(Disparity::Negative, k);
-    special_line(Disparity::Positive, k);
+fn special_lines(rt: &impl Print, k: Special) -> io::Result<()> {
+    special_line(rt, Disparity::Negative, k)?;
+    special_line(rt, Disparity::Positive, k)
 }
 
 fn decoded(start: Line, d: Disparity, s: u16) -> Line {
@@ -54,7 +56,7 @@ fn legal(start: Line, at: Legal) -> Line {
     l
 }
 
-fn symbol_line(s: u16) {
+fn symbol_line(rt: &impl Print, s: u16) -> io::Result<()> {
     let start = Line::new().hex(s, 3);
     let l = decoded(
         decoded(start, Disparity::Negative, s),
@@ -69,41 +71,43 @@ fn symbol_line(s: u16) {
         Meaning::NoSymbol => l.push(b'n').push(b'o').push(b'n').push(b'e'),
         Meaning::Above1023 => l.push(b'7'),
     };
-    whole.write();
+    whole.write(rt)
 }
 
-fn bytes() {
+fn bytes(rt: &impl Print) -> io::Result<()> {
     for b in 0..=255u8 {
-        byte_line(Disparity::Negative, b);
-        byte_line(Disparity::Positive, b);
+        byte_line(rt, Disparity::Negative, b)?;
+        byte_line(rt, Disparity::Positive, b)?;
     }
+    Ok(())
 }
 
-fn specials() {
-    special_lines(Special::K28_0);
-    special_lines(Special::K28_1);
-    special_lines(Special::K28_2);
-    special_lines(Special::K28_3);
-    special_lines(Special::K28_4);
-    special_lines(Special::K28_5);
-    special_lines(Special::K28_6);
-    special_lines(Special::K28_7);
-    special_lines(Special::K23_7);
-    special_lines(Special::K27_7);
-    special_lines(Special::K29_7);
-    special_lines(Special::K30_7);
+fn specials(rt: &impl Print) -> io::Result<()> {
+    special_lines(rt, Special::K28_0)?;
+    special_lines(rt, Special::K28_1)?;
+    special_lines(rt, Special::K28_2)?;
+    special_lines(rt, Special::K28_3)?;
+    special_lines(rt, Special::K28_4)?;
+    special_lines(rt, Special::K28_5)?;
+    special_lines(rt, Special::K28_6)?;
+    special_lines(rt, Special::K28_7)?;
+    special_lines(rt, Special::K23_7)?;
+    special_lines(rt, Special::K27_7)?;
+    special_lines(rt, Special::K29_7)?;
+    special_lines(rt, Special::K30_7)
 }
 
-fn symbols() {
+fn symbols(rt: &impl Print) -> io::Result<()> {
     for s in 0..1024u16 {
-        symbol_line(s);
+        symbol_line(rt, s)?;
     }
+    Ok(())
 }
 
-fn main() {
-    bytes();
-    specials();
-    symbols();
-    symbol_line(1024);
-    symbol_line(65535);
+fn main(rt: HostRuntime) -> io::Result<()> {
+    bytes(&rt)?;
+    specials(&rt)?;
+    symbols(&rt)?;
+    symbol_line(&rt, 1024)?;
+    symbol_line(&rt, 65535)
 }

@@ -53,4 +53,4 @@ after_left s = after_spans s.disparity s.format s.line.0 s.count
 -- what the answer says if all of it was written
 abbrev pub WrittenTold : Left → Written → Type 0
 WrittenTold s (All after) = after ≡ after_left s
-WrittenTold s Stopped = Unit
+WrittenTold s (Stopped why) = Unit

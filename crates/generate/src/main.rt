@@ -2,39 +2,40 @@
 // spans, two bytes each, low byte first. To standard output: the format and depth bytes and then symbols, low byte first, as `list_spans`
 // reads them. To standard error: a refusal, or why a write failed.
 #![tactic(auto)]
+
 mod bytes;
 mod left;
 mod parameters;
 mod start;
 mod write;
 
-use libc::{STDERR_FILENO, STDIN_FILENO, STDOUT_FILENO};
+use std::io;
 use write::Written;
 
-fn write_refusal(input: &[u8]) {
+fn write_refusal(to: &impl Print, input: &[u8]) -> io::Result<()> {
     let mut out = [0u8; 10];
     let end = start::put_refusal(input, &mut out);
-    io::write_all(STDERR_FILENO, &out[..end]);
+    to.write_all(&out[..end])
 }
 
 // The start, and then span after span.
-fn write_recording(input: &[u8]) {
+fn write_recording(rt: &(impl Print + Eprint), input: &[u8]) -> io::Result<()> {
     let mut out = [0u8; 2];
     let start = start::put_start(input, &mut out);
     let end = start.end;
     let left = start.left;
-    if !io::write_all(STDOUT_FILENO, &out[..end]) {
-        os::fail(b"the recording");
-        return;
+    if let Err(e) = rt.write_all(&out[..end]) {
+        return eprintln!(rt; "the recording: {e}");
     }
-    if let Written::Stopped = write::write_left(left) {
-        os::fail(b"the recording");
+    match write::write_left(rt, left) {
+        Written::All(_) => Ok(()),
+        Written::Stopped(e) => eprintln!(rt; "the recording: {e}"),
     }
 }
 
-fn main() {
+fn main(rt: HostRuntime) -> io::Result<()> {
     let mut input = [0u8; 6];
-    let n = io::read_full(STDIN_FILENO, &mut input);
-    write_refusal(&input[..n]);
-    write_recording(&input[..n]);
+    let n = intake::reading::read_full(&mut rt.reader(), &mut input)?;
+    write_refusal(&rt.stderr(), &input[..n])?;
+    write_recording(&rt, &input[..n])
 }

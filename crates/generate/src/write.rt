@@ -5,7 +5,7 @@ ghost use Rattle.span.specs.Format.{shape_of, samples_in, symbols_in};
 ghost use Rattle.generate.specs.Pieces.{Ready, WrittenTold};
 
 use crate::left::Left;
-use libc::STDOUT_FILENO;
+use std::io;
 use symbol::disparity::Disparity;
 
 #[derive(Drop)]
@@ -13,11 +13,17 @@ pub(crate) enum Written {
     // All spans, with the disparity after the last.
     All(Disparity),
     // A write failed.
-    Stopped,
+    Stopped(io::Error),
 }
 
 // A piece for each span; it stops when a write fails.
-fn write_pieces(left: Left, samples: &mut [u16], symbols: &mut [u16], out: &mut [u8]) -> Written
+fn write_pieces(
+    to: &impl Print,
+    left: Left,
+    samples: &mut [u16],
+    symbols: &mut [u16],
+    out: &mut [u8],
+) -> Written
     requires ready { Ready left }
     requires samples_len { length samples.old ≡ samples_in (shape_of left.format) }
     requires symbols_len { length symbols.old ≡ symbols_in (shape_of left.format) }
@@ -27,15 +33,15 @@ fn write_pieces(left: Left, samples: &mut [u16], symbols: &mut [u16], out: &mut 
     let mut s = left;
     while 0 < s.count {
         s = crate::left::put_next(s, samples, symbols, out);
-        if !io::write_all(STDOUT_FILENO, out) {
-            return Written::Stopped;
+        if let Err(e) = to.write_all(out) {
+            return Written::Stopped(e);
         }
     }
     let d = s.disparity;
     Written::All(d)
 }
 
-pub(crate) fn write_left(left: Left) -> Written
+pub(crate) fn write_left(to: &impl Print, left: Left) -> Written
     requires { Ready left }
     ensures { WrittenTold left result }
 {
@@ -46,5 +52,11 @@ pub(crate) fn write_left(left: Left) -> Written
     let mut samples = [0u16; 7680];
     let mut symbols = [0u16; 19008];
     let mut out = [0u8; 38016];
-    write_pieces(left, &mut samples[..m], &mut symbols[..n], &mut out[..k])
+    write_pieces(
+        to,
+        left,
+        &mut samples[..m],
+        &mut symbols[..n],
+        &mut out[..k],
+    )
 }

@@ -1,16 +1,18 @@
 // Lists the repair of timing words: words from standard input, low byte first, up to 64 KiB; a line of text for each, to standard
 // output. Why the write failed, if it did, to standard error.
 #![tactic(auto)]
+
 mod listing;
 
-use libc::{STDIN_FILENO, STDOUT_FILENO};
+use std::io;
 
-fn main() {
-    let mut input = io::large_buffer();
+fn main(rt: HostRuntime) -> io::Result<()> {
+    let mut input = [0u8; 65536];
     let mut out = listing::room();
-    let n = io::read_full(STDIN_FILENO, &mut input);
+    let n = intake::reading::read_full(&mut rt.reader(), &mut input)?;
     let end = listing::put_listing(&input[..n], &mut out);
-    if !io::write_all(STDOUT_FILENO, &out[..end]) {
-        os::fail(b"the listing");
+    if let Err(e) = rt.write_all(&out[..end]) {
+        eprintln!(rt; "the listing: {e}")?;
     }
+    Ok(())
 }

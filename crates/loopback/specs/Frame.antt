@@ -21,4 +21,4 @@ after_frame = after_from fresh 1 1125
 -- what the flags and the answer say if all of it was written
 abbrev pub FrameTold : Knock → Written → List ℕ → Type 0
 FrameTold k (All after) heard = (heard ≡ heard_of k) × (after ≡ after_frame)
-FrameTold k Stopped heard = Unit
+FrameTold k (Stopped why) heard = Unit

@@ -4,6 +4,8 @@ ghost use Rattle.loopback.specs.Frame.{FrameTold};
 
 use rig::carry::Carried;
 use rig::knock::Knock;
+use std::io;
+use std::io::Write;
 use symbol::disparity::Disparity;
 
 #[derive(Drop)]
@@ -11,12 +13,12 @@ pub(crate) enum Written {
     // All of the picture, with the disparity after the frame.
     All(Disparity),
     // A write failed.
-    Stopped,
+    Stopped(io::Error),
 }
 
 // If all of it was written, the flags say which lines were heard.
 pub(crate) fn write_frame(
-    fd: i32,
+    out: &mut impl Write,
     k: Knock,
     heard: &mut [u16],
     picture: &mut [u16],
@@ -36,13 +38,14 @@ pub(crate) fn write_frame(
             Carried::After(after) => {
                 d = after;
             }
+            // No piece of the frame is refused.
             _ => {
-                return Written::Stopped;
+                return Written::Stopped(io::Error::from(io::ErrorKind::InvalidInput));
             }
         }
         let n = crate::file::put_piece(piece, picture, bytes);
-        if !io::write_all(fd, &bytes[..n]) {
-            return Written::Stopped;
+        if let Err(e) = out.write_all(&bytes[..n]) {
+            return Written::Stopped(e);
         }
         piece += 1;
     }

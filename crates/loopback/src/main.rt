@@ -2,76 +2,81 @@
 // input say where and for how long; the picture that arrives goes to a file, and a summary of what was lost to standard output. What cannot
 // be opened or written is said on standard error.
 #![tactic(auto)]
+
 mod file;
 mod frame;
 mod input;
 
 use frame::Written;
-use libc::{STDIN_FILENO, STDOUT_FILENO};
 use reception::summary::Summarised;
 use rig::knock::Knock;
+use std::env::FillError;
+use std::io::Write;
+use std::rt::{Env, Files};
+use std::{fs, io, str};
 
-// Opens the file that the first argument names, or loopback.pgm, anew; below 0 if it cannot be opened, which is reported.
-fn open_picture() -> i32 {
-    if os::arg_count() < 2 {
-        let fd = os::open_overwrite(b"loopback.pgm");
-        if fd < 0 {
-            os::fail(b"loopback.pgm");
+// The name that the first argument has, or loopback.pgm; none if it is too long or no text.
+fn name_of_picture<'a>(rt: &impl Env, path: &'a mut [u8; 4096]) -> Option<&'a str> {
+    match rt.arg(1, path) {
+        Ok(n) => str::from_utf8(&path[..n]).ok(),
+        Err(FillError::NotPresent) => Some("loopback.pgm"),
+        Err(FillError::TooLong) => None,
+    }
+}
+
+// Opens the picture's file anew; none if it cannot be opened, which is reported.
+fn open_picture<R: Env + Files + Eprint>(rt: &R) -> io::Result<Option<R::File>> {
+    let mut path = [0u8; 4096];
+    let Some(name) = name_of_picture(rt, &mut path) else {
+        eprintln!(rt; "the name of the picture: too long, or no text")?;
+        return Ok(None);
+    };
+    match fs::create(rt, name) {
+        Ok(file) => Ok(Some(file)),
+        Err(e) => {
+            eprintln!(rt; "{name}: {e}")?;
+            Ok(None)
         }
-        return fd;
     }
-    let mut path = io::buffer();
-    let n = os::arg(1, &mut path);
-    if os::errno() != 0 {
-        os::fail(b"the name of the picture");
-        return -1;
-    }
-    let fd = os::open_overwrite(&path[..n]);
-    if fd < 0 {
-        os::fail(&path[..n]);
-    }
-    fd
 }
 
 // What was lost, as text.
-fn print_summary(heard: &[u16]) {
+fn print_summary(rt: &(impl Print + Eprint), heard: &[u16]) -> io::Result<()> {
     let mut text = [0u8; 256];
     if let Summarised::Bytes(end) = reception::summary::put_summary(heard, &mut text) {
-        if !io::write_all(STDOUT_FILENO, &text[..end]) {
-            os::fail(b"the summary");
+        if let Err(e) = rt.write_all(&text[..end]) {
+            eprintln!(rt; "the summary: {e}")?;
         }
     }
+    Ok(())
 }
 
-fn write_header(fd: i32) -> bool {
+fn write_header(out: &mut impl Write) -> io::Result<()> {
     let mut head = [0u8; 32];
     let n = file::put_header(&mut head);
-    io::write_all(fd, &head[..n])
+    out.write_all(&head[..n])
 }
 
 // The picture after its header, and then the summary.
-fn run(fd: i32, k: Knock) {
+fn run(rt: &(impl Print + Eprint), out: &mut impl Write, k: Knock) -> io::Result<()> {
     let mut heard = [0u16; 1125];
     let mut picture = [0u16; 38400];
     let mut bytes = [0u8; 76800];
-    if !write_header(fd) {
-        os::fail(b"the picture");
-        return;
+    if let Err(e) = write_header(out) {
+        return eprintln!(rt; "the picture: {e}");
     }
-    match frame::write_frame(fd, k, &mut heard, &mut picture, &mut bytes) {
-        Written::All(_) => print_summary(&heard),
-        Written::Stopped => os::fail(b"the picture"),
+    match frame::write_frame(out, k, &mut heard, &mut picture, &mut bytes) {
+        Written::All(_) => print_summary(rt, &heard),
+        Written::Stopped(e) => eprintln!(rt; "the picture: {e}"),
     }
 }
 
-fn main() {
+fn main(rt: HostRuntime) -> io::Result<()> {
     let mut input = [0u8; 8];
-    let n = io::read_full(STDIN_FILENO, &mut input);
+    let n = intake::reading::read_full(&mut rt.reader(), &mut input)?;
     let k = input::knock_of(&input[..n]);
-    let fd = open_picture();
-    if fd < 0 {
-        return;
-    }
-    run(fd, k);
-    libc::close(fd);
+    let Some(mut picture) = open_picture(&rt)? else {
+        return Ok(());
+    };
+    run(&rt, &mut picture, k)
 }

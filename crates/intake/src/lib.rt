@@ -1,0 +1,4 @@
+// What a program is given on standard input, read into a lent buffer.
+#![tactic(auto)]
+
+pub mod reading;
