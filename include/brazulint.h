@@ -1,7 +1,7 @@
 /*
  * Brazulint: the link code of a 10G video link for 4K pictures (ITU-R BT.2077 Part 2, in China GY/T 347.2-2021).
  *
- * Link with libbrazulint.a (`rt staticlib brazulint` writes it to target/staticlib), on x86-64 Linux. It calls memcpy and memset and
+ * Link with libbrazulint.a (`rt lib` in crates/brazulint writes it to out/ there), on x86-64 Linux. It calls memcpy and memset and
  * nothing else, allocates nothing, keeps nothing between calls, and may be called from any number of threads at once. As compiled now,
  * judging takes 29 KiB of stack, finding and the next span 27, sending 26, reading 14, and every other call less than 3 KiB.
  *

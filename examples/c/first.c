@@ -2,8 +2,8 @@
  * A line of a 120 Hz link is sent, and every span of the recording is delivered. The part between the marks stands in README.md and in the
  * header too; ./test compares them (.ci/snippets).
  *
- *   rt staticlib brazulint
- *   cc -I include examples/c/first.c target/staticlib/libbrazulint.a -o target/first && target/first
+ *   (cd crates/brazulint && rt lib)
+ *   cc -I include examples/c/first.c crates/brazulint/out/libbrazulint.a -o target/first && target/first
  */
 #include "brazulint.h"
 

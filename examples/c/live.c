@@ -3,9 +3,9 @@
  * place of their refusal, and their old rows are blanked. The input is what `generate` writes: a byte of format, a byte of depth, and symbols,
  * low byte first, for as long as they come. The part between the marks stands in README.md and in the header too; ./test compares them.
  *
- *   rt staticlib brazulint && rt check generate
- *   cc -I include examples/c/live.c target/staticlib/libbrazulint.a -pthread -o target/live
- *   printf '\1\14\52\0\4\0' | target/bin/generate | target/live 1000
+ *   rt ci && (cd crates/brazulint && rt lib)
+ *   cc -I include examples/c/live.c crates/brazulint/out/libbrazulint.a -pthread -o target/live
+ *   printf '\1\14\52\0\4\0' | crates/generate/out/generate | target/live 1000
  *
  * The number is the most bytes that are read at a time.
  */

@@ -1,8 +1,8 @@
 /*
  * Four lines of a 120 Hz link are sent one after another, line 43 loses a symbol on the way, and what arrived is delivered.
  *
- *   rt staticlib brazulint
- *   cc -I include examples/c/recital.c target/staticlib/libbrazulint.a -o target/recital && target/recital
+ *   (cd crates/brazulint && rt lib)
+ *   cc -I include examples/c/recital.c crates/brazulint/out/libbrazulint.a -o target/recital && target/recital
  */
 #include "brazulint.h"
 

@@ -16,8 +16,8 @@ fn main() {
     println!("cargo:rustc-link-lib=static=brazulint");
 }
 
-/// target/staticlib at the root of the repository, two folders above this package.
+/// crates/brazulint/out at the root of the repository, two folders above this package.
 fn usual_folder() -> PathBuf {
     let package = env::var_os("CARGO_MANIFEST_DIR").expect("cargo says where the package is");
-    Path::new(&package).ancestors().nth(2).expect("the package stands in rust/ of the repository").join("target/staticlib")
+    Path::new(&package).ancestors().nth(2).expect("the package stands in rust/ of the repository").join("crates/brazulint/out")
 }

@@ -106,7 +106,7 @@ fn compare(program: &str, lister: &str) {
     }
     for count in [0, 1] {
         let said = said_when_full(Command::new(program), &input(1, 12, 42, count));
-        assert_eq!(said, "the recording: No space left on device\n", "{count} spans");
+        assert_eq!(said, "the recording: No space left on device (os error 28)\n", "{count} spans");
     }
     println!("the program writes {} recordings as the plain sender does, and list_spans lists their spans;", good.len());
     println!("  {} inputs are refused by their numbers, on standard error", bad.len());

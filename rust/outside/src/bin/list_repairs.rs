@@ -56,6 +56,6 @@ fn main() {
             assert_eq!(printed(&program, input, piece), listing(input), "{name}, in pieces of {piece}");
         }
     }
-    assert_eq!(said_when_full(Command::new(&program), &[1, 8, 3, 8]), "the listing: No space left on device\n");
+    assert_eq!(said_when_full(Command::new(&program), &[1, 8, 3, 8]), "the listing: No space left on device (os error 28)\n");
     println!("the program lists {} inputs as document 01 says, whole and in pieces", inputs.len());
 }

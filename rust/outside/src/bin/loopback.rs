@@ -192,7 +192,7 @@ fn compare(program: &Path, folder: &Path) {
     }
     // A standard output that takes nothing: the picture is there, and the summary is not.
     let said = said_when_full(run(program, folder, Some("knocked.pgm")), &[]);
-    assert_eq!(said, "the summary: No space left on device\n");
+    assert_eq!(said, "the summary: No space left on device (os error 28)\n");
     assert!(std::fs::read(folder.join("knocked.pgm")).expect("a picture") == file, "another picture");
     println!("the rig writes and prints what the plain reader receives for {} knocks, {BY_CHANCE} of them of seed {SEED}", knocks.len());
 }

@@ -57,7 +57,7 @@ fn compare_all(program: &str, known: &[Known]) {
         let (input, piece) = (recording(&mut random), random.pick(&PIECES));
         listed += compare(program, &format!("recording {turn} of seed {SEED}"), &input, &[piece]);
     }
-    assert_eq!(said_when_full(Command::new(program), &[]), "the listing: No space left on device\n");
+    assert_eq!(said_when_full(Command::new(program), &[]), "the listing: No space left on device (os error 28)\n");
     println!("the program lists {} inputs as document 01 says, whole and in pieces,", known.len());
     println!("  and {RECORDINGS} recordings of seed {SEED}, with {listed} spans in them");
 }
