@@ -2,6 +2,7 @@
 // number; include/brazulint.h says what each does. The comment of each ends with its refusals, in the order tried. The names carry the
 // number of the interface, so that what was compiled against another one does not link.
 #![tactic(auto)]
+
 pub mod codes;
 pub mod interface;
 pub mod pictures;

@@ -1,3 +1,4 @@
 // What decoding and encoding answer to C.
 #![tactic(auto)]
+
 pub mod characters;

@@ -1,5 +1,6 @@
 // Finding spans in a recording, and reading the next one.
 #![tactic(auto)]
+
 pub mod find;
 mod look;
 pub mod next;

@@ -1,5 +1,6 @@
 // What every layer uses; nothing about links. Most of this crate is definitions (specs/) and laws (proofs/).
 #![tactic(auto)]
+
 pub mod fill;
 pub mod least;
 pub mod range;

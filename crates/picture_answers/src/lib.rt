@@ -1,3 +1,4 @@
 // What the calls on places and rows answer to C.
 #![tactic(auto)]
+
 pub mod pictures;

@@ -1,3 +1,4 @@
 // What the calls on a recording answer to C.
 #![tactic(auto)]
+
 pub mod recordings;

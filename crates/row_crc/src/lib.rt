@@ -1,4 +1,5 @@
 // The CRC of each row of a picture, many words at a time.
 #![tactic(auto)]
+
 pub(crate) mod fold;
 pub mod sums;

@@ -1,5 +1,6 @@
 // Sending a span.
 #![tactic(auto)]
+
 mod check;
 mod coder;
 mod parts;

@@ -1,3 +1,4 @@
 // What the calls on words answer to C.
 #![tactic(auto)]
+
 pub mod words;

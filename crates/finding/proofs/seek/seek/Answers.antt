@@ -16,7 +16,7 @@ use Rattle.finding.proofs.seek.seek.Goals as goal
 pub returns-then-symbols-start : goal.returns-then-symbols-start
 returns-then-symbols-start c = let r = c.args.symbols.now in
     let n = ap (λ (l : SpanLengths). l.symbols) c.span_lengths-n.ensures in
- let told = none_answered c.args.rows.now
+    let told = none_answered c.args.rows.now
     (nothing c.args.f r c.requires.f_value (begin c.args.f r c.args.start) (omega (arith, n, c.requires.start_in_bounds, c.if-symbols-start.true))) in record { answer = told.0; rows = told.1 }
 
 pub returns-in-Span : goal.returns-in-Span

@@ -62,5 +62,5 @@ loop-i-preserved c =
 
 pub returns : goal.returns
 returns c = let n = ap (λ (l : SpanLengths). l.symbols) c.span_lengths-n.ensures in
- let told = none_answered c.loop-i.rows
+    let told = none_answered c.loop-i.rows
     (nothing c.args.f c.args.symbols.now c.requires.f_value c.loop-i.invariant.0 (omega (arith, n, c.loop-i.invariant.1, c.loop-i-test.false))) in record { answer = told.0; rows = told.1 }

@@ -12,12 +12,12 @@ begins-requires c = omega (arith, long c.args.f c.requires.f_value, c.requires.n
 
 pub returns-in-Delivered : goal.returns-in-Delivered
 returns-in-Delivered c = let a = c.args in
- let told = deliver a.f a.symbols.now a.i c.requires.f_value c.requires.n_value c.requires.n_in_bounds c.requires.rows_len c.accept.new.rows (sym (ap accepted_in c.in-Delivered.is) ∙ c.accept.ensures.answer) c.accept.ensures.rows in record { answer = told.0; rows = told.1 }
+    let told = deliver a.f a.symbols.now a.i c.requires.f_value c.requires.n_value c.requires.n_in_bounds c.requires.rows_len c.accept.new.rows (sym (ap accepted_in c.in-Delivered.is) ∙ c.accept.ensures.answer) c.accept.ensures.rows in record { answer = told.0; rows = told.1 }
 
 pub returns-in-Refused : goal.returns-in-Refused
 returns-in-Refused c = let a = c.args in
- let told = refuse a.f a.symbols.now a.i c.requires.f_value c.requires.n_value c.requires.n_in_bounds c.requires.rows_len c.accept.new.rows (sym (ap accepted_in c.in-Refused.is) ∙ c.accept.ensures.answer) in record { answer = told.0; rows = told.1 }
+    let told = refuse a.f a.symbols.now a.i c.requires.f_value c.requires.n_value c.requires.n_in_bounds c.requires.rows_len c.accept.new.rows (sym (ap accepted_in c.in-Refused.is) ∙ c.accept.ensures.answer) in record { answer = told.0; rows = told.1 }
 
 pub returns : goal.returns
 returns c = let a = c.args in
- let told = unbegun a.f a.symbols.now a.i c.requires.f_value a.rows.now (sym c.begins.ensures ∙ c.if-begins.false) in record { answer = told.0; rows = told.1 }
+    let told = unbegun a.f a.symbols.now a.i c.requires.f_value a.rows.now (sym c.begins.ensures ∙ c.if-begins.false) in record { answer = told.0; rows = told.1 }

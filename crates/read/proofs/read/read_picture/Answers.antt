@@ -14,9 +14,12 @@ returns-in-AllHold c =
     let is = c.requires.window in
     let hold = first_hold a.f a.symbols.now is c.requires.symbols_value_2 ∙ sym c.judge_picture.ensures ∙ c.in-AllHold.is in
     let read = read_by a.f a.symbols.now is c.requires.symbols_value hold in
-    let values = delivery_is a.f a.symbols.now is c.requires.v_value c.requires.service_value in record { answer = ap given (c.delivery.ensures ∙ values) ∙ sym read; rows = λ room _.
+    let values = delivery_is a.f a.symbols.now is c.requires.v_value c.requires.service_value in record {
+      answer = ap given (c.delivery.ensures ∙ values) ∙ sym read;
+      rows = λ room _.
           c.requires.rows_value
-          ∙ ap (λ (r : Answer Delivery). rows_left r room (picture_of a.f a.symbols.now)) (sym read) }
+          ∙ ap (λ (r : Answer Delivery). rows_left r room (picture_of a.f a.symbols.now)) (sym read);
+    }
 
 pub returns-in-Fails : goal.returns-in-Fails
 returns-in-Fails c =

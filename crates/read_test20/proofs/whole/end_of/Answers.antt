@@ -23,8 +23,12 @@ returns c =
     let w = c.args.symbols.now in
     let right = sym c.passes.ensures ∙ c.if-not-passes.false in
     let at : eav_symbol * c.args.p.stream_pairs + 24 * c.args.p.stream_pairs ≡ ancillary_symbol * c.args.p.stream_pairs = omega arith in
-    record { whole = λ t.
+    record {
+      whole = λ t.
           record {
             eav = (c.is_eav.ensures.sound (c.if-not-is_eav.false)).going c.requires.tied.bit;
             bytes = join w (rw at at (c.see_run-k.ensures.clean right)) (c.tail_of.ensures.whole t);
-          }; filled = c.tail_of.ensures.filled; kept = λ all right. c.tail_of.ensures.kept (bytes_stand c.args.p w all _ _ (omega (arith, c.requires.given.half)) (omega arith) (λ i a b q. omega arith)) right }
+          };
+      filled = c.tail_of.ensures.filled;
+      kept = λ all right. c.tail_of.ensures.kept (bytes_stand c.args.p w all _ _ (omega (arith, c.requires.given.half)) (omega arith) (λ i a b q. omega arith)) right;
+    }

@@ -7,4 +7,4 @@ use Rattle.read_test20.proofs.whole.take.Goals as goal
 
 pub returns-in-Faulty : goal.returns-in-Faulty
 returns-in-Faulty c = let a = c.args in
- let told = fault_taken a.f a.symbols.now a.rows.now _ _ c.pass.ensures (length c.pass.new.rows) c.in-Faulty.is c.fault_at.ensures c.fill.ensures (search rules) in record { taken = told.0; rows = told.1 }
+    let told = fault_taken a.f a.symbols.now a.rows.now _ _ c.pass.ensures (length c.pass.new.rows) c.in-Faulty.is c.fault_at.ensures c.fill.ensures (search rules) in record { taken = told.0; rows = told.1 }

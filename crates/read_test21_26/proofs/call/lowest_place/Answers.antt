@@ -18,12 +18,16 @@ next_line-next-requires c =
 
 pub lowest_in-requires : goal.lowest_in-requires
 lowest_in-requires c =
-    record { line_known = record {
+    record {
+      line_known = record {
         given =
             given _ (sym c.is_window.ensures ∙ c.if-is_window.true)
             c.shape_of-p.ensures c.decoding_table-t.ensures;
         line = c.next_line-next.ensures;
-      }; from_le_to = omega arith; to_bound = omega arith }
+      };
+      from_le_to = omega arith;
+      to_bound = omega arith;
+    }
 
 pub returns-then-number-eq25 : goal.returns-then-number-eq25
 returns-then-number-eq25 c =
@@ -38,12 +42,16 @@ overflow_add-from c = omega (arith, (small _ c.shape_of-p.ensures).ancillary)
 
 pub lowest_in-requires-then-is_window : goal.lowest_in-requires-then-is_window
 lowest_in-requires-then-is_window c =
-    record { line_known = record {
+    record {
+      line_known = record {
         given =
             given _ (sym c.is_window.ensures ∙ c.if-is_window.true)
             c.shape_of-p.ensures c.decoding_table-t.ensures;
         line = c.next_line-next.ensures;
-      }; from_le_to = omega arith; to_bound = omega arith }
+      };
+      from_le_to = omega arith;
+      to_bound = omega arith;
+    }
 
 pub returns-then-is_window : goal.returns-then-is_window
 returns-then-is_window c =

@@ -6,5 +6,5 @@ use Rattle.reception.proofs.receive.receive.Goals as goal
 
 pub returns-then-is_ready : goal.returns-then-is_ready
 returns-then-is_ready c = let a = c.args in
- let told = made a.first.0 a.symbols.now a.heard.now a.picture.now (sym c.is_ready.ensures ∙ c.if-is_ready.true) c.fill.ensures
+    let told = made a.first.0 a.symbols.now a.heard.now a.picture.now (sym c.is_ready.ensures ∙ c.if-is_ready.true) c.fill.ensures
     c.fill-then-is_ready.ensures c.receive_all.ensures.heard c.receive_all.ensures.picture in record { done = told.0; heard = told.1.0; picture = told.1.1 }

@@ -43,14 +43,20 @@ returns-in_default c =
     let a = c.args in
     let none =
     ended c.link-f.result (known c.link-f.ensures) a.symbols.now (within_limit _ c.requires.symbols_len_bound) v.place v.invariant.0 v.rows
-    (v.invariant.1 ∙ sym (samples c.link-f.ensures)) c.next_span-next.result.answer c.in_default.not-Delivered c.next_span-next.ensures.answer in record { heard = put_ends 1 flag a.first.0 none v.invariant.4
-          ∙ ap (λ (f : Format). heard_from a.first.0 a.heard.now (delivery_from f a.symbols.now 0)) c.link-f.ensures; picture = put_ends 7680 brings a.first.0 none v.invariant.5
-          ∙ ap (λ (f : Format). shown_from a.first.0 a.picture.now (delivery_from f a.symbols.now 0)) c.link-f.ensures }
+    (v.invariant.1 ∙ sym (samples c.link-f.ensures)) c.next_span-next.result.answer c.in_default.not-Delivered c.next_span-next.ensures.answer in record {
+      heard = put_ends 1 flag a.first.0 none v.invariant.4
+          ∙ ap (λ (f : Format). heard_from a.first.0 a.heard.now (delivery_from f a.symbols.now 0)) c.link-f.ensures;
+      picture = put_ends 7680 brings a.first.0 none v.invariant.5
+          ∙ ap (λ (f : Format). shown_from a.first.0 a.picture.now (delivery_from f a.symbols.now 0)) c.link-f.ensures;
+    }
 
 pub returns : goal.returns
 returns c =
     let v = c.loop-place in
     let a = c.args in
-    let none = none_left c.link-f.result (known c.link-f.ensures) a.symbols.now v.place c.loop-place-test.false in record { heard = put_ends 1 flag a.first.0 none v.invariant.4
-          ∙ ap (λ (f : Format). heard_from a.first.0 a.heard.now (delivery_from f a.symbols.now 0)) c.link-f.ensures; picture = put_ends 7680 brings a.first.0 none v.invariant.5
-          ∙ ap (λ (f : Format). shown_from a.first.0 a.picture.now (delivery_from f a.symbols.now 0)) c.link-f.ensures }
+    let none = none_left c.link-f.result (known c.link-f.ensures) a.symbols.now v.place c.loop-place-test.false in record {
+      heard = put_ends 1 flag a.first.0 none v.invariant.4
+          ∙ ap (λ (f : Format). heard_from a.first.0 a.heard.now (delivery_from f a.symbols.now 0)) c.link-f.ensures;
+      picture = put_ends 7680 brings a.first.0 none v.invariant.5
+          ∙ ap (λ (f : Format). shown_from a.first.0 a.picture.now (delivery_from f a.symbols.now 0)) c.link-f.ensures;
+    }

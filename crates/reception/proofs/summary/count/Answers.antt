@@ -13,8 +13,8 @@ loop-i-preserved c =
     let heard = c.args.heard.now in
     let inside : v.i < length heard = omega arith in
     elim c.if-heard-i-ne0.branch [
-      then-heard-i-ne0 w ↦ (omega arith, omega arith, omega (arith, v.invariant.2, heard_counted heard v.i inside w.if-heard-i-ne0.true))
-    | else-heard-i-ne0 w ↦ (omega arith, omega arith, omega (arith, v.invariant.2, lost_counted heard v.i inside w.if-heard-i-ne0.false))
+      | then-heard-i-ne0 w ↦ (omega arith, omega arith, omega (arith, v.invariant.2, heard_counted heard v.i inside w.if-heard-i-ne0.true))
+      | else-heard-i-ne0 w ↦ (omega arith, omega arith, omega (arith, v.invariant.2, lost_counted heard v.i inside w.if-heard-i-ne0.false))
     ]
 
 pub returns : goal.returns

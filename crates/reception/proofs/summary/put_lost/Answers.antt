@@ -11,5 +11,5 @@ put_carried-requires c =
 
 pub returns : goal.returns
 returns c = let a = c.args in
- let told = lost_put a.label.now a.n a.out.now a.at c.requires.label_len_bound c.requires.n_bound c.requires.at_in_bounds _ _ _ _
+    let told = lost_put a.label.now a.n a.out.now a.at c.requires.label_len_bound c.requires.n_bound c.requires.at_in_bounds _ _ _ _
     c.stream_line.ensures (c.put_text-a.ensures.end, c.put_text-a.ensures.written) (c.put_decimal-b.ensures.end, c.put_decimal-b.ensures.written) (c.put_carried.ensures.end, (c.put_carried.ensures.most, c.put_carried.ensures.written)) in record { end = told.0; most = told.1.0; written = told.1.1 }

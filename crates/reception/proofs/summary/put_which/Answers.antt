@@ -5,5 +5,5 @@ use Rattle.reception.proofs.summary.put_which.Goals as goal
 
 pub returns : goal.returns
 returns c = let a = c.args in
- let told = which_put a.heard.now a.out.now a.at _ _ _ _ c.first_lost.ensures.value
+    let told = which_put a.heard.now a.out.now a.at _ _ _ _ c.first_lost.ensures.value
     c.last_lost.ensures.value (c.put_lost-a.ensures.end, (c.put_lost-a.ensures.most, c.put_lost-a.ensures.written)) (c.put_lost.ensures.end, (c.put_lost.ensures.most, c.put_lost.ensures.written)) in record { end = told.0; most = told.1.0; written = told.1.1 }

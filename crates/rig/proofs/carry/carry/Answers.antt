@@ -12,7 +12,7 @@ pub returns-then-piece-ge225 : goal.returns-then-piece-ge225
 returns-then-piece-ge225 c = let a = c.args in
     let heard = a.heard.now in
     let picture = a.picture.now in
- let told = refuses heard (heard_in a.k a.piece) picture (picture_in a.k a.piece)
+    let told = refuses heard (heard_in a.k a.piece) picture (picture_in a.k a.piece)
     (carry_meets_2 a.piece a.d (length heard) (length picture) (λ x. omega (arith, c.if-piece-ge225.true))) in record { answer = told.0; heard = told.1.0; picture = told.1.1 }
 
 pub returns-then-heard-ne5 : goal.returns-then-heard-ne5
@@ -20,7 +20,7 @@ returns-then-heard-ne5 c = let a = c.args in
     let heard = a.heard.now in
     let picture = a.picture.now in
     let there : a.piece < 225 = omega (arith, c.if-piece-ge225.false) in
- let told = refuses heard (heard_in a.k a.piece) picture (picture_in a.k a.piece)
+    let told = refuses heard (heard_in a.k a.piece) picture (picture_in a.k a.piece)
     (carry_meets_4 a.piece a.d (length heard) (length picture) there (λ x y. omega (arith, c.if-heard-ne5.true))) in record { answer = told.0; heard = told.1.0; picture = told.1.1 }
 
 pub returns-then-picture-ne38400 : goal.returns-then-picture-ne38400
@@ -28,7 +28,7 @@ returns-then-picture-ne38400 c = let a = c.args in
     let heard = a.heard.now in
     let picture = a.picture.now in
     let there : a.piece < 225 = omega (arith, c.if-piece-ge225.false) in
- let told = refuses heard (heard_in a.k a.piece) picture (picture_in a.k a.piece)
+    let told = refuses heard (heard_in a.k a.piece) picture (picture_in a.k a.piece)
     (carry_meets_4 a.piece a.d (length heard) (length picture) there (λ x y. omega (arith, c.if-picture-ne38400.true))) in record { answer = told.0; heard = told.1.0; picture = told.1.1 }
 
 pub carry_in-requires : goal.carry_in-requires
@@ -40,6 +40,6 @@ returns c = let a = c.args in
     let heard = a.heard.now in
     let picture = a.picture.now in
     let there : a.piece < 225 = omega (arith, c.if-piece-ge225.false) in
- let told = gives heard (heard_in a.k a.piece) picture (picture_in a.k a.piece)
+    let told = gives heard (heard_in a.k a.piece) picture (picture_in a.k a.piece)
     (carries a.piece a.d (length heard) (length picture) there c.if-heard-ne5.false c.if-picture-ne38400.false)
     c.carry_in.ensures.after c.carry_in.ensures.heard c.carry_in.ensures.picture in record { answer = told.0; heard = told.1.0; picture = told.1.1 }

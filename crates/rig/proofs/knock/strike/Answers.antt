@@ -18,7 +18,7 @@ loop-i-preserved c =
     let inside : v.i < length a.symbols.now = omega arith in
     let done : c.if-is_struck.symbols ≡ done_to a.k a.from a.symbols.now (v.i + 1) =
     elim c.if-is_struck.branch [
-      then-is_struck w ↦ w.symbols-is ∙ struck_step a.k a.from a.symbols.now v.i inside v.invariant.2 (sym c.is_struck.ensures ∙ w.if-is_struck.true)
-    | else-is_struck w ↦ w.symbols-is ∙ spared_step a.k a.from a.symbols.now v.i inside v.invariant.2 (sym c.is_struck.ensures ∙ w.if-is_struck.false)
+      | then-is_struck w ↦ w.symbols-is ∙ struck_step a.k a.from a.symbols.now v.i inside v.invariant.2 (sym c.is_struck.ensures ∙ w.if-is_struck.true)
+      | else-is_struck w ↦ w.symbols-is ∙ spared_step a.k a.from a.symbols.now v.i inside v.invariant.2 (sym c.is_struck.ensures ∙ w.if-is_struck.false)
     ] in
     (omega arith, ap length done ∙ length_done_to a.k a.from a.symbols.now (v.i + 1), done)

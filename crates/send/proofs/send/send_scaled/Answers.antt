@@ -22,4 +22,4 @@ send_words-requires c =
 pub returns : goal.returns
 returns c = let a = c.args in
     let n = request a.l.0 a.content a.samples.now in
- let told = span_put_lem a.f n c.requires.accepted a.factor c.requires.factor_value a.d a.out.now c.scale.ensures c.requires.out_len (c.send_words.ensures.after, c.send_words.ensures.symbols) in record { after = told.0; symbols = told.1 }
+    let told = span_put_lem a.f n c.requires.accepted a.factor c.requires.factor_value a.d a.out.now c.scale.ensures c.requires.out_len (c.send_words.ensures.after, c.send_words.ensures.symbols) in record { after = told.0; symbols = told.1 }

@@ -24,7 +24,7 @@ pub returns-then-factor-eq1 : goal.returns-then-factor-eq1
 returns-then-factor-eq1 c = let a = c.args in
     let n = request a.l.0 a.content a.samples.now in
     let e = as_they_are a.samples.now c.if-factor-eq1.true in
- let told = span_put_lem a.f n c.requires.accepted a.factor c.requires.factor_value a.d a.out.now e c.requires.out_len (c.send_words.ensures.after, c.send_words.ensures.symbols) in record { after = told.0; symbols = told.1 }
+    let told = span_put_lem a.f n c.requires.accepted a.factor c.requires.factor_value a.d a.out.now e c.requires.out_len (c.send_words.ensures.after, c.send_words.ensures.symbols) in record { after = told.0; symbols = told.1 }
 
 pub slice_bounds-words-end : goal.slice_bounds-words-end
 slice_bounds-words-end c =
