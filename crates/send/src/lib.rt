@@ -4,7 +4,7 @@
 mod check;
 mod coder;
 mod parts;
-mod picture;
+mod picture_words;
 mod put;
 pub mod send;
 mod timing;

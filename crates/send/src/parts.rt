@@ -186,7 +186,7 @@ pub(crate) fn put_span(
     );
     let start = PICTURE_SYMBOL * pairs;
     let end = EAV_SYMBOL * pairs;
-    let q = crate::picture::put_picture(symbols, flips, pairs, words, d1, out, start);
+    let q = crate::picture_words::put_picture(symbols, flips, pairs, words, d1, out, start);
     let sums = q.sums;
     let d2 = put_after_picture(symbols, flips, pairs, q.offset, sums, l, content, out, end);
     put_blanking(symbols, flips, p, blank, d2, out);

@@ -31,7 +31,7 @@ use Rattle.span.specs.Span.{interleaved, bytes_listed, bytes, fill_word}
 use Rattle.send.specs.declared.coder.Coded.{Coded}
 use Rattle.send.specs.declared.coder.Three.{Three}
 use Rattle.send.specs.declared.put.Four.{Four}
-use Rattle.send.specs.declared.picture.Passed.{Passed}
+use Rattle.send.specs.declared.picture_words.Passed.{Passed}
 
 -- a character
 abbrev pub coded : Disparity → ℕ → Coded

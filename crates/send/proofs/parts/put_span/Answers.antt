@@ -6,7 +6,7 @@ use Rattle.crcc.specs.declared.sums.Sums.{Sums}
 use Rattle.line.specs.Stream.{v_of, line_after}
 use Rattle.row_crc.specs.Inside.Sums.{sums_in}
 use Rattle.word.specs.Timing.{timing}
-use Rattle.send.specs.declared.picture.Passed.{Passed}
+use Rattle.send.specs.declared.picture_words.Passed.{Passed}
 use Rattle.send.specs.Inside.Put.{put, timing_chars, picture_word, picture_chars, passed_at, after_picture_chars, whole_chars}
 use Rattle.send.proofs.Passing.{length_picture}
 use Rattle.send.proofs.Putting.{PutChars, made, renamed, then, is_offset, same_size}

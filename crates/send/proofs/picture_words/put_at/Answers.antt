@@ -1,10 +1,10 @@
--- `send::picture::put_at` meets its contract: the two words as one number.
+-- `send::picture_words::put_at` meets its contract: the two words as one number.
 -- Assumes nothing.
 -- two words as one number, the second above the first
 use Rattle.std.proofs.Common.{◌≡◌, ℕ, ◌+◌, ◌*◌, ◌/◌, ◌%◌, ◌<◌, get_or, sym, ap₂, arith}
 use Rattle.send.specs.Inside.Put.{pair_chars}
 use Rattle.send.proofs.Putting.{made, renamed}
-use Rattle.send.proofs.picture.put_at.Goals as goal
+use Rattle.send.proofs.picture_words.put_at.Goals as goal
 
 low_word : (x y : ℕ) → x < 4096 → (x + y * 4096) % 4096 ≡ x
 low_word x y h = omega arith

@@ -1,8 +1,8 @@
--- `send::picture::put_streams` meets its contract: by the number of streams.
+-- `send::picture_words::put_streams` meets its contract: by the number of streams.
 -- Assumes nothing.
 use Rattle.std.proofs.Common.{◌≡◌, ℕ, sym, ap, ◌∙◌, arith}
 use Rattle.send.specs.Inside.Put.{offset_after, put, picture_word, picture_chars}
-use Rattle.send.proofs.picture.put_streams.Goals as goal
+use Rattle.send.proofs.picture_words.put_streams.Goals as goal
 
 pub put_two_streams-requires : goal.put_two_streams-requires
 put_two_streams-requires c =

@@ -1,9 +1,9 @@
--- `send::picture::put_four_streams` meets its contract: after i words of each stream those are put.
+-- `send::picture_words::put_four_streams` meets its contract: after i words of each stream those are put.
 -- Assumes nothing.
 use Rattle.std.proofs.Common.{◌+◌, ◌-◌, ◌*◌, ◌≤◌, arith}
 use Rattle.send.proofs.Passing.{none_done, four_more, all_done}
 use Rattle.send.proofs.Putting.{made, is_offset, same_size}
-use Rattle.send.proofs.picture.put_four_streams.Goals as goal
+use Rattle.send.proofs.picture_words.put_four_streams.Goals as goal
 
 pub loop-i-init : goal.loop-i-init
 loop-i-init c =

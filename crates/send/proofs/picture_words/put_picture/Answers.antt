@@ -1,10 +1,10 @@
--- `send::picture::put_picture` meets its contract: the offset and the CRCs are what the two calls answer.
+-- `send::picture_words::put_picture` meets its contract: the offset and the CRCs are what the two calls answer.
 -- Assumes nothing.
 use Rattle.std.proofs.Common.{ℕ, sym, ◌∙◌, ap₂}
 use Rattle.crcc.specs.declared.sums.Sums.{Sums}
 use Rattle.row_crc.proofs.Rows.{are_sums, no_other}
-use Rattle.send.specs.declared.picture.Passed.{Passed}
-use Rattle.send.proofs.picture.put_picture.Goals as goal
+use Rattle.send.specs.declared.picture_words.Passed.{Passed}
+use Rattle.send.proofs.picture_words.put_picture.Goals as goal
 
 pub returns-in-Rows : goal.returns-in-Rows
 returns-in-Rows c =

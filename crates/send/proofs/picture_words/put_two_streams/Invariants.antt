@@ -1,8 +1,8 @@
--- `send::picture::put_two_streams` meets its contract: after j words of each stream those are put.
+-- `send::picture_words::put_two_streams` meets its contract: after j words of each stream those are put.
 -- Assumes nothing.
 use Rattle.std.proofs.Common.{◌≡◌, ◌-◌, ◌%◌, ◌≤◌}
 use Rattle.send.proofs.Passing.{Done}
-use Rattle.send.proofs.picture.put_two_streams.Given as goal
+use Rattle.send.proofs.picture_words.put_two_streams.Given as goal
 
 abbrev pub invariant-loop-j : goal.invariant-loop-j
 invariant-loop-j l =
