@@ -3,7 +3,7 @@
  *
  * Link with libbrazulint.a (`rt lib` in crates/brazulint writes it to out/ there), on x86-64 Linux. It calls memcpy and memset and
  * nothing else, allocates nothing, keeps nothing between calls, and may be called from any number of threads at once. As compiled now,
- * judging takes 29 KiB of stack, finding and the next span 27, sending 26, reading 14, and every other call less than 3 KiB.
+ * judging takes 29 KiB of stack, sending 28, finding and the next span 27, reading 14, and every other call less than 3 KiB.
  *
  * WHAT EVERY CALL GUARANTEES
  *
