@@ -4,7 +4,7 @@ use mathlib.Core.Path.{◌≡◌, refl, sym, ap, ◌∙◌}
 use Prim.Native.Nat.{◌+◌, ◌-◌, ◌<◌}
 use native.Mathlib.Omega.{arith}
 use lib.ListN.{length}
-use Rattle.rig.proofs.Knocking.{none_done, length_done_to, struck_step, spared_step}
+use Rattle.rig.proofs.Knocking.{done_to, none_done, length_done_to, struck_step, spared_step}
 use Rattle.rig.proofs.knock.strike.Goals as goal
 use Rattle.rig.proofs.knock.strike.Goals.{then-is_struck, else-is_struck}
 
