@@ -122,7 +122,9 @@ impl Project {
         let text = |path: &Path| fs::read_to_string(path).map_err(|e| format!("{}: {e}", path.display()));
         let list = text(&root.join("crates.txt"))?;
         let lines = list.lines().map(|line| line.split('#').next().unwrap_or(""));
-        let crates: Vec<String> = lines.filter_map(|line| line.split_once(':')).map(|(name, _)| name.trim().to_string()).collect();
+        // `brazulint staticlib: ground ..`: the name, and what kind of crate it is.
+        let named = |line: &str| Some(line.split_once(':')?.0.split_whitespace().next()?.to_string());
+        let crates: Vec<String> = lines.filter_map(named).collect();
         let mut files = Vec::new();
         for krate in &crates {
             let folder = root.join("crates").join(krate);
