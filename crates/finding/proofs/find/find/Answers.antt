@@ -2,15 +2,23 @@
 -- Assumes nothing.
 use mathlib.Core.Path.{refl, sym, ap, ◌∙◌}
 use native.Mathlib.Omega.{arith}
-use Prim.Native.Nat.{◌≤◌}
+use Prim.Native.Nat.{◌≤◌, ◌<◌}
 use lib.ListN.{length}
 use lib.Seq.{length-take-le}
 use Rattle.span.specs.declared.length.SpanLengths.{SpanLengths}
 use Rattle.span.proofs.Formats.{small}
 use Rattle.recording.specs.Recording.{limit}
 use Rattle.finding.specs.Inside.Seek.{sought_of}
-use Rattle.recording.proofs.Calling.{finds_place, finds_none}
+use Rattle.recording.proofs.Calling.{find_meets_3, finds_place, finds_none}
 use Rattle.finding.proofs.find.find.Goals as goal
+
+pub returns-then-limit-symbols : goal.returns-then-limit-symbols
+returns-then-limit-symbols c =
+    let a = c.args in
+    let r = a.symbols.now in
+    let known = sym c.is_known.ensures ∙ c.if-is_known.true in
+    let long : limit < length r = omega (arith, c.limit.ensures, c.if-limit-symbols.true) in
+    sym (find_meets_3 a.f r a.start known long)
 
 pub slice_bounds-rows-end : goal.slice_bounds-rows-end
 slice_bounds-rows-end c =
