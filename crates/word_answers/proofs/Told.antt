@@ -17,8 +17,8 @@ use Rattle.word.specs.declared.line_number.Numbered.{Numbered}
 use Rattle.word.specs.declared.line_number.Numbered.TheVariants as Numbered
 use Rattle.word.specs.declared.line_number.Named.{Named}
 use Rattle.word.specs.declared.line_number.Named.TheVariants as Named
-use Rattle.word.specs.declared.repair.WrongBit.{WrongBit}
-use Rattle.word.specs.declared.repair.WrongBit.TheVariants.{Nothing, Bit}
+use Rattle.std.specs.Prelude.{Option as Answered}
+use Rattle.std.specs.Prelude.{None, Some}
 use Rattle.word.specs.declared.repair.Repaired.{Repaired}
 use Rattle.word.specs.LineNumber.{paper_numbered, paper_named}
 use Rattle.word.specs.Repair.{legal_word, nearest, repaired_to, repair_of}
@@ -60,13 +60,13 @@ read_line_words_told = through read_line_words_answer_of line_back back named_on
     back Named.Nameless = refl
 
 -- the bit is told again from its number, where it is one of twelve
-bit_back : ℕ → WrongBit
-bit_back n = cond (eqb n no_bit) Nothing (Bit n)
+bit_back : ℕ → Answered ℕ
+bit_back n = cond (eqb n no_bit) None (Some n)
 
-bit_back_lem : (b : WrongBit) → ((k : ℕ) → b ≡ Bit k → k < 12) → bit_back (bit_number b) ≡ b
+bit_back_lem : (b : Answered ℕ) → ((k : ℕ) → b ≡ Some k → k < 12) → bit_back (bit_number b) ≡ b
 unfolding bit_back
-bit_back_lem Nothing h = refl
-bit_back_lem (Bit k) h = let below = h k refl in simp (ne_eqb k no_bit (λ e. omega arith))
+bit_back_lem None h = refl
+bit_back_lem (Some k) h = let below = h k refl in simp (ne_eqb k no_bit (λ e. omega arith))
 
 repair_back : RepairAnswer → Answer Repaired
 repair_back w = answer_by w.number 0 (record { word = w.word; distance = w.distance; bit = bit_back w.bit })
@@ -75,13 +75,13 @@ repair_back w = answer_by w.number 0 (record { word = w.word; distance = w.dista
 abbrev tested : Bool → Option ℕ → Repaired → Answer Repaired
 tested b o r = checked (unless 7 b ∷ unless 8 (is_some o) ∷ []) r
 
-back_if : (b : Bool) (o : Option ℕ) (r : Repaired) → (tested b o r ≡ given r → (k : ℕ) → r.bit ≡ Bit k → k < 12)
+back_if : (b : Bool) (o : Option ℕ) (r : Repaired) → (tested b o r ≡ given r → (k : ℕ) → r.bit ≡ Some k → k < 12)
     → repair_back (repair_answer_of (tested b o r)) ≡ tested b o r
 unfolding repair_back
 back_if false o r h = refl
 back_if true none r h = refl
 back_if true (some vh) r h =
-    ap (λ (bit : WrongBit). given (record { word = r.word; distance = r.distance; bit = bit })) (bit_back_lem r.bit (h refl))
+    ap (λ (bit : Answered ℕ). given (record { word = r.word; distance = r.distance; bit = bit })) (bit_back_lem r.bit (h refl))
 
 repair_back_lem : (w : ℕ) → repair_back (repair_answer_of (repair_of w)) ≡ repair_of w
 repair_back_lem w =

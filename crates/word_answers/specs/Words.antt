@@ -4,8 +4,8 @@ use Rattle.std.specs.Prelude.{ℕ}
 use Rattle.ground.specs.Answer.{Answer, refused, given}
 use Rattle.line.specs.declared.stream.StreamLine.{StreamLine}
 use Rattle.word.specs.declared.line_number.LineWords.{LineWords}
-use Rattle.word.specs.declared.repair.WrongBit.{WrongBit}
-use Rattle.word.specs.declared.repair.WrongBit.TheVariants.{Nothing, Bit}
+use Rattle.std.specs.Prelude.{Option as Answered}
+use Rattle.std.specs.Prelude.{None, Some}
 use Rattle.word.specs.declared.repair.Repaired.{Repaired}
 use Rattle.crcc.specs.Crcc.{crcc_words}
 use Rattle.boundary.specs.Numbers.{stream_line_number}
@@ -27,9 +27,9 @@ abbrev pub no_bit : ℕ
 no_bit = 12
 
 -- the bit that was wrong, if one was
-abbrev pub bit_number : WrongBit → ℕ
-bit_number Nothing = no_bit
-bit_number (Bit k) = k
+abbrev pub bit_number : Answered ℕ → ℕ
+bit_number None = no_bit
+bit_number (Some k) = k
 
 abbrev pub repair_answer_of : Answer Repaired → RepairAnswer
 repair_answer_of (refused number place) = record { number = number; word = 0; distance = 0; bit = no_bit }
