@@ -4,7 +4,9 @@
 use Rattle.std.specs.Prelude.{ℕ, true, false, cond, ltb}
 use Rattle.ground.specs.Answer.{Answer, refused, given}
 use Rattle.symbol.specs.declared.disparity.Disparity.{Disparity}
-use Rattle.symbol.specs.Character.{Character, byte, special, characters, number_of}
+use Rattle.symbol.specs.declared.character.Character.{Character}
+use Rattle.symbol.specs.declared.character.Character.TheVariants.{Byte as byte, Special as special}
+use Rattle.symbol.specs.Character.{characters, number_of}
 use Rattle.encoder.specs.declared.encode.Encoded.{Encoded}
 use Rattle.encoder.specs.Encode.{encoded}
 use Rattle.decoder.specs.Decode.{After}

@@ -32,9 +32,8 @@ use Rattle.word.proofs.WrongWords.{one_wrong, two_wrong}
 use Rattle.picture.specs.Division.{w}
 use Rattle.dividing.specs.Row.{divided, joined, split_of, join_of}
 use Rattle.dividing.proofs.RoundTrip.{join_split, split_join, place_agrees}
-use Rattle.span.specs.declared.content.Content.{Content}
+use Rattle.span.specs.Content.{Content, content_of}
 use Rattle.span.specs.declared.format.Format.{Format}
-use Rattle.span.specs.Content.{content_of}
 use Rattle.span.specs.Format.{is_known, shape_of, streams, symbols_in}
 use Rattle.span.specs.Span.{span_symbols, span_after}
 use Rattle.span.specs.Stream.{Request, picture}

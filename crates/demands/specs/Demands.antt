@@ -29,10 +29,9 @@ use Rattle.word.specs.Timing.{timing}
 use Rattle.picture.specs.Division.{line_from, sample_from}
 use Rattle.picture.specs.Place.{placed_of}
 use Rattle.dividing.specs.Row.{divided, joined, split_of, split_first, split_second, join_of, join_row, stream_in}
-use Rattle.span.specs.declared.content.Content.{Content}
+use Rattle.span.specs.Content.{Content, content_of}
 use Rattle.span.specs.declared.content.ContentBytes.{ContentBytes}
 use Rattle.span.specs.declared.format.Format.{Format}
-use Rattle.span.specs.Content.{content_of}
 use Rattle.span.specs.Encoding.{after_run}
 use Rattle.span.specs.Format.{shape_of, streams, pairs_in, symbols_in}
 use Rattle.span.specs.Image.{image_of}

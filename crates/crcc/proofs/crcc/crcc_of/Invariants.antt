@@ -1,8 +1,7 @@
 -- `crcc::crcc::crcc_of` meets its contract: what is left, from the register so far, is the whole from 0.
 -- Assumes nothing.
 use mathlib.Core.Path.{◌≡◌}
-use Prim.Native.Nat.{◌-◌, ◌≤◌}
-use lib.ListN.{length, drop}
+use lib.ListN.{drop}
 use Rattle.crcc.specs.Crcc.{crcc_from}
 use Rattle.crcc.proofs.crcc.crcc_of.Given as goal
 

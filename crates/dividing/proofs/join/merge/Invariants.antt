@@ -1,7 +1,7 @@
 -- `dividing::join::merge` meets its contract: after j iterations the row begins with the samples of j pairs.
 -- Assumes nothing.
 use mathlib.Core.Path.{◌≡◌}
-use Prim.Native.Nat.{◌-◌, ◌*◌, ◌≤◌}
+use Prim.Native.Nat.{◌*◌, ◌≤◌}
 use lib.ListN.{length}
 use lib.Seq.{sets}
 use Rattle.dividing.specs.Row.{joined}

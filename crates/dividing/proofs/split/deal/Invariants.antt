@@ -1,7 +1,7 @@
 -- `dividing::split::deal` meets its contract: after j iterations each image's row begins with its j samples.
 -- Assumes nothing.
 use mathlib.Core.Path.{◌≡◌}
-use Prim.Native.Nat.{◌-◌, ◌≤◌}
+use Prim.Native.Nat.{◌≤◌}
 use lib.ListN.{length}
 use lib.Seq.{sets}
 use Rattle.dividing.specs.Row.{divided}

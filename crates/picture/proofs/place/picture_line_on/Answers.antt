@@ -1,10 +1,9 @@
 -- `picture::place::picture_line_on` meets its contract: the tests say whether there is a line, and the formula which.
 -- Assumes nothing.
-use mathlib.Core.Path.{sym, ap, ◌∙◌}
+use mathlib.Core.Path.{sym, ◌∙◌}
 use Prim.Native.Nat.{◌≤◌}
 use native.Mathlib.Omega.{arith}
 use Rattle.ground.proofs.Ranges.{from_low, to_high}
-use Rattle.line.specs.Picture.{number_carried}
 use Rattle.line.proofs.Travel.{carries_told}
 use Rattle.picture.proofs.Places.{line_on}
 use Rattle.picture.proofs.place.picture_line_on.Goals as goal
