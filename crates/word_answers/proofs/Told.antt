@@ -13,20 +13,17 @@ use Rattle.ground.specs.Search.{is_some}
 use Rattle.ground.specs.Inside.Answer.{Injective}
 use Rattle.line.specs.declared.stream.StreamLine.{StreamLine}
 use Rattle.word.specs.declared.line_number.LineWords.{LineWords}
-use Rattle.word.specs.declared.line_number.Numbered.{Numbered}
-use Rattle.word.specs.declared.line_number.Numbered.TheVariants as Numbered
-use Rattle.word.specs.declared.line_number.Named.{Named}
-use Rattle.word.specs.declared.line_number.Named.TheVariants as Named
-use Rattle.std.specs.Prelude.{Option as Answered}
-use Rattle.std.specs.Prelude.{None, Some}
+use Rattle.word.specs.declared.line_number.NoLine.{NoLine}
+use Rattle.word.specs.declared.line_number.NameError.{NameError}
+use Rattle.word.specs.declared.line_number.NameError.TheVariants.{Above4095, Nameless}
+use Rattle.std.specs.Prelude.{Option as Answered, None, Some, Result, Ok, Err}
 use Rattle.word.specs.declared.repair.Repaired.{Repaired}
 use Rattle.word.specs.LineNumber.{paper_numbered, paper_named}
 use Rattle.word.specs.Repair.{legal_word, nearest, repaired_to, repair_of}
 use Rattle.word.specs.Word.{is_word}
 use Rattle.word.proofs.OneToOne.{numbered_one_to_one, named_one_to_one}
 use Rattle.word.proofs.WrongWords.{bit_answered}
-use Rattle.crcc.specs.declared.crcc.Crcc.{Crcc}
-use Rattle.crcc.specs.declared.crcc.Crcc.TheVariants as Crcc
+use Rattle.crcc.specs.declared.crcc.Above4095.{Above4095 as TooLarge}
 use Rattle.crcc.specs.Crcc.{paper_crcc}
 use Rattle.crcc.proofs.OneToOne.{crcc_one_to_one}
 use Rattle.word_answers.specs.declared.words.LineWordsAnswer.{LineWordsAnswer}
@@ -39,25 +36,25 @@ use Rattle.boundary.proofs.Told.{through, answer_by}
 line_words_back : LineWordsAnswer → Answer LineWords
 line_words_back w = answer_by w.number 0 (record { ln0 = w.ln0; ln1 = w.ln1 })
 
-pub line_words_told : Injective (λ (r : Numbered). line_words_answer_of (paper_numbered r))
+pub line_words_told : Injective (λ (r : Result LineWords NoLine). line_words_answer_of (paper_numbered r))
 unfolding line_words_back
 line_words_told = through line_words_answer_of line_words_back back numbered_one_to_one
   where
-    back : (r : Numbered) → line_words_back (line_words_answer_of (paper_numbered r)) ≡ paper_numbered r
-    back (Numbered.Words w) = refl
-    back Numbered.NoLine = refl
+    back : (r : Result LineWords NoLine) → line_words_back (line_words_answer_of (paper_numbered r)) ≡ paper_numbered r
+    back (Ok w) = refl
+    back (Err e) = refl
 
 line_back : ReadLineWordsAnswer → Answer StreamLine
 line_back l = answer_by l.number 0 (record { 0 = l.line.number })
 
-pub read_line_words_told : Injective (λ (r : Named). read_line_words_answer_of (paper_named r))
+pub read_line_words_told : Injective (λ (r : Result StreamLine NameError). read_line_words_answer_of (paper_named r))
 unfolding line_back
 read_line_words_told = through read_line_words_answer_of line_back back named_one_to_one
   where
-    back : (r : Named) → line_back (read_line_words_answer_of (paper_named r)) ≡ paper_named r
-    back (Named.Line l) = refl
-    back Named.Above4095 = refl
-    back Named.Nameless = refl
+    back : (r : Result StreamLine NameError) → line_back (read_line_words_answer_of (paper_named r)) ≡ paper_named r
+    back (Ok l) = refl
+    back (Err Above4095) = refl
+    back (Err Nameless) = refl
 
 -- the bit is told again from its number, where it is one of twelve
 bit_back : ℕ → Answered ℕ
@@ -94,10 +91,10 @@ repair_told v w e = sym (repair_back_lem v) ∙ ap repair_back e ∙ repair_back
 crcc_back : CrccAnswer → Answer ℕ
 crcc_back w = answer_by w.number 0 w.crc
 
-pub crcc_told : Injective (λ (r : Crcc). crcc_answer_of (paper_crcc r))
+pub crcc_told : Injective (λ (r : Result ℕ TooLarge). crcc_answer_of (paper_crcc r))
 unfolding crcc_back
 crcc_told = through crcc_answer_of crcc_back back crcc_one_to_one
   where
-    back : (r : Crcc) → crcc_back (crcc_answer_of (paper_crcc r)) ≡ paper_crcc r
-    back (Crcc.Register n) = refl
-    back Crcc.Above4095 = refl
+    back : (r : Result ℕ TooLarge) → crcc_back (crcc_answer_of (paper_crcc r)) ≡ paper_crcc r
+    back (Ok n) = refl
+    back (Err e) = refl

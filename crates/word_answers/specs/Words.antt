@@ -1,11 +1,9 @@
 -- What the calls on words answer to C (document 01, "Words of a stream"; refusals 2, 7, 8 and 22). In a refusal fields are 0, and `bit` is 12.
 -- Assumes nothing.
-use Rattle.std.specs.Prelude.{ℕ}
+use Rattle.std.specs.Prelude.{ℕ, Option as Answered, None, Some}
 use Rattle.ground.specs.Answer.{Answer, refused, given}
 use Rattle.line.specs.declared.stream.StreamLine.{StreamLine}
 use Rattle.word.specs.declared.line_number.LineWords.{LineWords}
-use Rattle.std.specs.Prelude.{Option as Answered}
-use Rattle.std.specs.Prelude.{None, Some}
 use Rattle.word.specs.declared.repair.Repaired.{Repaired}
 use Rattle.crcc.specs.Crcc.{crcc_words}
 use Rattle.boundary.specs.Numbers.{stream_line_number}
