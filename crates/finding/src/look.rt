@@ -10,18 +10,19 @@ const PIECE: usize = 64;
 fn is_comma(s: u16) -> bool
     ensures { result ≡ is_comma s }
 {
-    s == 0x17C || s == 0x283
+    (s == 0x17C) | (s == 0x283)
 }
 
-// Whether none of some symbols is K28.5. None is tested by itself, so that the loop has one exit.
-fn none_is_comma(symbols: &[u16]) -> bool
-    ensures { result ≡ true → Clear symbols.now 0 (length symbols.now) }
+// Whether none of `count` symbols is K28.5. None is tested by itself, so that the loop has one exit.
+fn none_is_comma(symbols: &[u16], from: usize, count: usize) -> bool
+    requires { from + count ≤ length symbols.now }
+    ensures { result ≡ true → Clear symbols.now from (from + count) }
 {
-    let mut found = false;
-    for &s in symbols {
-        found |= is_comma(s);
+    let mut found = 0;
+    for k in from..from + count {
+        found |= u16::from(is_comma(symbols[k]));
     }
-    !found
+    found == 0
 }
 
 // Whether K28.5 is at a place and at the next.
@@ -54,7 +55,7 @@ pub(crate) fn after_last(symbols: &[u16], from: usize, to: usize) -> usize
 {
     let mut k = to;
     while PIECE <= k - from {
-        if !none_is_comma(&symbols[k - PIECE..k]) {
+        if !none_is_comma(symbols, k - PIECE, PIECE) {
             return after_last_in(symbols, from, k);
         }
         k -= PIECE;

@@ -1,14 +1,12 @@
 -- The search for K28.5: what it passes over is no place where a span may begin.
 -- Assumes nothing.
-use mathlib.Core.Path.{◌≡◌, sym, ap, ◌∙◌}
+use mathlib.Core.Path.{◌≡◌, sym, ◌∙◌}
 use mathlib.Core.Bool.{true, false, true≢false}
 use mathlib.Core.List.{List}
 use Prim.Native.Nat.{ℕ, ◌+◌, ◌-◌, ◌≤◌, ◌<◌}
 use native.Mathlib.Omega.{arith}
 use lib.Dec.{ltb}
-use lib.ListN.{length, get_or, take, drop, length-drop}
-use lib.Seq.{length-take-le}
-use Rattle.std.proofs.lemmas.List.{get_or-take, get_or-drop}
+use lib.ListN.{get_or}
 use borrow.Author.Tests.{ltb-true, ltb-false}
 use Rattle.ground.proofs.Cases.{on_test}
 use Rattle.recording.specs.Inside.Look.{is_comma, begins_at, MayBegin, LookInv, Clear, LastInv}
@@ -27,22 +25,12 @@ module _ (r : List ℕ) where
             on_test (ltb j k) (λ t. let here : j ≡ k - 1 = omega (arith, ltb-true j k t) in rw here e) (λ t. n.none j (ltb-false j k t) l);
       }
 
-  -- symbols before, cut out of the recording
-  pub many_before : {k to : ℕ} (from : ℕ) → Clear r k to → from ≤ k → k ≤ length r
-      → Clear (take (k - from) (drop from r)) 0 (length (take (k - from) (drop from r))) → Clear r from to
-  many_before {k} {to} from n h inside e =
+  -- one symbol behind
+  pub one_behind : {from k : ℕ} → Clear r from k → is_comma (get_or r k 0) ≡ false → Clear r from (k + 1)
+  one_behind {from} {k} n e =
       record {
         none = λ j p l.
-            on_test (ltb j k)
-            (λ t.
-            let below : j - from < k - from = omega (arith, ltb-true j k t) in
-            let room : k - from ≤ length (drop from r) = omega (arith, length-drop from r) in
-            let long : length (take (k - from) (drop from r)) ≡ k - from = length-take-le (k - from) (drop from r) room in
-            let here : from + (j - from) ≡ j = omega arith in
-            let is : get_or (take (k - from) (drop from r)) (j - from) 0 ≡ get_or r j 0 =
-            get_or-take (k - from) (drop from r) (j - from) 0 below ∙ get_or-drop from r (j - from) 0 ∙ ap (λ (q : ℕ). get_or r q 0) here in
-            sym (ap is_comma is) ∙ e.none (j - from) (omega arith) (omega (arith, long)))
-            (λ t. n.none j (ltb-false j k t) l);
+            on_test (ltb j k) (λ t. n.none j p (ltb-true j k t)) (λ t. let here : j ≡ k = omega (arith, ltb-false j k t) in rw here e);
       }
 
   -- a run and what follows it
