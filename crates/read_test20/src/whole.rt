@@ -140,13 +140,13 @@ fn see_fill(
     if haste {
         return None;
     }
-    let k = crate::see::see_run(t, symbols, from, to, flips);
-    if !crate::see::passes(k.good) {
+    let rest = crate::see::see_run(t, symbols, from, to, flips);
+    if !crate::see::passes(rest.good) {
         return None;
     }
     Some(Ended {
         filled: false,
-        flips: k.flips,
+        flips: rest.flips,
     })
 }
 

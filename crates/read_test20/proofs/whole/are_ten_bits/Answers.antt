@@ -1,6 +1,6 @@
 -- `read_test20::whole::are_ten_bits` meets its contract: no symbol before i is larger than all of them together.
 -- Assumes nothing.
-use Prim.Native.Nat.{◌-◌, ◌≤◌}
+use Prim.Native.Nat.{◌≤◌}
 use native.Mathlib.Omega.{arith}
 use lib.Bits.{bit_or, or_lt}
 use lib.ListN.{get_or}

@@ -4,7 +4,6 @@ use Rattle.std.specs.Prelude.{is_some}
 use mathlib.Core.Path.{◌≡◌, refl, sym, ap, ◌∙◌}
 use mathlib.Core.Bool.{true, true≢false}
 use native.Mathlib.Omega.{arith}
-use borrow.Author.Tests.{not-true, not-false}
 use Rattle.window.specs.Inside.Fill.{fill_right}
 use Rattle.read_test20.proofs.Getting.{picture_is, sums_are}
 use Rattle.read_test20.proofs.Kept.{sav_stands, bytes_stand, is_valid}

@@ -1,7 +1,6 @@
 -- `read_test20::whole::see_fill` meets its contract: fill words, or bytes as they come.
 -- Assumes nothing.
-use mathlib.Core.Path.{◌≡◌, refl, sym, ◌∙◌}
-use mathlib.Core.Bool.{true≢false}
+use mathlib.Core.Path.{◌≡◌, refl}
 use Prim.Native.Nat.{◌+◌, ◌-◌, ◌*◌, ◌/◌}
 use native.Mathlib.Omega.{arith}
 use Rattle.read_test20.specs.Inside.See.{mask_by}
