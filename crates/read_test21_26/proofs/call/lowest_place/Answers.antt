@@ -6,6 +6,7 @@ use mathlib.Core.Bool.{true}
 use native.Mathlib.Omega.{arith}
 use lib.ListN.{length}
 use Rattle.span.proofs.Formats.{small}
+use Rattle.read_test21_26.specs.declared.service.Test.TheVariants.{Sample}
 use Rattle.read_test21_26.specs.Inside.Call.{is_window}
 use Rattle.read_test21_26.proofs.Calls.{given, is_place_25, is_place_26, other_place}
 use Rattle.read_test21_26.proofs.call.lowest_place.Goals as goal
@@ -33,7 +34,8 @@ returns-in-Sample c =
     let a = c.args in
     let w = a.symbols.now in
     let is : is_window a.f (length w) ≡ true = sym c.is_window.ensures ∙ c.if-not-is_window.false in
-    rw (is, c.in-Sample.is) (ap Ok (is_place_25 a.f w c.shape_of-p.ensures _ c.first_wrong.ensures))
+    let asked : a.test ≡ Sample = c.in-Sample.is in
+    rw (is, asked) (ap Ok (is_place_25 a.f w c.shape_of-p.ensures _ c.first_wrong.ensures))
 
 pub overflow_add-from : goal.overflow_add-from
 overflow_add-from c = omega (arith, (small _ c.shape_of-p.ensures).ancillary)
