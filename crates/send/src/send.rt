@@ -47,10 +47,8 @@ fn scale(factor: u16, samples: &[u16], words: &mut [u16])
     requires words_len { length words.old ≡ length samples.now }
     ensures { words.new ≡ scaled_words factor samples.now }
 {
-    let mut i = 0;
-    while i < samples.len() {
-        words[i] = samples[i] * factor;
-        i += 1;
+    for (i, sample) in samples.iter().enumerate() {
+        words[i] = *sample * factor;
     }
 }
 
