@@ -5,7 +5,6 @@ ghost use Rattle.encoder.specs.Inside.Tables.{flip_table};
 ghost use Rattle.send.specs.Inside.Put.{offset_after, put, pair_chars_at, pair_place, picture_word, picture_chars, passed_at, AreWords};
 
 use crcc::sums::Sums;
-use row_crc::sums::Summed;
 
 // After the picture: the offset of the running disparity, and the CRC of each stream.
 #[derive(Drop)]
@@ -155,17 +154,6 @@ pub(crate) fn put_picture(
     ensures out { out.new ≡ put d (picture_chars pairs 1920 (picture_word words.now)) at out.old }
 {
     let offset = put_streams(symbols, flips, pairs, words, d, out, at);
-    match row_crc::sums::sums_of_rows(words) {
-        Summed::Rows(sums) => Passed { offset, sums },
-        // Not met: the call's lengths were judged before, so the words are two rows or four.
-        Summed::OtherLength => Passed {
-            offset,
-            sums: Sums {
-                first: 0,
-                second: 0,
-                third: 0,
-                fourth: 0,
-            },
-        },
-    }
+    let sums = row_crc::sums::sums_of_rows(words).unwrap();
+    Passed { offset, sums }
 }
