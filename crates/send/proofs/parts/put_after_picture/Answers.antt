@@ -1,7 +1,7 @@
 -- `send::parts::put_after_picture` meets its contract: EAV, line number and CRCC, one after the other.
 -- Assumes nothing.
 -- the characters, where the line's words and the timing word are what the calls answer
-use Rattle.std.proofs.Common.{◌≡◌, ℕ, ◌+◌, Bool, true, ◌++◌, sym, ap, ◌∙◌, ap₂, arith}
+use Rattle.std.proofs.Common.{◌≡◌, ℕ, Bool, true, ◌++◌, sym, ap, ◌∙◌, ap₂, arith}
 use Rattle.crcc.specs.declared.sums.Sums.{Sums}
 use Rattle.line.specs.Stream.{v_of, line_after}
 use Rattle.word.specs.declared.line_number.LineWords.{LineWords}

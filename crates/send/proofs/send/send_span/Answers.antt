@@ -17,13 +17,15 @@ pub send_words-requires : goal.send_words-requires
 send_words-requires c =
     let a = c.args in
     let n = request a.l.0 a.content a.samples.now in
-    let e = as_they_are a.samples.now c.if-factor-eq1.true in
+    let one : a.factor ≡ 1 = omega arith in
+    let e = as_they_are a.samples.now one in
     record { f_value = c.requires.accepted.known; are_words = are_words a.factor a.samples.now e (fits a.f n c.requires.accepted a.factor c.requires.factor_value); words_len = c.requires.accepted.samples; out_len = c.requires.out_len }
 
 pub returns-then-factor-eq1 : goal.returns-then-factor-eq1
 returns-then-factor-eq1 c = let a = c.args in
     let n = request a.l.0 a.content a.samples.now in
-    let e = as_they_are a.samples.now c.if-factor-eq1.true in
+    let one : a.factor ≡ 1 = omega arith in
+    let e = as_they_are a.samples.now one in
     let told = span_put_lem a.f n c.requires.accepted a.factor c.requires.factor_value a.d a.out.now e c.requires.out_len (c.send_words.ensures.after, c.send_words.ensures.symbols) in record { after = told.0; symbols = told.1 }
 
 pub slice_bounds-words-end : goal.slice_bounds-words-end
