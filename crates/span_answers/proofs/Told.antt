@@ -95,7 +95,6 @@ pub read_told : Injective (λ (r : Result Delivery ReadError). read_answer_of (p
 unfolding read_back
 read_told = through read_answer_of read_back back read_one_to_one
   where
-    back : (r : Result Delivery ReadError) → read_back (read_answer_of (paper_read r)) ≡ paper_read r
     of_test : (x : Fault) → read_back (read_answer_of (paper_read (Err (Read.Fails x)))) ≡ paper_read (Err (Read.Fails x))
     of_test x = go x.test refl
       where
@@ -107,6 +106,7 @@ read_told = through read_answer_of read_back back read_one_to_one
         go Sample e = rw e refl
         go Fill e = rw e refl
 
+    back : (r : Result Delivery ReadError) → read_back (read_answer_of (paper_read r)) ≡ paper_read r
     back (Ok d) = ap given (values_back_lem d)
     back (Err Read.UnknownFormat) = refl
     back (Err Read.WrongInput) = refl
