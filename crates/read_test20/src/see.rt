@@ -22,7 +22,7 @@ pub(crate) struct Kept {
 }
 
 // The words of three symbols, and what is gathered after them.
-#[derive(Drop)]
+#[derive(Clone, Copy)]
 pub(crate) struct Three {
     pub(crate) good: u32,
     pub(crate) flips: u32,
