@@ -22,7 +22,7 @@ use Rattle.window.specs.Words.{word_at}
 use Rattle.window.specs.Inside.Columns.{column_of, sums_of}
 use Rattle.window.specs.Inside.Given.{plain_pair}
 use Rattle.row_crc.specs.Inside.Sums.{stream_row, sums_in}
-use Rattle.read_test20.specs.declared.picture.Passed.{Passed}
+use Rattle.read_test20.specs.declared.see.Kept.{Kept}
 use Rattle.read_test20.specs.declared.see.Six.{Six}
 use Rattle.read_test20.specs.declared.see.Three.{Three}
 use Rattle.read_test20.specs.Inside.Picture.{put_two, pair_in, put_pair, place_two, rows_two, place_four, rows_four, RowsInv, TwoRowsInv}
@@ -33,7 +33,7 @@ use Rattle.read_test20.proofs.Seeing.{three_step}
 pair_at_lem : (w : List ℕ) (j half u o : ℕ) → o ≡ 3 * (half * (picture_start + j) + u) → plain_pair w o ≡ pair_in half w u j
 pair_at_lem w j half u o e = ap (plain_pair w) e
 
-module _ (w : List ℕ) {old : List ℕ} {j : ℕ} {v : Passed} {rows : List ℕ} (h : j < 1920) where
+module _ (w : List ℕ) {old : List ℕ} {j : ℕ} {v : Kept} {rows : List ℕ} (h : j < 1920) where
   got_two : RowsInv 1 w old j v rows → RowsInv 1 w old (j + 1) (place_two w j v) (rows_two w j rows)
   unfolding seen_three
   got_two g =
@@ -72,7 +72,7 @@ module _ (w : List ℕ) {old : List ℕ} {j : ℕ} {v : Passed} {rows : List ℕ
       }
 
 -- one word more of what was seen, and put
-module _ (w : List ℕ) {old : List ℕ} {j : ℕ} (v : Passed) {rows more : List ℕ} (h : j < 1920) where
+module _ (w : List ℕ) {old : List ℕ} {j : ℕ} (v : Kept) {rows more : List ℕ} (h : j < 1920) where
   pub put_two_more : {x : Three} → x ≡ seen_three w (12 + 3 * j) v.good v.flips → more ≡ put_pair x.words j rows → RowsInv 1 w old j v rows
       → RowsInv 1 w old (j + 1) (record { good = x.good; flips = x.flips }) more
   unfolding seen_three
@@ -115,7 +115,7 @@ module _ (p : Shape) (w : List ℕ) where
         → low ≡ 2 * u * 1920 → high ≡ 2 * u * 1920 + 1920 → rows ≡ put_two p w u picture_start 1920 old
     put_columns t l k = t.put ∙ rw (first_column, second_column, l, k)
 
-  module _ {old rows : List ℕ} {v : Passed} (small : p.stream_pairs ≤ 2) (some : 1 ≤ p.stream_pairs) (long : length old ≡ samples_in p)
+  module _ {old rows : List ℕ} {v : Kept} (small : p.stream_pairs ≤ 2) (some : 1 ≤ p.stream_pairs) (long : length old ≡ samples_in p)
       (g : RowsInv p.stream_pairs w old 1920 v rows) where
     low_rows_are : g.low_rows ≡ put_two p w 0 picture_start 1920 old
     low_rows_are = put_columns 0 (omega arith) g.low refl refl

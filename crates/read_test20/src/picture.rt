@@ -3,22 +3,15 @@
 ghost use Rattle.std.specs.Prelude.{◌≡◌, true, ℕ, ◌+◌, ◌-◌, ◌*◌, ◌%◌, ◌≤◌, ◌<◌, List, length};
 ghost use Rattle.decoder.specs.Inside.Decoder.{decoding_table};
 ghost use Rattle.span.specs.Inside.Layout.{eav_symbol};
-ghost use Rattle.read_test20.specs.declared.picture.Passed.{Passed};
+ghost use Rattle.read_test20.specs.declared.see.Kept.{Kept};
 ghost use Rattle.read_test20.specs.Inside.Picture.{RowsInv, Come, put_pair};
 ghost use Rattle.read_test20.specs.Inside.See.{TenBits, AreBytes, GatherInv, passes_by, seen_three, seen_six};
 
-use crate::see::{Six, Three};
+use crate::see::{Kept, Six, Three};
 use packing::bytes::TwoWords;
 
 // Words of each stream in a piece. Nothing is read after a piece with a fault, so anything that is not a window is soon dismissed.
 const PIECE: usize = 120;
-
-// What is gathered after some words of each stream.
-#[derive(Clone, Copy)]
-pub(crate) struct Passed {
-    pub(crate) good: u32,
-    pub(crate) flips: u32,
-}
 
 // What is gathered after the picture, or after the words of each stream before a fault.
 #[derive(Drop)]
@@ -59,19 +52,19 @@ trait Column: Copy {
     ghost pairs: { ℕ };
 
     // What is seen, after what was gathered before.
-    ghost seen: { List ℕ → ℕ → Passed → Self };
+    ghost seen: { List ℕ → ℕ → Kept → Self };
 
     // What is gathered then.
-    ghost passed: { Self → Passed };
+    ghost passed: { Self → Kept };
 
-    fn see(t: &[u16; 1024], symbols: &[u16], j: usize, v: Passed) -> Self
+    fn see(t: &[u16; 1024], symbols: &[u16], j: usize, v: Kept) -> Self
         requires t_value { t.now ≡ decoding_table }
         requires ten_bits { TenBits symbols.now }
         requires j_bound { j < 1920 }
         requires pairs_in_bounds { eav_symbol * pairs ≤ length symbols.now }
         ensures { result ≡ seen symbols.now j v };
 
-    fn passed(self) -> Passed
+    fn passed(self) -> Kept
         ensures { result ≡ passed self };
 
     // Puts the words into their rows.
@@ -79,7 +72,7 @@ trait Column: Copy {
         requires j_bound { j < 1920 }
         requires rows_len { length rows.old ≡ 3840 * pairs }
         ensures size { length rows.new ≡ 3840 * pairs }
-        ensures got { (w old : List ℕ) (v : Passed) → self ≡ seen w j v → RowsInv pairs w old j v rows.old → RowsInv pairs w old (j + 1) (passed self) rows.new };
+        ensures got { (w old : List ℕ) (v : Kept) → self ≡ seen w j v → RowsInv pairs w old j v rows.old → RowsInv pairs w old (j + 1) (passed self) rows.new };
 }
 
 impl Column for Three {
@@ -89,12 +82,12 @@ impl Column for Three {
 
     ghost passed = { λ x. record { good = x.good; flips = x.flips } };
 
-    fn see(t: &[u16; 1024], symbols: &[u16], j: usize, v: Passed) -> Three {
+    fn see(t: &[u16; 1024], symbols: &[u16], j: usize, v: Kept) -> Three {
         crate::see::see_three(t, symbols, 12 + 3 * j, v.good, v.flips)
     }
 
-    fn passed(self) -> Passed {
-        Passed {
+    fn passed(self) -> Kept {
+        Kept {
             good: self.good,
             flips: self.flips,
         }
@@ -112,12 +105,12 @@ impl Column for Six {
 
     ghost passed = { λ x. record { good = x.good; flips = x.flips } };
 
-    fn see(t: &[u16; 1024], symbols: &[u16], j: usize, v: Passed) -> Six {
+    fn see(t: &[u16; 1024], symbols: &[u16], j: usize, v: Kept) -> Six {
         crate::see::see_six(t, symbols, 24 + 6 * j, v.good, v.flips)
     }
 
-    fn passed(self) -> Passed {
-        Passed {
+    fn passed(self) -> Kept {
+        Kept {
             good: self.good,
             flips: self.flips,
         }
@@ -130,13 +123,7 @@ impl Column for Six {
 
 // Four words of each stream from j on. All their symbols are loaded before anything is stored: the compiler does not know that rows and
 // symbols do not overlap, and would load each symbol only after the stores before it.
-fn step<C: Column>(
-    t: &[u16; 1024],
-    symbols: &[u16],
-    j: usize,
-    v: Passed,
-    rows: &mut [u16],
-) -> Passed
+fn step<C: Column>(t: &[u16; 1024], symbols: &[u16], j: usize, v: Kept, rows: &mut [u16]) -> Kept
     requires t_value { t.now ≡ decoding_table }
     requires ten_bits { TenBits symbols.now }
     requires j_bound { j + 4 ≤ 1920 }
@@ -157,13 +144,7 @@ fn step<C: Column>(
 }
 
 // A piece of the words of each stream, four per iteration.
-fn take<C: Column>(
-    t: &[u16; 1024],
-    symbols: &[u16],
-    from: usize,
-    v: Passed,
-    rows: &mut [u16],
-) -> Passed
+fn take<C: Column>(t: &[u16; 1024], symbols: &[u16], from: usize, v: Kept, rows: &mut [u16]) -> Kept
     requires t_value { t.now ≡ decoding_table }
     requires ten_bits { TenBits symbols.now }
     requires from_bound { from + 120 ≤ 1920 }
@@ -185,9 +166,9 @@ fn take_piece(
     pairs: usize,
     symbols: &[u16],
     from: usize,
-    v: Passed,
+    v: Kept,
     rows: &mut [u16],
-) -> Passed
+) -> Kept
     requires t_value { t.now ≡ decoding_table }
     requires ten_bits { TenBits symbols.now }
     requires le_pairs { 1 ≤ pairs }
@@ -224,7 +205,7 @@ pub(crate) fn take_picture(
     ensures come { Come pairs symbols.now result.words result.flips }
     ensures kept { AreBytes symbols.now (12 * pairs) (eav_symbol * pairs) → passes_by result.good ≡ true }
 {
-    let mut p = Passed { good: 65535, flips };
+    let mut p = Kept { good: 65535, flips };
     for piece in 0..1920 / PIECE {
         let words = PIECE * piece;
         let next = take_piece(t, pairs, symbols, words, p, rows);

@@ -15,7 +15,7 @@ pub(crate) struct Seen {
 }
 
 // What is gathered after some symbols.
-#[derive(Drop)]
+#[derive(Clone, Copy)]
 pub(crate) struct Kept {
     pub(crate) good: u32,
     pub(crate) flips: u32,
