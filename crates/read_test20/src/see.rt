@@ -15,14 +15,14 @@ pub(crate) struct Seen {
 }
 
 // What is gathered after some symbols.
-#[derive(Drop)]
+#[derive(Clone, Copy)]
 pub(crate) struct Kept {
     pub(crate) good: u32,
     pub(crate) flips: u32,
 }
 
 // The words of three symbols, and what is gathered after them.
-#[derive(Drop)]
+#[derive(Clone, Copy)]
 pub(crate) struct Three {
     pub(crate) good: u32,
     pub(crate) flips: u32,

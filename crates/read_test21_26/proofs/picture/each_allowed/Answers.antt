@@ -12,11 +12,11 @@ loop-w-preserved c =
     let a = c.args in
     let v = c.loop-w in
     let h : v.w-index < length a.rows.now = omega arith in
-    look_step a.depth v.found a.rows.now v.w-index h c.wrong_word-found.ensures ∙ v.invariant
+    look_step a.depth v.all a.rows.now v.w-index h c.allowed_word-all.ensures ∙ v.invariant
 
 pub returns : goal.returns
 returns c =
     let a = c.args in
     let v = c.loop-w in
     let h : length a.rows.now ≤ v.w-index = omega arith in
-    sym (look_done a.depth v.found a.rows.now v.w-index h) ∙ v.invariant
+    sym (look_done a.depth v.all a.rows.now v.w-index h) ∙ v.invariant
