@@ -1,4 +1,6 @@
 // A span, part by part.
+#![tactic(auto, using(crate::proofs::Putting::one_after))]
+
 ghost use Rattle.std.specs.Prelude.{◌≡◌, ◌+◌, ◌*◌, ◌≤◌, length};
 ghost use Rattle.encoder.specs.Inside.Tables.{offset_of, of_offset, symbol_table};
 ghost use Rattle.encoder.specs.Inside.Tables.{flip_table};

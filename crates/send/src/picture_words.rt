@@ -1,4 +1,6 @@
 // The picture words of all streams, put into the symbol buffer. The CRCs are computed from the words afterwards (crate `row_crc`), so that the loops have less to do.
+#![tactic(auto, using(crate::proofs::Putting::one_after))]
+
 ghost use Rattle.std.specs.Prelude.{◌≡◌, ◌+◌, ◌*◌, ◌<◌, ◌≤◌, length};
 ghost use Rattle.encoder.specs.Inside.Tables.{offset_of, of_offset, symbol_table};
 ghost use Rattle.encoder.specs.Inside.Tables.{flip_table};

@@ -1,4 +1,6 @@
 // Pieces of a span, put into the symbol buffer at a place.
+#![tactic(auto, using(crate::proofs::Putting::one_after))]
+
 ghost use Rattle.std.specs.Prelude.{◌≡◌, ◌+◌, ◌-◌, ◌*◌, ◌/◌, ◌%◌, ◌<◌, ◌≤◌, [], ◌∷◌, length};
 ghost use Rattle.encoder.specs.Inside.Tables.{offset_of, of_offset, symbol_table};
 ghost use Rattle.encoder.specs.Inside.Tables.{flip_table};

@@ -1,4 +1,6 @@
 // The timing codes of all streams, with a special character and content bytes in place of their first four bytes (004, 7.1).
+#![tactic(auto, using(crate::proofs::Putting::one_after))]
+
 ghost use Rattle.std.specs.Prelude.{◌≡◌, ◌+◌, ◌*◌, ◌<◌, ◌≤◌, length};
 ghost use Rattle.encoder.specs.Inside.Tables.{offset_of, of_offset, symbol_table};
 ghost use Rattle.encoder.specs.Inside.Tables.{flip_table};
