@@ -9,13 +9,14 @@ ghost use Rattle.request.specs.Send.{request, paper_sent, send_of, sent_buffer};
 ghost use Rattle.send.specs.Inside.Put.{offset_after, put, scaled_words, span_put, AreWords, Fits};
 ghost use Rattle.request.specs.Inside.Send.{Accepted};
 
+use encoder::tables::Tables;
 use line::stream::StreamLine;
 use request::sent::SendError;
 use span::content::ContentBytes;
 use span::format::Format;
 use symbol::disparity::Disparity;
 
-// A span of words, as many as the format has. The tables are copied once, here, and lent from here on.
+// A span of words, as many as the format has. The tables are filled once, here, and lent from here on.
 fn send_words(
     f: Format,
     l: StreamLine,
@@ -33,11 +34,15 @@ fn send_words(
 {
     let symbols = encoder::tables::symbol_table();
     let flips = encoder::tables::flip_table();
+    let tables = Tables {
+        symbols: &symbols,
+        flips: &flips,
+    };
     let p = span::format::shape_of(f);
     let c = span::content::content_of(f, content);
     let blank = span::blanking::blank_word(f);
     let before = encoder::tables::offset_of(d);
-    let after = crate::parts::put_span(&symbols, &flips, p, l, c, blank, words, before, out);
+    let after = crate::parts::put_span(tables, p, l, c, blank, words, before, out);
     encoder::tables::disparity_at(after)
 }
 

@@ -1,8 +1,11 @@
 // The timing codes of all streams, with a special character and content bytes in place of their first four bytes (004, 7.1).
+#![tactic(auto, using(crate::proofs::Putting::one_after))]
+
 ghost use Rattle.std.specs.Prelude.{◌≡◌, ◌+◌, ◌*◌, ◌<◌, ◌≤◌, length};
-ghost use Rattle.encoder.specs.Inside.Tables.{offset_of, of_offset, symbol_table};
-ghost use Rattle.encoder.specs.Inside.Tables.{flip_table};
+ghost use Rattle.encoder.specs.Inside.Tables.{offset_of, of_offset};
 ghost use Rattle.send.specs.Inside.Put.{offset_after, put, sync_chars, second_word, timing_chars};
+
+use encoder::tables::Tables;
 
 // The special characters of SAV and EAV, by their numbers among the characters.
 pub(crate) const K28_5: u16 = 261;
@@ -11,8 +14,7 @@ pub(crate) const K29_7: u16 = 266;
 
 // The special character twice, the content bytes, and the last two bytes of the second pair of words w.
 fn put_sync(
-    symbols: &[u16; 536],
-    flips: &[u16; 268],
+    tables: Tables,
     d: usize,
     k: u16,
     content1: u8,
@@ -21,8 +23,6 @@ fn put_sync(
     out: &mut [u16],
     at: usize,
 ) -> usize
-    requires symbols_value { symbols.now ≡ symbol_table }
-    requires flips_value { flips.now ≡ flip_table }
     requires d_value { d ≡ offset_of (of_offset d) }
     requires k_bound { k < 268 }
     requires at_in_bounds { at + 6 ≤ length out.old }
@@ -30,10 +30,9 @@ fn put_sync(
     ensures out { out.new ≡ put d (sync_chars k content1 content2 w) at out.old }
 {
     let t = packing::bytes::bytes_of(w, w);
-    let d1 = crate::put::put_three(symbols, flips, d, k, k, content1 as u16, out, at);
+    let d1 = crate::put::put_three(tables, d, k, k, content1 as u16, out, at);
     crate::put::put_three(
-        symbols,
-        flips,
+        tables,
         d1,
         content2 as u16,
         t.second as u16,
@@ -55,8 +54,7 @@ fn second_word(pairs: usize) -> u16
 
 // The whole code: what is replaced, the remaining pairs 000 000, and XYZ of each stream.
 pub(crate) fn put_timing(
-    symbols: &[u16; 536],
-    flips: &[u16; 268],
+    tables: Tables,
     pairs: usize,
     d: usize,
     k: u16,
@@ -66,8 +64,6 @@ pub(crate) fn put_timing(
     out: &mut [u16],
     at: usize,
 ) -> usize
-    requires symbols_value { symbols.now ≡ symbol_table }
-    requires flips_value { flips.now ≡ flip_table }
     requires le_pairs { 1 ≤ pairs }
     requires pairs_bound { pairs ≤ 2 }
     requires d_value { d ≡ offset_of (of_offset d) }
@@ -78,7 +74,7 @@ pub(crate) fn put_timing(
 {
     let w = second_word(pairs);
     let zeros = 3 * pairs - 2;
-    let d1 = put_sync(symbols, flips, d, k, content1, content2, w, out, at);
-    crate::put::put_run(symbols, flips, zeros, d1, 0x000, out, at + 6);
-    crate::put::put_same(symbols, flips, pairs, d1, xyz, out, at + 9 * pairs)
+    let d1 = put_sync(tables, d, k, content1, content2, w, out, at);
+    crate::put::put_run(tables, zeros, d1, 0x000, out, at + 6);
+    crate::put::put_same(tables, pairs, d1, xyz, out, at + 9 * pairs)
 }

@@ -9,7 +9,7 @@ use Rattle.word.specs.LineNumber.{line_words}
 use Rattle.word.specs.Timing.{timing}
 use Rattle.span.specs.declared.content.ContentBytes.{ContentBytes}
 use Rattle.send.specs.Inside.Put.{timing_chars, group_chars, crcc_chars, after_picture_chars}
-use Rattle.send.proofs.Putting.{made, renamed, then, is_offset, length_group}
+use Rattle.send.proofs.Putting.{made, renamed, then, length_group}
 use Rattle.send.proofs.TimingCodes.{length_timing}
 use Rattle.send.proofs.parts.put_after_picture.Goals as goal
 
@@ -22,21 +22,6 @@ as_put pairs s content m e q =
     ap₂ (λ (n : LineWords) (xyz : ℕ).
     timing_chars pairs 266 content.eav1 content.eav2 xyz
     ++ (group_chars pairs (λ _. n.ln0) ++ (group_chars pairs (λ _. n.ln1) ++ crcc_chars pairs s xyz n))) (sym e) (sym q)
-
-pub put_same-d2-requires-clause-d_value : goal.put_same-d2-requires-clause-d_value
-put_same-d2-requires-clause-d_value c =
-    let p = made (c.put_timing-d1.ensures.offset, c.put_timing-d1.ensures.out) in
-    is_offset p
-
-pub put_same-d3-requires-clause-d_value : goal.put_same-d3-requires-clause-d_value
-put_same-d3-requires-clause-d_value c =
-    let q = made (c.put_same-d2.ensures.offset, c.put_same-d2.ensures.out) in
-    is_offset q
-
-pub put_crcc-requires-clause-d_value : goal.put_crcc-requires-clause-d_value
-put_crcc-requires-clause-d_value c =
-    let r = made (c.put_same-d3.ensures.offset, c.put_same-d3.ensures.out) in
-    is_offset r
 
 pub returns : goal.returns
 returns c =

@@ -4,13 +4,8 @@ use Rattle.std.proofs.Common.{ℕ, ◌+◌, sym, ap}
 use Rattle.crcc.specs.declared.crcc.CrccWords.{CrccWords}
 use Rattle.crcc.specs.Inside.Sums.{sum_in}
 use Rattle.send.specs.Inside.Put.{word_of_four, crcc_after, crcc_chars}
-use Rattle.send.proofs.Putting.{made, renamed, then, is_offset, length_group, same_four}
+use Rattle.send.proofs.Putting.{made, renamed, then, length_group, same_four}
 use Rattle.send.proofs.parts.put_crcc.Goals as goal
-
-pub put_four-requires-clause-d_value : goal.put_four-requires-clause-d_value
-put_four-requires-clause-d_value c =
-    let p = made (c.put_four-d1.ensures.offset, c.put_four-d1.ensures.out) in
-    is_offset p
 
 pub returns : goal.returns
 unfolding crcc_chars

@@ -20,21 +20,6 @@ passed_put : (pairs : ℕ) (ws : List ℕ) {d at : ℕ} {q : Passed} {before aft
     → PutChars d (picture_chars pairs 1920 (picture_word ws)) at before q.offset after
 passed_put pairs ws e = made (ap (λ (q : Passed). q.offset) e.0, e.1)
 
-pub put_picture-q-requires-clause-d_value : goal.put_picture-q-requires-clause-d_value
-put_picture-q-requires-clause-d_value c =
-    let p1 = made (c.put_timing-d1.ensures.offset, c.put_timing-d1.ensures.out) in
-    is_offset p1
-
-pub put_after_picture-d2-requires-clause-d_value : goal.put_after_picture-d2-requires-clause-d_value
-put_after_picture-d2-requires-clause-d_value c =
-    let p2 = passed_put c.args.p.stream_pairs c.args.words.now (c.put_picture-q.ensures.passed, c.put_picture-q.ensures.out) in
-    is_offset p2
-
-pub put_blanking-requires-clause-d_value : goal.put_blanking-requires-clause-d_value
-put_blanking-requires-clause-d_value c =
-    let p3 = made (c.put_after_picture-d2.ensures.offset, c.put_after_picture-d2.ensures.out) in
-    is_offset p3
-
 pub put_blanking-requires-clause-out_len : goal.put_blanking-requires-clause-out_len
 put_blanking-requires-clause-out_len c =
     let p1 = made (c.put_timing-d1.ensures.offset, c.put_timing-d1.ensures.out) in

@@ -2,23 +2,10 @@
 -- Assumes nothing.
 use Rattle.std.proofs.Common.{◌+◌, ◌*◌, arith}
 use Rattle.send.proofs.Passing.{none_done, four_more, all_done}
-use Rattle.send.proofs.Putting.{made, is_offset}
 use Rattle.send.proofs.picture_words.put_words.Goals as goal
 
 pub loop-q-init : goal.loop-q-init
 loop-q-init g c = none_done c.args.words.now c.args.at c.args.out.now g.row.PAIRS c.requires.d_value
-
-pub put_at-a-requires-clause-d_value : goal.put_at-a-requires-clause-d_value
-put_at-a-requires-clause-d_value g c = is_offset c.loop-q.invariant.done
-
-pub put_at-b-requires-clause-d_value : goal.put_at-b-requires-clause-d_value
-put_at-b-requires-clause-d_value g c = is_offset (made (c.put_at-a.ensures.offset, c.put_at-a.ensures.out))
-
-pub put_at-c-requires-clause-d_value : goal.put_at-c-requires-clause-d_value
-put_at-c-requires-clause-d_value g c = is_offset (made (c.put_at-b.ensures.offset, c.put_at-b.ensures.out))
-
-pub put_at-offset-requires-clause-d_value : goal.put_at-offset-requires-clause-d_value
-put_at-offset-requires-clause-d_value g c = is_offset (made (c.put_at-c.ensures.offset, c.put_at-c.ensures.out))
 
 pub loop-q-preserved : goal.loop-q-preserved
 loop-q-preserved g c =

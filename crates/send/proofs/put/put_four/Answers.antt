@@ -2,7 +2,7 @@
 -- Assumes nothing.
 use Rattle.std.proofs.Common.{◌≡◌, ℕ, refl, ap, ◌∙◌, arith}
 use Rattle.send.specs.Inside.Put.{group_chars, word_of_four}
-use Rattle.send.proofs.Putting.{made, renamed, then, is_offset, group_of_two, group_of_four}
+use Rattle.send.proofs.Putting.{made, renamed, then, group_of_two, group_of_four}
 use Rattle.send.proofs.put.put_four.Goals as goal
 
 pub returns-then-pairs-eq1 : goal.returns-then-pairs-eq1
@@ -11,11 +11,6 @@ returns-then-pairs-eq1 c =
     let q = ap (λ (h : ℕ). group_chars h (word_of_four a.g)) c.if-pairs-eq1.true ∙ group_of_two (word_of_four a.g) in
     let p = renamed q (made (c.put_pair-low.ensures.offset, c.put_pair-low.ensures.out)) in
     record { offset = p.offset; out = p.out }
-
-pub put_pair-requires-clause-d_value : goal.put_pair-requires-clause-d_value
-put_pair-requires-clause-d_value c =
-    let p = made (c.put_pair-low.ensures.offset, c.put_pair-low.ensures.out) in
-    is_offset p
 
 pub returns : goal.returns
 returns c =

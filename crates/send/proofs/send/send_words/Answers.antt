@@ -9,12 +9,6 @@ use Rattle.send.proofs.Runs.{keeps_too, blank_stays}
 use Rattle.send.proofs.Whole.{streams_there, words_there}
 use Rattle.send.proofs.send.send_words.Goals as goal
 
-pub put_span-after-requires-clause-symbols_value : goal.put_span-after-requires-clause-symbols_value
-put_span-after-requires-clause-symbols_value c = c.symbol_table-symbols.ensures
-
-pub put_span-after-requires-clause-flips_value : goal.put_span-after-requires-clause-flips_value
-put_span-after-requires-clause-flips_value c = c.flip_table-flips.ensures
-
 pub put_span-after-requires-clause-bound : goal.put_span-after-requires-clause-bound
 put_span-after-requires-clause-bound c =
     let a = c.args in

@@ -2,13 +2,8 @@
 -- Assumes nothing.
 use Rattle.std.proofs.Common.{[], ◌∷◌, sym, refl, ap}
 use Rattle.packing.specs.declared.bytes.ThreeBytes.{ThreeBytes}
-use Rattle.send.proofs.Putting.{made, renamed, then, is_offset}
+use Rattle.send.proofs.Putting.{made, renamed, then}
 use Rattle.send.proofs.timing.put_sync.Goals as goal
-
-pub put_three-requires-clause-d_value : goal.put_three-requires-clause-d_value
-put_three-requires-clause-d_value c =
-    let p = made (c.put_three-d1.ensures.offset, c.put_three-d1.ensures.out) in
-    is_offset p
 
 pub returns : goal.returns
 returns c =

@@ -8,18 +8,8 @@ use Rattle.send.proofs.Sizes.{length_run}
 use Rattle.send.proofs.TimingCodes.{timing_is}
 use Rattle.send.proofs.timing.put_timing.Goals as goal
 
-pub put_run-requires-clause-d_value : goal.put_run-requires-clause-d_value
-put_run-requires-clause-d_value c =
-    let p = made (c.put_sync-d1.ensures.offset, c.put_sync-d1.ensures.out) in
-    is_offset p
-
 pub put_run-requires-clause-keeps_disparity : goal.put_run-requires-clause-keeps_disparity
 put_run-requires-clause-keeps_disparity c = zero_stays
-
-pub put_same-requires-clause-d_value : goal.put_same-requires-clause-d_value
-put_same-requires-clause-d_value c =
-    let p = made (c.put_sync-d1.ensures.offset, c.put_sync-d1.ensures.out) in
-    is_offset p
 
 pub returns : goal.returns
 returns c =
