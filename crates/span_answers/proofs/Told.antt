@@ -14,7 +14,6 @@ use Rattle.request.specs.declared.sent.SendError.TheVariants as Send
 use Rattle.request.specs.Send.{paper_sent}
 use Rattle.request.proofs.OneToOne.{sent_one_to_one}
 use Rattle.window.specs.declared.delivery.Delivery.{Delivery}
-use Rattle.window.specs.declared.delivery.RepairsOfBit.{RepairsOfBit}
 use Rattle.read.specs.declared.answer.ReadError.{ReadError}
 use Rattle.read.specs.declared.answer.ReadError.TheVariants as Read
 use Rattle.read_test21_26.specs.declared.service.Fault.{Fault}
@@ -22,7 +21,6 @@ use Rattle.read_test21_26.specs.declared.service.Test.{Test}
 use Rattle.read_test21_26.specs.declared.service.Test.TheVariants.{Timing, Line, V, Crcc, Sample, Fill}
 use Rattle.read.specs.Call.{paper_read}
 use Rattle.read.proofs.OneToOne.{read_one_to_one}
-use Rattle.span_answers.specs.declared.spans.BitCounts.{BitCounts}
 use Rattle.span_answers.specs.declared.spans.Values.{Values}
 use Rattle.span_answers.specs.declared.spans.LengthsAnswer.{LengthsAnswer}
 use Rattle.span_answers.specs.declared.spans.SendAnswer.{SendAnswer}
@@ -57,23 +55,6 @@ send_told = through send_answer_of send_back back sent_one_to_one
     back (Err Send.WrongOutput) = refl
     back (Err (Send.NotAllowed place)) = refl
 
-abbrev bits_back : BitCounts → RepairsOfBit
-bits_back c =
-    record {
-      b0 = c.b0;
-      b1 = c.b1;
-      b2 = c.b2;
-      b3 = c.b3;
-      b4 = c.b4;
-      b5 = c.b5;
-      b6 = c.b6;
-      b7 = c.b7;
-      b8 = c.b8;
-      b9 = c.b9;
-      b10 = c.b10;
-      b11 = c.b11;
-    }
-
 pub values_back : Values → Delivery
 values_back v =
     record {
@@ -81,7 +62,7 @@ values_back v =
       content = v.content;
       before = disparity_from v.positive_before;
       after = disparity_from v.positive_after;
-      repairs = record { count = v.repairs; of_bit = bits_back v.repairs_of_bit };
+      repairs = record { count = v.repairs; of_bit = v.repairs_of_bit };
     }
 
 pub values_back_lem : (d : Delivery) → values_back (values_of d) ≡ d

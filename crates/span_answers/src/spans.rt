@@ -5,7 +5,7 @@ ghost use Rattle.span.specs.Length.{paper_lengths};
 ghost use Rattle.request.specs.Send.{paper_sent};
 ghost use Rattle.read_test21_26.specs.Tests.{number_of};
 ghost use Rattle.read.specs.Call.{paper_read};
-ghost use Rattle.span_answers.specs.Spans.{bit_counts_of, values_of, no_counts, no_values as nothing, lengths_answer_of, send_answer_of, read_answer_of};
+ghost use Rattle.span_answers.specs.Spans.{bit_counts_of, values_of, no_values as nothing, lengths_answer_of, send_answer_of, read_answer_of};
 
 use boundary::numbers::StreamLineNumber;
 use read::answer::ReadError;
@@ -15,7 +15,7 @@ use span::content::ContentBytes;
 use span::format::UnknownFormat;
 use span::length::SpanLengths;
 use symbol::disparity::Disparity;
-use window::delivery::{Delivery, RepairsOfBit};
+use window::delivery::Delivery;
 
 #[repr(C)]
 #[derive(Drop)]
@@ -33,24 +33,6 @@ pub struct SendAnswer {
     pub place: u64,
 }
 
-// How often each bit of a timing word was repaired, b0 the lowest. In C an array of twelve, which has the same layout.
-#[repr(C)]
-#[derive(Drop)]
-pub struct BitCounts {
-    pub b0: u32,
-    pub b1: u32,
-    pub b2: u32,
-    pub b3: u32,
-    pub b4: u32,
-    pub b5: u32,
-    pub b6: u32,
-    pub b7: u32,
-    pub b8: u32,
-    pub b9: u32,
-    pub b10: u32,
-    pub b11: u32,
-}
-
 // What a span says about itself.
 #[repr(C)]
 #[derive(Drop)]
@@ -60,7 +42,8 @@ pub struct Values {
     pub positive_before: bool,
     pub positive_after: bool,
     pub repairs: u32,
-    pub repairs_of_bit: BitCounts,
+    // How often each bit of a timing word was repaired, b0, the lowest, first.
+    pub repairs_of_bit: [u32; 12],
 }
 
 #[repr(C)]
@@ -71,23 +54,10 @@ pub struct ReadAnswer {
     pub delivery: Values,
 }
 
-fn bit_counts(c: RepairsOfBit) -> BitCounts
+fn bit_counts(c: [u8; 12]) -> [u32; 12]
     ensures { result ≡ bit_counts_of c }
 {
-    BitCounts {
-        b0: c.b0 as u32,
-        b1: c.b1 as u32,
-        b2: c.b2 as u32,
-        b3: c.b3 as u32,
-        b4: c.b4 as u32,
-        b5: c.b5 as u32,
-        b6: c.b6 as u32,
-        b7: c.b7 as u32,
-        b8: c.b8 as u32,
-        b9: c.b9 as u32,
-        b10: c.b10 as u32,
-        b11: c.b11 as u32,
-    }
+    c.map(u32::from)
 }
 
 pub fn values_of(d: Delivery) -> Values
@@ -100,25 +70,6 @@ pub fn values_of(d: Delivery) -> Values
         positive_after: boundary::numbers::is_positive(d.after),
         repairs: d.repairs.count as u32,
         repairs_of_bit: bit_counts(d.repairs.of_bit),
-    }
-}
-
-fn no_counts() -> BitCounts
-    ensures { result ≡ no_counts }
-{
-    BitCounts {
-        b0: 0,
-        b1: 0,
-        b2: 0,
-        b3: 0,
-        b4: 0,
-        b5: 0,
-        b6: 0,
-        b7: 0,
-        b8: 0,
-        b9: 0,
-        b10: 0,
-        b11: 0,
     }
 }
 
@@ -138,7 +89,7 @@ pub fn no_values() -> Values
         positive_before: false,
         positive_after: false,
         repairs: 0,
-        repairs_of_bit: no_counts(),
+        repairs_of_bit: [0; 12],
     }
 }
 
