@@ -17,6 +17,7 @@ use line::stream::StreamLine;
 use span::content::ContentBytes;
 use span::format::Shape;
 use span::layout::{ANCILLARY_SYMBOL, EAV_SYMBOL, PICTURE_SYMBOL};
+use symbol::special::Special;
 use word::line_number::LineWords;
 
 // The CRCC words of a stream whose picture words leave c: the CRC runs on over the EAV and the line number.
@@ -94,7 +95,7 @@ pub(crate) fn put_after_picture(
         tables,
         pairs,
         d,
-        crate::timing::K29_7,
+        Special::K29_7,
         content.eav1,
         content.eav2,
         xyz,
@@ -149,7 +150,7 @@ pub(crate) fn put_span(
         tables,
         pairs,
         d,
-        crate::timing::K28_5,
+        Special::K28_5,
         content.sav1,
         content.sav2,
         xyz,
