@@ -44,6 +44,7 @@ fn six_at(d: Disparity, x: u16) -> u16
 }
 
 // The six bits of a character, by the disparity before it.
+#[tactic(auto, using(crate::proofs::Blocks::x_below))]
 pub(crate) fn six_of(d: Disparity, c: u16) -> u16
     requires { c < 268 }
     ensures { result ≡ six_of d c }
@@ -81,6 +82,7 @@ fn four_of_byte(d: Disparity, x: u16, y: u16) -> u16
 }
 
 // The four bits of a character, by the disparity before them.
+#[tactic(auto, using(crate::proofs::Blocks::y_below))]
 pub(crate) fn four_of(d: Disparity, c: u16) -> u16
     requires { c < 268 }
     ensures { result ≡ four_of d c }

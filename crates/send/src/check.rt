@@ -11,12 +11,7 @@ fn outside(low: u16, high: u16, x: u16) -> u16
     requires { low ≤ high }
     ensures { (result == 0) ≡ within low high x }
 {
-    let y = std::num::wrapping_sub_u16(x, low);
-    let room = high - low;
-    if room < y {
-        return y - room;
-    }
-    0
+    x.wrapping_sub(low).saturating_sub(high - low)
 }
 
 // Whether none is outside. No early exit, so that the loop takes many at a time.

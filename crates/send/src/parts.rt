@@ -9,7 +9,6 @@ ghost use Rattle.span.specs.Inside.Format.{Small};
 ghost use Rattle.span.specs.Inside.Layout.{ancillary_symbol};
 ghost use Rattle.send.specs.Inside.Put.{offset_after, put, crcc_after, crcc_chars, after_picture_chars, AreWords, KeepsDisparity, blanking_chars, whole_chars};
 
-use crate::put::Four;
 use crcc::crcc::CrccWords;
 use crcc::sums::Sums;
 use encoder::tables::Tables;
@@ -17,6 +16,7 @@ use line::stream::StreamLine;
 use span::content::ContentBytes;
 use span::format::Shape;
 use span::layout::{ANCILLARY_SYMBOL, EAV_SYMBOL, PICTURE_SYMBOL};
+use symbol::special::Special;
 use word::line_number::LineWords;
 
 // The CRCC words of a stream whose picture words leave c: the CRC runs on over the EAV and the line number.
@@ -53,18 +53,8 @@ fn put_crcc(
     let b = crcc_after(sums.second, xyz, n);
     let c = crcc_after(sums.third, xyz, n);
     let e = crcc_after(sums.fourth, xyz, n);
-    let first = Four {
-        a: a.crcc0,
-        b: b.crcc0,
-        c: c.crcc0,
-        e: e.crcc0,
-    };
-    let second = Four {
-        a: a.crcc1,
-        b: b.crcc1,
-        c: c.crcc1,
-        e: e.crcc1,
-    };
+    let first = [a.crcc0, b.crcc0, c.crcc0, e.crcc0];
+    let second = [a.crcc1, b.crcc1, c.crcc1, e.crcc1];
     let d1 = crate::put::put_four(tables, pairs, d, first, out, at);
     crate::put::put_four(tables, pairs, d1, second, out, at + 3 * pairs)
 }
@@ -94,7 +84,7 @@ pub(crate) fn put_after_picture(
         tables,
         pairs,
         d,
-        crate::timing::K29_7,
+        Special::K29_7,
         content.eav1,
         content.eav2,
         xyz,
@@ -149,7 +139,7 @@ pub(crate) fn put_span(
         tables,
         pairs,
         d,
-        crate::timing::K28_5,
+        Special::K28_5,
         content.sav1,
         content.sav2,
         xyz,

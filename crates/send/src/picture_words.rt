@@ -1,4 +1,5 @@
-// The picture words of all streams, put into the symbol buffer. The CRCs are computed from the words afterwards (crate `row_crc`), so that the loops have less to do.
+// The picture words of all streams, put into the symbol buffer. The CRCs are computed from the words afterwards (crate `row_crc`), so that the
+// loop has less to do.
 #![tactic(auto, using(crate::proofs::Putting::one_after))]
 
 ghost use Rattle.std.specs.Prelude.{◌≡◌, ◌+◌, ◌*◌, ◌<◌, ◌≤◌, length};
@@ -37,7 +38,7 @@ fn put_at(
     crate::put::put_both(tables, d, both, out, at)
 }
 
-// Where the words of pair m of those that are sent stand: one pair of each pair of streams in turn.
+// Where pair m of those that are sent has its first word: each two streams send a pair in turn.
 fn place_of<const PAIRS: usize>(m: usize) -> usize
     requires le_pairs { 1 ≤ PAIRS }
     requires pairs_bound { PAIRS ≤ 2 }
@@ -48,7 +49,7 @@ fn place_of<const PAIRS: usize>(m: usize) -> usize
     3840 * (m % PAIRS) + m / PAIRS
 }
 
-// All 1920 words of each stream, four pairs of words per iteration. How many streams there are is asked while compiling, and in no iteration.
+// All 1920 words of each stream, four pairs per iteration. The loop is compiled for each number of streams, so that no iteration asks for it.
 fn put_words<const PAIRS: usize>(
     tables: Tables,
     words: &[u16],

@@ -1,20 +1,11 @@
 // Pieces of a span, put into the symbol buffer at a place.
 #![tactic(auto, using(crate::proofs::Putting::one_after))]
 
-ghost use Rattle.std.specs.Prelude.{◌≡◌, ◌+◌, ◌-◌, ◌*◌, ◌/◌, ◌%◌, ◌<◌, ◌≤◌, [], ◌∷◌, length};
+ghost use Rattle.std.specs.Prelude.{◌≡◌, ◌+◌, ◌-◌, ◌*◌, ◌/◌, ◌%◌, ◌<◌, ◌≤◌, [], ◌∷◌, length, slice_index};
 ghost use Rattle.encoder.specs.Inside.Tables.{offset_of, of_offset};
-ghost use Rattle.send.specs.Inside.Put.{offset_after, put, pair_chars, group_chars, word_of_four, run_chars, repeated, KeepsDisparity};
+ghost use Rattle.send.specs.Inside.Put.{offset_after, put, pair_chars, group_chars, run_chars, repeated, KeepsDisparity};
 
 use encoder::tables::Tables;
-
-// One word of each stream; with two streams the last two are not used.
-#[derive(Drop)]
-pub(crate) struct Four {
-    pub(crate) a: u16,
-    pub(crate) b: u16,
-    pub(crate) c: u16,
-    pub(crate) e: u16,
-}
 
 // The symbols of characters x, y and z.
 pub(crate) fn put_three(
@@ -86,12 +77,12 @@ pub(crate) fn put_both(tables: Tables, d: usize, both: u32, out: &mut [u16], at:
     )
 }
 
-// One word of each stream.
+// One word of each stream; with two streams the last two are not used.
 pub(crate) fn put_four(
     tables: Tables,
     pairs: usize,
     d: usize,
-    g: Four,
+    words: [u16; 4],
     out: &mut [u16],
     at: usize,
 ) -> usize
@@ -99,14 +90,14 @@ pub(crate) fn put_four(
     requires pairs_bound { pairs ≤ 2 }
     requires d_value { d ≡ offset_of (of_offset d) }
     requires pairs_in_bounds { at + 3 * pairs ≤ length out.old }
-    ensures offset { result ≡ offset_after d (group_chars pairs (word_of_four g)) }
-    ensures out { out.new ≡ put d (group_chars pairs (word_of_four g)) at out.old }
+    ensures offset { result ≡ offset_after d (group_chars pairs (slice_index words)) }
+    ensures out { out.new ≡ put d (group_chars pairs (slice_index words)) at out.old }
 {
-    let low = put_pair(tables, d, g.a, g.b, out, at);
+    let low = put_pair(tables, d, words[0], words[1], out, at);
     if pairs == 1 {
         return low;
     }
-    put_pair(tables, low, g.c, g.e, out, at + 3)
+    put_pair(tables, low, words[2], words[3], out, at + 3)
 }
 
 // The same word on every stream.
@@ -125,19 +116,7 @@ pub(crate) fn put_same(
     ensures offset { result ≡ offset_after d (group_chars pairs (λ _. w)) }
     ensures out { out.new ≡ put d (group_chars pairs (λ _. w)) at out.old }
 {
-    put_four(
-        tables,
-        pairs,
-        d,
-        Four {
-            a: w,
-            b: w,
-            c: w,
-            e: w,
-        },
-        out,
-        at,
-    )
+    put_four(tables, pairs, d, [w; 4], out, at)
 }
 
 // A run of pairs of one word that leaves the disparity as it was: the same three symbols again and again.

@@ -1,22 +1,19 @@
 // The timing codes of all streams, with a special character and content bytes in place of their first four bytes (004, 7.1).
 #![tactic(auto, using(crate::proofs::Putting::one_after))]
 
-ghost use Rattle.std.specs.Prelude.{◌≡◌, ◌+◌, ◌*◌, ◌<◌, ◌≤◌, length};
+ghost use Rattle.std.specs.Prelude.{◌≡◌, ◌+◌, ◌*◌, ◌≤◌, length};
 ghost use Rattle.encoder.specs.Inside.Tables.{offset_of, of_offset};
+ghost use Rattle.symbol.specs.Character.{number_of};
 ghost use Rattle.send.specs.Inside.Put.{offset_after, put, sync_chars, second_word, timing_chars};
 
 use encoder::tables::Tables;
-
-// The special characters of SAV and EAV, by their numbers among the characters.
-pub(crate) const K28_5: u16 = 261;
-
-pub(crate) const K29_7: u16 = 266;
+use symbol::special::Special;
 
 // The special character twice, the content bytes, and the last two bytes of the second pair of words w.
 fn put_sync(
     tables: Tables,
     d: usize,
-    k: u16,
+    k: Special,
     content1: u8,
     content2: u8,
     w: u16,
@@ -24,13 +21,13 @@ fn put_sync(
     at: usize,
 ) -> usize
     requires d_value { d ≡ offset_of (of_offset d) }
-    requires k_bound { k < 268 }
     requires at_in_bounds { at + 6 ≤ length out.old }
-    ensures offset { result ≡ offset_after d (sync_chars k content1 content2 w) }
-    ensures out { out.new ≡ put d (sync_chars k content1 content2 w) at out.old }
+    ensures offset { result ≡ offset_after d (sync_chars (number_of k) content1 content2 w) }
+    ensures out { out.new ≡ put d (sync_chars (number_of k) content1 content2 w) at out.old }
 {
     let t = packing::bytes::bytes_of(w, w);
-    let d1 = crate::put::put_three(tables, d, k, k, content1 as u16, out, at);
+    let c = symbol::special::number(k);
+    let d1 = crate::put::put_three(tables, d, c, c, content1 as u16, out, at);
     crate::put::put_three(
         tables,
         d1,
@@ -57,7 +54,7 @@ pub(crate) fn put_timing(
     tables: Tables,
     pairs: usize,
     d: usize,
-    k: u16,
+    k: Special,
     content1: u8,
     content2: u8,
     xyz: u16,
@@ -67,10 +64,9 @@ pub(crate) fn put_timing(
     requires le_pairs { 1 ≤ pairs }
     requires pairs_bound { pairs ≤ 2 }
     requires d_value { d ≡ offset_of (of_offset d) }
-    requires k_bound { k < 268 }
     requires pairs_in_bounds { at + 12 * pairs ≤ length out.old }
-    ensures offset { result ≡ offset_after d (timing_chars pairs k content1 content2 xyz) }
-    ensures out { out.new ≡ put d (timing_chars pairs k content1 content2 xyz) at out.old }
+    ensures offset { result ≡ offset_after d (timing_chars pairs (number_of k) content1 content2 xyz) }
+    ensures out { out.new ≡ put d (timing_chars pairs (number_of k) content1 content2 xyz) at out.old }
 {
     let w = second_word(pairs);
     let zeros = 3 * pairs - 2;

@@ -29,7 +29,6 @@ use Rattle.span.specs.Sample.{blank_word}
 use Rattle.span.specs.Span.{interleaved, bytes_listed, bytes, fill_word}
 use Rattle.send.specs.declared.coder.Coded.{Coded}
 use Rattle.send.specs.declared.coder.Three.{Three}
-use Rattle.send.specs.declared.put.Four.{Four}
 use Rattle.send.specs.declared.picture_words.Passed.{Passed}
 
 -- a character
@@ -59,10 +58,6 @@ pair_chars a b = bytes_listed (bytes_of a b)
 -- the characters of one word of each stream
 unfoldable pub group_chars : ℕ → (ℕ → ℕ) → List ℕ
 group_chars pairs w = upto pairs (λ u. pair_chars (w (2 * u)) (w (2 * u + 1)))
-
--- one word of each of up to four streams
-abbrev pub word_of_four : Four → ℕ → ℕ
-word_of_four g t = slice_index (g.a ∷ g.b ∷ g.c ∷ g.e ∷ []) t
 
 -- the first two pairs of a timing code, with the special character and the content bytes put in; w is the word of the second pair
 abbrev pub sync_chars : ℕ → ℕ → ℕ → ℕ → List ℕ

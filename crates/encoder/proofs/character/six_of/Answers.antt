@@ -8,11 +8,8 @@ use borrow.Author.Tests.{eq-eqb, ne_eqb}
 use lib.ListN.{get_or}
 use Rattle.symbol.specs.Blocks.{six_bits}
 use Rattle.symbol.specs.Character.{x_of}
-use Rattle.encoder.proofs.Blocks.{x_below, six_of_byte, six_of_special}
+use Rattle.encoder.proofs.Blocks.{six_of_byte, six_of_special}
 use Rattle.encoder.proofs.character.six_of.Goals as goal
-
-pub six_at-requires : goal.six_at-requires
-six_at-requires c = omega (arith, c.x_of-x.ensures, x_below c.args.c (omega arith))
 
 pub returns-then-c-lt256 : goal.returns-then-c-lt256
 returns-then-c-lt256 c =
@@ -24,9 +21,6 @@ returns-then-x-eq28 c =
     let a = c.args in
     let is : x_of a.c ≡ 28 = omega arith in
     c.six_bits_k28.ensures ∙ six_of_special a.d a.c true c.if-c-lt256.false (eq-eqb _ 28 is)
-
-pub six_at-requires-2 : goal.six_at-requires-2
-six_at-requires-2 c = omega (arith, c.x_of-x.ensures, x_below c.args.c (omega arith))
 
 pub returns : goal.returns
 returns c =
