@@ -67,13 +67,11 @@ pub(crate) fn put_listing(input: &[u8], out: &mut [u8]) -> usize
     ensures end { result ≡ length (repair_listing input.now) }
     ensures written { out.new ≡ sets out.old 0 (repair_listing input.now) }
 {
-    let count = ground::least::least(32768, input.len() / 2);
+    let count = (input.len() / 2).min(32768);
     let mut at = 0;
-    let mut i = 0;
-    while i < count {
+    for i in 0..count {
         let w = text::words::word_of(input[2 * i], input[2 * i + 1]);
         at = put_line(i as u16, w, out, at);
-        i += 1;
     }
     at
 }
