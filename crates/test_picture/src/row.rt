@@ -9,7 +9,7 @@ use line::picture::PictureLine;
 fn apart(a: u64, b: u64) -> u64
     ensures { result ≡ distance a b }
 {
-    if a < b { b - a } else { a - b }
+    a.abs_diff(b)
 }
 
 // The twelve-bit code of a sample.
@@ -27,10 +27,8 @@ pub(crate) fn put_codes(line: PictureLine, step: u16, row: &mut [u16])
     requires row_len { length row.old ≡ 3840 }
     ensures { row.new ≡ row_in_steps step line.0 }
 {
-    let mut x = 0;
-    while x < 3840 {
-        row[x] = sample_at(line, x as u16) / step;
-        x += 1;
+    for (x, sample) in row.iter_mut().enumerate() {
+        *sample = sample_at(line, x as u16) / step;
     }
 }
 

@@ -63,14 +63,12 @@ fn put_picture(
 {
     let step = step_of(f);
     let rows = span::format::shape_of(f).stream_pairs;
-    let mut i = 0;
-    while i < rows {
+    for i in 0..rows {
         // images 2i + 1 and 2i + 2 are those of one line
         let Carries::Line(line) = picture::place::picture_line_on(l, (2 * i + 1) as u8) else {
             return;
         };
         put_images(line, step, row, first, second, samples, 3840 * i);
-        i += 1;
     }
 }
 

@@ -1,5 +1,5 @@
 pub mod Laws
 pub mod Numbers
-pub mod Parts
 pub mod Putting
+pub mod Stores
 pub mod WordsRead

@@ -4,7 +4,7 @@ ghost use Rattle.std.proofs.lemmas.List.Edits.{sets};
 ghost use Rattle.text.specs.Put.{end_of, put_of};
 
 // Puts a text that fits, from a place on.
-#[tactic(auto, using(crate::proofs::Parts::part_put))]
+#[tactic(auto, using(crate::proofs::Stores::stores))]
 fn put_all(text: &[u8], out: &mut [u8], at: usize) -> usize
     requires { at + length text.now ≤ length out.old }
     ensures end { result ≡ at + length text.now }

@@ -11,6 +11,3 @@ use Rattle.test_picture.proofs.row.put_codes.Given as goal
 abbrev pub invariant-loop-x : goal.invariant-loop-x
 invariant-loop-x l =
     (l.x ≤ 3840) × (length l.row ≡ 3840) × (l.row ≡ sets l.initial.row 0 (table l.x (sample_by l.step l.line.0)))
-
-abbrev pub decreases-loop-x : goal.decreases-loop-x
-decreases-loop-x l = 3840 - l.x
