@@ -7,7 +7,7 @@ ghost use Rattle.span.specs.Format.{is_known, shape_of, samples_in};
 ghost use Rattle.test_picture.specs.Putting.{paper_put, samples_answer, samples_put};
 ghost use Rattle.test_picture.specs.TestPicture.{code_step, row_in_steps, test_samples};
 
-use crate::answer::Put;
+use crate::answer::PutError;
 use line::picture::{Carries, PictureLine};
 use line::stream::StreamLine;
 use span::format::Format;
@@ -123,19 +123,19 @@ fn put_line(f: Format, l: StreamLine, samples: &mut [u16])
 }
 
 // The samples of a stream line, stream by stream.
-pub fn put_samples(f: Format, l: StreamLine, samples: &mut [u16]) -> Put
+pub fn put_samples(f: Format, l: StreamLine, samples: &mut [u16]) -> Result<(), PutError>
     ensures answer { paper_put result ≡ samples_answer f l.0 samples.old }
     ensures samples { samples.new ≡ samples_put f l.0 samples.old }
 {
     if !span::format::is_known(f) {
-        return Put::UnknownFormat;
+        return Err(PutError::UnknownFormat);
     }
     if !line::stream::is_line(l) {
-        return Put::NoLine;
+        return Err(PutError::NoLine);
     }
     if samples.len() != span::length::span_lengths(f).samples {
-        return Put::WrongOutput;
+        return Err(PutError::WrongOutput);
     }
     put_line(f, l, samples);
-    Put::Done
+    Ok(())
 }

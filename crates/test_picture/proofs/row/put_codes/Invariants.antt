@@ -1,7 +1,7 @@
 -- `test_picture::row::put_codes` meets its contract: after x iterations the first x samples are there.
 -- Assumes nothing.
 use mathlib.Core.Path.{◌≡◌}
-use Prim.Native.Nat.{◌-◌, ◌≤◌}
+use Prim.Native.Nat.{◌≤◌}
 use lib.ListN.{length}
 use lib.Seq.{sets}
 use Rattle.ground.specs.Written.{table}
