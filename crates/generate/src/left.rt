@@ -47,7 +47,8 @@ pub(crate) fn put_next(s: Left, samples: &mut [u16], symbols: &mut [u16], out: &
     let format = s.format;
     let line = s.line;
     let d = s.disparity;
-    test_picture::samples::put_samples(format, line, samples);
+    // A span that is left may be sent: neither call refuses it.
+    let _ = test_picture::samples::put_samples(format, line, samples);
     let sent = send::send::send(format, line, d, Content::NoneNamed, samples, symbols);
     crate::bytes::put_bytes(symbols, out);
     let disparity = after_of(sent, d);
