@@ -1,7 +1,6 @@
 -- `reception::receive::receive_all` meets its contract: what is left of the delivery, put into what is there, gives the whole.
 -- Assumes nothing.
 use mathlib.Core.Path.{sym, ap, ◌∙◌}
-use Prim.Native.Nat.{◌-◌}
 use native.Mathlib.Omega.{arith}
 use borrow.Author.Rules.{rules}
 use Rattle.span.specs.declared.format.Format.{Format}
