@@ -113,8 +113,8 @@ pub fn receive(first: StreamLine, symbols: &[u16], heard: &mut [u16], picture: &
 {
     if is_ready(first, symbols.len(), heard.len(), picture.len()) {
         let mut rows = [0u16; 7680];
-        ground::fill::fill(heard, 0);
-        ground::fill::fill(picture, 0);
+        heard.fill(0);
+        picture.fill(0);
         receive_all(first, symbols, &mut rows, heard, picture);
         return true;
     }
