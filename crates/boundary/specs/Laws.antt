@@ -7,7 +7,7 @@ use Rattle.symbol.specs.declared.disparity.Disparity.TheVariants.{Negative, Posi
 use Rattle.symbol.specs.Disparity.{is_positive}
 use Rattle.line.specs.declared.picture.PictureLine.{PictureLine}
 use Rattle.line.specs.declared.stream.StreamLine.{StreamLine}
-use Rattle.span.specs.declared.content.Content.TheVariants.{NoneNamed, Named}
+use Rattle.std.specs.Prelude.{None as NoneNamed, Some as Named}
 use Rattle.span.specs.declared.content.ContentBytes.{ContentBytes}
 use Rattle.boundary.specs.declared.numbers.FormatNumbers.{FormatNumbers}
 use Rattle.boundary.specs.Numbers.{content_from, disparity_from, format_given, number_in, picture_line_number, stream_line_number}

@@ -7,8 +7,8 @@ use Rattle.symbol.specs.declared.disparity.Disparity.{Disparity}
 use Rattle.symbol.specs.declared.disparity.Disparity.TheVariants.{Negative, Positive}
 use Rattle.line.specs.declared.picture.PictureLine.{PictureLine}
 use Rattle.line.specs.declared.stream.StreamLine.{StreamLine}
-use Rattle.span.specs.declared.content.Content.{Content}
-use Rattle.span.specs.declared.content.Content.TheVariants.{NoneNamed, Named}
+use Rattle.span.specs.Content.{Content}
+use Rattle.std.specs.Prelude.{None as NoneNamed, Some as Named}
 use Rattle.span.specs.declared.content.ContentBytes.{ContentBytes}
 use Rattle.span.specs.declared.format.Format.{Format}
 use Rattle.span.specs.Format.{format_from}

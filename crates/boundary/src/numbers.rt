@@ -7,7 +7,7 @@ ghost use Rattle.span.specs.Format.{format_from};
 
 use line::picture::PictureLine;
 use line::stream::StreamLine;
-use span::content::{Content, ContentBytes};
+use span::content::ContentBytes;
 use span::format::Format;
 use symbol::disparity::Disparity;
 
@@ -48,22 +48,14 @@ pub struct SendRequest {
 fn at_most_255(n: u32) -> u8
     ensures { result ≡ min n 255 }
 {
-    let top = 255;
-    if n < top {
-        return n as u8;
-    }
-    top as u8
+    u8::try_from(n).unwrap_or(u8::MAX)
 }
 
 // The number of a line, a sample, a word or a symbol.
 pub fn at_most_65535(n: u32) -> u16
     ensures { result ≡ min n 65535 }
 {
-    let top = 65535;
-    if n < top {
-        return n as u16;
-    }
-    top as u16
+    u16::try_from(n).unwrap_or(u16::MAX)
 }
 
 pub fn format_from(format: FormatNumbers) -> Format
@@ -109,13 +101,13 @@ pub fn picture_line_number(l: PictureLine) -> PictureLineNumber
 }
 
 // The content bytes asked for. Where none are named, what is in their place is not looked at.
-pub fn content_from(named: bool, content: ContentBytes) -> Content
+pub fn content_from(named: bool, content: ContentBytes) -> Option<ContentBytes>
     ensures { result ≡ content_from named content }
 {
     if named {
-        return Content::Named(content);
+        return Some(content);
     }
-    Content::NoneNamed
+    None
 }
 
 // The running disparity, whose two values are just those of a bool.
@@ -131,8 +123,5 @@ pub fn disparity_from(positive: bool) -> Disparity
 pub fn is_positive(d: Disparity) -> bool
     ensures { result ≡ is_positive d }
 {
-    match d {
-        Disparity::Negative => false,
-        Disparity::Positive => true,
-    }
+    d == Disparity::Positive
 }

@@ -22,7 +22,7 @@ use Rattle.word.specs.Repair.{repair_of}
 use Rattle.word.specs.Word.{is_word}
 use Rattle.picture.specs.Choice.{row_on}
 use Rattle.picture.specs.Place.{placed_of}
-use Rattle.span.specs.declared.content.Content.{Content}
+use Rattle.span.specs.Content.{Content}
 use Rattle.span.specs.declared.format.Format.{Format}
 use Rattle.span.specs.Format.{is_known, format_from}
 use Rattle.span.specs.Length.{lengths_of}

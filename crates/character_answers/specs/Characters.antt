@@ -4,10 +4,12 @@
 use Rattle.std.specs.Prelude.{ℕ, true, false, cond, ltb}
 use Rattle.ground.specs.Answer.{Answer, refused, given}
 use Rattle.symbol.specs.declared.disparity.Disparity.{Disparity}
-use Rattle.symbol.specs.Character.{Character, byte, special, characters, number_of}
+use Rattle.symbol.specs.declared.character.Character.{Character}
+use Rattle.symbol.specs.declared.character.Character.TheVariants.{Byte as byte, Special as special}
+use Rattle.symbol.specs.Character.{characters, number_of}
 use Rattle.encoder.specs.declared.encode.Encoded.{Encoded}
 use Rattle.encoder.specs.Encode.{encoded}
-use Rattle.decoder.specs.Decode.{After}
+use Rattle.decoder.specs.declared.decode.Decoded.{Decoded}
 use Rattle.character_answers.specs.declared.characters.DecodeAnswer.{DecodeAnswer}
 use Rattle.character_answers.specs.declared.characters.EncodeAnswer.{EncodeAnswer}
 use Rattle.symbol.specs.Disparity.{is_positive}
@@ -19,7 +21,7 @@ character_number (special k) = number_of k
 abbrev pub decoded_as : ℕ → Disparity → DecodeAnswer
 decoded_as c d = record { number = 0; character = c; positive_after = is_positive d }
 
-abbrev pub decode_answer_of : Answer After → DecodeAnswer
+abbrev pub decode_answer_of : Answer Decoded → DecodeAnswer
 decode_answer_of (refused number place) = record { number = number; character = 0; positive_after = false }
 decode_answer_of (given a) = decoded_as (character_number a.character) a.after
 

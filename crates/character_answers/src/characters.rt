@@ -2,10 +2,11 @@
 ghost use Rattle.std.specs.Prelude.{◌≡◌};
 ghost use Rattle.ground.specs.Answer.{refused};
 ghost use Rattle.decoder.specs.Decode.{paper_decoded};
-ghost use Rattle.character_answers.specs.Characters.{decoded_as, decode_answer_of, encoded_as, encode_answer_of};
+ghost use Rattle.character_answers.specs.Characters.{character_number, decoded_as, decode_answer_of, encoded_as, encode_answer_of};
 
-use decoder::decode::Decoded;
+use decoder::decode::{DecodeError, Decoded};
 use encoder::encode::Encoded;
+use symbol::character::Character;
 use symbol::disparity::Disparity;
 
 #[repr(C)]
@@ -44,15 +45,23 @@ fn decode_refused(number: u32) -> DecodeAnswer
     }
 }
 
-// A byte, or one of the special characters from 256 on.
-pub fn decode_answer(r: Decoded) -> DecodeAnswer
+// The number of a character: a byte's own, or one of the special characters' from 256 on.
+fn number_of(c: Character) -> u16
+    ensures { result ≡ character_number c }
+{
+    match c {
+        Character::Byte(b) => u16::from(b),
+        Character::Special(k) => symbol::special::number(k),
+    }
+}
+
+pub fn decode_answer(r: Result<Decoded, DecodeError>) -> DecodeAnswer
     ensures { result ≡ decode_answer_of (paper_decoded r) }
 {
     match r {
-        Decoded::Byte(b, d) => decoded(b as u16, d),
-        Decoded::Special(k, d) => decoded(symbol::special::number(k), d),
-        Decoded::Above1023 => decode_refused(7),
-        Decoded::Illegal => decode_refused(20),
+        Ok(d) => decoded(number_of(d.character), d.after),
+        Err(DecodeError::Above1023) => decode_refused(7),
+        Err(DecodeError::Illegal) => decode_refused(20),
     }
 }
 

@@ -1,10 +1,9 @@
 -- The error detection code of a line (004, 6.4 and table 9).
 -- Assumes nothing.
-use Rattle.std.specs.Prelude.{ℕ, zero, suc, ◌+◌, ◌-◌, ◌*◌, ◌/◌, ◌%◌, ◌^◌, Bool, true, ◌&&◌, List, [], ◌∷◌}
+use Rattle.std.specs.Prelude.{ℕ, zero, suc, ◌+◌, ◌-◌, ◌*◌, ◌/◌, ◌%◌, ◌^◌, Bool, true, ◌&&◌, List, [], ◌∷◌, Result, Ok, Err}
 use Rattle.ground.specs.Answer.{Answer, refused, given, unless, checked}
 use Rattle.ground.specs.Xor.{◌⊕◌}
-use Rattle.crcc.specs.declared.crcc.Crcc.{Crcc}
-use Rattle.crcc.specs.declared.crcc.Crcc.TheVariants.{Register, Above4095}
+use Rattle.crcc.specs.declared.crcc.Above4095.{Above4095}
 use Rattle.crcc.specs.declared.crcc.CrccWords.{CrccWords}
 use Rattle.word.specs.Word.{is_word, guarded}
 
@@ -41,9 +40,9 @@ all_words [] = true
 all_words (w ∷ ws) = is_word w && all_words ws
 
 -- the paper's number and values for each answer
-abbrev pub paper_crcc : Crcc → Answer ℕ
-paper_crcc (Register c) = given c
-paper_crcc Above4095 = refused 7 0
+abbrev pub paper_crcc : Result ℕ Above4095 → Answer ℕ
+paper_crcc (Ok c) = given c
+paper_crcc (Err e) = refused 7 0
 
 -- the register after a run of words, given the register before it; 7 if a word is above 4095
 abbrev pub crcc_from : ℕ → List ℕ → Answer ℕ

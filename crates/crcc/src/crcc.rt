@@ -2,13 +2,9 @@
 ghost use Rattle.std.specs.Prelude.{◌≡◌};
 ghost use Rattle.crcc.specs.Crcc.{crc_word, crcc_words, paper_crcc, crcc_of};
 
-#[derive(Drop)]
-pub enum Crcc {
-    // The register: bit i is CRCCi.
-    Register(u32),
-    // 7: no word has more than twelve bits.
-    Above4095,
-}
+// 7: no word has more than twelve bits.
+#[derive(Clone, Copy, Debug, PartialEq, Eq)]
+pub struct Above4095;
 
 #[derive(Drop)]
 pub struct CrccWords {
@@ -25,21 +21,18 @@ pub fn crc_word(c: u32, w: u16) -> u32
     c / 4096 ^ x * 64 ^ x * 4 ^ x * 2
 }
 
-// The CRCC of a run of words.
-pub fn crcc_of(words: &[u16]) -> Crcc
+// The CRCC of a run of words: the register, of which bit i is CRCCi.
+pub fn crcc_of(words: &[u16]) -> Result<u32, Above4095>
     ensures { paper_crcc result ≡ crcc_of words.now }
 {
     let mut c = 0;
-    let mut i = 0;
-    while i < words.len() {
-        let w = words[i];
+    for &w in words {
         if 4095 < w {
-            return Crcc::Above4095;
+            return Err(Above4095);
         }
         c = crc_word(c, w);
-        i += 1;
     }
-    Crcc::Register(c)
+    Ok(c)
 }
 
 // The two words that carry a register, of which eighteen bits count.

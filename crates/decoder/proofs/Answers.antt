@@ -13,54 +13,50 @@ use Rattle.ground.specs.Inside.Answer.{Injective}
 use Rattle.ground.proofs.Answers.{told_again}
 use Rattle.symbol.specs.declared.disparity.Disparity.{Disparity}
 use Rattle.symbol.specs.declared.disparity.Disparity.TheVariants.{Negative, Positive}
+use Rattle.std.specs.Prelude.{Option as Answered, Some, None, Result, Ok, Err}
 use Rattle.decoder.specs.declared.decode.Decoded.{Decoded}
-use Rattle.decoder.specs.declared.decode.Decoded.TheVariants as Decoded
+use Rattle.decoder.specs.declared.decode.DecodeError.{DecodeError}
+use Rattle.decoder.specs.declared.decode.DecodeError.TheVariants.{Above1023, Illegal}
+use Rattle.decoder.specs.declared.meaning.Above1023.{Above1023 as TooLarge}
 use Rattle.decoder.specs.declared.meaning.Legal.{Legal}
 use Rattle.decoder.specs.declared.meaning.Meaning.{Meaning}
-use Rattle.decoder.specs.declared.meaning.Meaning.TheVariants as Meaning
-use Rattle.symbol.specs.Character.{Character, byte, special, character_of}
+use Rattle.symbol.specs.declared.character.Character.{Character}
+use Rattle.symbol.specs.Character.{character_of}
 use Rattle.symbol.specs.Code.{symbol_of, char_of, after_of}
-use Rattle.decoder.specs.Decode.{After, paper_decoded, decode_of}
+use Rattle.decoder.specs.Decode.{paper_decoded, decode_of}
 use Rattle.decoder.specs.Meaning.{Means, paper_meaning, meant_by, meaning_of}
 use Rattle.symbol.proofs.Inverse.{decode_encode, illegal_is}
 use Rattle.symbol.proofs.Ones.{symbol_below}
 
 -- ---- the answer is told again from the paper's values
 
-abbrev decoded_from : Character → Disparity → Decoded
-decoded_from (byte b) d = Decoded.Byte b d
-decoded_from (special k) d = Decoded.Special k d
-
-abbrev decoded_again : Answer After → Decoded
-decoded_again (refused n place) = cond (eqb n 7) Decoded.Above1023 Decoded.Illegal
-decoded_again (given a) = decoded_from a.character a.after
+abbrev decoded_again : Answer Decoded → Result Decoded DecodeError
+decoded_again (refused n place) = Err (cond (eqb n 7) Above1023 Illegal)
+decoded_again (given r) = Ok r
 
 pub decoded_one_to_one : Injective paper_decoded
 decoded_one_to_one = told_again decoded_again again
   where
-    again : (r : Decoded) → decoded_again (paper_decoded r) ≡ r
-    again (Decoded.Byte b d) = refl
-    again (Decoded.Special k d) = refl
-    again Decoded.Above1023 = refl
-    again Decoded.Illegal = refl
+    again : (r : Result Decoded DecodeError) → decoded_again (paper_decoded r) ≡ r
+    again (Ok r) = refl
+    again (Err Above1023) = refl
+    again (Err Illegal) = refl
 
-abbrev meaning_from : Option Character → Legal → Meaning
-meaning_from none l = Meaning.NoSymbol
-meaning_from (some (byte b)) l = Meaning.Byte b l
-meaning_from (some (special k)) l = Meaning.Special k l
+abbrev meaning_from : Option Character → Legal → Answered Meaning
+meaning_from none l = None
+meaning_from (some c) l = Some record { character = c; legal = l }
 
-abbrev meaning_again : Answer Means → Meaning
-meaning_again (refused n place) = Meaning.Above1023
-meaning_again (given m) = meaning_from m.character (record { negative = m.negative; positive = m.positive })
+abbrev meaning_again : Answer Means → Result (Answered Meaning) TooLarge
+meaning_again (refused n place) = Err (record {})
+meaning_again (given m) = Ok (meaning_from m.character (record { negative = m.negative; positive = m.positive }))
 
 pub meaning_one_to_one : Injective paper_meaning
 meaning_one_to_one = told_again meaning_again again
   where
-    again : (r : Meaning) → meaning_again (paper_meaning r) ≡ r
-    again (Meaning.Byte b l) = refl
-    again (Meaning.Special k l) = refl
-    again Meaning.NoSymbol = refl
-    again Meaning.Above1023 = refl
+    again : (r : Result (Answered Meaning) TooLarge) → meaning_again (paper_meaning r) ≡ r
+    again (Ok (Some m)) = refl
+    again (Ok None) = refl
+    again (Err e) = refl
 
 -- ---- which calls are refused
 

@@ -1,13 +1,14 @@
 -- What a symbol means (document 01, "Receiving and finding", refusal 7).
 -- Assumes nothing.
-use Rattle.std.specs.Prelude.{ℕ, Bool, false, [], ◌∷◌, ltb}
+use Rattle.std.specs.Prelude.{ℕ, Bool, false, [], ◌∷◌, ltb, Option as Answered, Some, None, Result, Ok, Err}
 use Rattle.std.proofs.Math.Option.{Option, none, some, map}
 use Rattle.ground.specs.Answer.{Answer, refused, given, unless, checked}
 use Rattle.ground.specs.Search.{is_some}
 use Rattle.symbol.specs.declared.disparity.Disparity.TheVariants.{Negative, Positive}
 use Rattle.decoder.specs.declared.meaning.Meaning.{Meaning}
-use Rattle.decoder.specs.declared.meaning.Meaning.TheVariants as Meaning
-use Rattle.symbol.specs.Character.{Character, byte, special, character_of}
+use Rattle.decoder.specs.declared.meaning.Above1023.{Above1023}
+use Rattle.symbol.specs.declared.character.Character.{Character}
+use Rattle.symbol.specs.Character.{character_of}
 use Rattle.symbol.specs.Code.{char_of}
 
 -- one byte, one special character by name, or no symbol, and the disparities at which it is legal
@@ -16,12 +17,13 @@ pub record Means : Type 0 where
   pub negative : Bool
   pub positive : Bool
 
-abbrev pub paper_meaning : Meaning → Answer Means
-paper_meaning (Meaning.Byte b l) = given (record { character = some (byte b); negative = l.negative; positive = l.positive })
-paper_meaning (Meaning.Special k l) =
-    given (record { character = some (special k); negative = l.negative; positive = l.positive })
-paper_meaning Meaning.NoSymbol = given (record { character = none; negative = false; positive = false })
-paper_meaning Meaning.Above1023 = refused 7 0
+abbrev pub means_of : Answered Meaning → Means
+means_of (Some m) = record { character = some m.character; negative = m.legal.negative; positive = m.legal.positive }
+means_of None = record { character = none; negative = false; positive = false }
+
+abbrev pub paper_meaning : Result (Answered Meaning) Above1023 → Answer Means
+paper_meaning (Ok m) = given (means_of m)
+paper_meaning (Err e) = refused 7 0
 
 abbrev pub first_of : Option ℕ → Option ℕ → Option ℕ
 first_of (some c) o = some c

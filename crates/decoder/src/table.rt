@@ -1,7 +1,9 @@
 // The decoding table over all 1,024 symbols, and what its entries say.
 ghost use Rattle.std.specs.Prelude.{◌≡◌, ◌%◌};
+ghost use Rattle.symbol.specs.Character.{character_of};
 ghost use Rattle.decoder.specs.Inside.Decoder.{decoding_table, entry_of, entry_in, legal_bit, entry_after};
 
+use symbol::character::Character;
 use symbol::disparity::Disparity;
 
 // An entry for each symbol: the character's number in bits 0 to 8 (a byte is its own number, the special characters are 256 to 267),
@@ -91,6 +93,17 @@ pub(crate) fn entry_of(s: u16) -> u16
 {
     let t = decoding_table();
     entry(&t, s)
+}
+
+// The character in an entry.
+pub(crate) fn character_in(e: u16) -> Character
+    ensures { result ≡ character_of (e % 512) }
+{
+    let c = e % 512;
+    if c < 256 {
+        return Character::Byte(c as u8);
+    }
+    Character::Special(symbol::special::named(c - 256))
 }
 
 // Whether an entry's symbol is legal at a disparity.

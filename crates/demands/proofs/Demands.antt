@@ -25,16 +25,15 @@ use Rattle.crcc.proofs.Paper.{crcc_paper}
 use Rattle.packing.proofs.Paper.{packing_paper}
 use Rattle.span.proofs.Paper.{span_paper}
 use Rattle.decoder.proofs.Answers.{decodes}
-use Rattle.word.specs.declared.repair.WrongBit.TheVariants.{Bit}
+use Rattle.std.specs.Prelude.{Some}
 use Rattle.word.specs.Repair.{legal_word, repair_of}
 use Rattle.word.specs.Timing.{timing}
 use Rattle.word.proofs.WrongWords.{one_wrong, two_wrong}
 use Rattle.picture.specs.Division.{w}
 use Rattle.dividing.specs.Row.{divided, joined, split_of, join_of}
 use Rattle.dividing.proofs.RoundTrip.{join_split, split_join, place_agrees}
-use Rattle.span.specs.declared.content.Content.{Content}
+use Rattle.span.specs.Content.{Content, content_of}
 use Rattle.span.specs.declared.format.Format.{Format}
-use Rattle.span.specs.Content.{content_of}
 use Rattle.span.specs.Format.{is_known, shape_of, streams, symbols_in}
 use Rattle.span.specs.Span.{span_symbols, span_after}
 use Rattle.span.specs.Stream.{Request, picture}
@@ -185,7 +184,7 @@ demand_2 = record {
   windows = window_paper;
   sent_again = again;
   one_wrong = λ v h k l.
-      timed (λ x. repair_of (inverted k x) ≡ given (record { word = x; distance = 1; bit = Bit k })) (λ vh m. one_wrong vh m k l) v h;
+      timed (λ x. repair_of (inverted k x) ≡ given (record { word = x; distance = 1; bit = Some k })) (λ vh m. one_wrong vh m k l) v h;
   two_wrong = λ v h j k i l. timed (λ x. repair_of (inverted j (inverted k x)) ≡ refused 8 0) (λ vh m. two_wrong vh m j k i l) v h;
   repaired = λ f x sent words disturbed near w d c e.
       repaired_delivered f x.asked (sendable f x sent) words disturbed w d c e near;

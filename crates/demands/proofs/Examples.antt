@@ -19,7 +19,7 @@ use Rattle.ground.proofs.Cases.{on_test}
 use Rattle.ground.proofs.Writing.{get_d_table, length_upto, get_d_upto}
 use Rattle.symbol.specs.declared.disparity.Disparity.{Disparity}
 use Rattle.symbol.specs.declared.disparity.Disparity.TheVariants.{Negative}
-use Rattle.span.specs.declared.content.Content.TheVariants.{NoneNamed}
+use Rattle.std.specs.Prelude.{None as NoneNamed}
 use Rattle.span.specs.declared.format.Format.{Format}
 use Rattle.span.specs.Format.{format_from, shape_of, streams, symbols_in}
 use Rattle.span.specs.Sample.{sample_word}

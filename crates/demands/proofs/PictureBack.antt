@@ -23,7 +23,7 @@ use Rattle.dividing.specs.Row.{divided, joined, stream_in}
 use Rattle.picture.proofs.Places.{found}
 use Rattle.dividing.specs.Inside.Row.{row_with}
 use Rattle.dividing.proofs.Rows.{length_divided, sample_divided, length_joined, sample_joined}
-use Rattle.span.specs.declared.content.Content.{Content}
+use Rattle.span.specs.Content.{Content}
 use Rattle.span.specs.declared.format.Format.{Format}
 use Rattle.span.proofs.Formats.{two_streams, four_streams}
 use Rattle.span.proofs.Numbers.{samples_told}

@@ -22,17 +22,16 @@ use Rattle.decoder.specs.Decode.{decode_of}
 use Rattle.decoder.specs.Meaning.{meaning_of}
 use Rattle.packing.specs.Bytes.{packed_of}
 use Rattle.crcc.specs.Crcc.{crcc_words, crcc_of}
-use Rattle.word.specs.declared.repair.WrongBit.TheVariants.{Bit}
+use Rattle.std.specs.Prelude.{Some}
 use Rattle.word.specs.LineNumber.{numbered_of, named_of}
 use Rattle.word.specs.Repair.{distance, repair_of}
 use Rattle.word.specs.Timing.{timing}
 use Rattle.picture.specs.Division.{line_from, sample_from}
 use Rattle.picture.specs.Place.{placed_of}
 use Rattle.dividing.specs.Row.{divided, joined, split_of, split_first, split_second, join_of, join_row, stream_in}
-use Rattle.span.specs.declared.content.Content.{Content}
+use Rattle.span.specs.Content.{Content, content_of}
 use Rattle.span.specs.declared.content.ContentBytes.{ContentBytes}
 use Rattle.span.specs.declared.format.Format.{Format}
-use Rattle.span.specs.Content.{content_of}
 use Rattle.span.specs.Encoding.{after_run}
 use Rattle.span.specs.Format.{shape_of, streams, pairs_in, symbols_in}
 use Rattle.span.specs.Image.{image_of}
@@ -233,7 +232,7 @@ pub record Demand2 : Type 1 where
   -- one wrong bit of a timing word is repaired, and its number told; two are refused: by the single call, and in a span at the first such
   -- word (`windows`);
   pub one_wrong :
-      (v h : Bool) (k : ℕ) → k < 12 → repair_of (inverted k (timing v h)) ≡ given (record { word = timing v h; distance = 1; bit = Bit k })
+      (v h : Bool) (k : ℕ) → k < 12 → repair_of (inverted k (timing v h)) ≡ given (record { word = timing v h; distance = 1; bit = Some k })
   pub two_wrong : (v h : Bool) (j k : ℕ) → j < k → k < 12 → repair_of (inverted j (inverted k (timing v h))) ≡ refused 8 0
   -- in a span, where at most one bit of each is wrong: all is read as it was sent, the repairs are the sum of the distances, and those of
   -- each bit the number of timing words that differ in it from the words sent,

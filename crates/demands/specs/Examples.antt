@@ -8,7 +8,7 @@ use Rattle.ground.specs.Answer.{refused, given}
 use Rattle.ground.specs.Bit.{inverted}
 use Rattle.symbol.specs.declared.disparity.Disparity.{Disparity}
 use Rattle.symbol.specs.declared.disparity.Disparity.TheVariants.{Negative}
-use Rattle.span.specs.declared.content.Content.TheVariants.{NoneNamed}
+use Rattle.std.specs.Prelude.{None as NoneNamed}
 use Rattle.span.specs.declared.format.Format.{Format}
 use Rattle.span.specs.Content.{content_of}
 use Rattle.span.specs.Encoding.{symbols_from}

@@ -1,10 +1,10 @@
 -- Dividing a row of a picture into the rows of two images, and joining them (004, 5.3; document 01, "Dividing a picture").
 -- Assumes nothing.
-use Rattle.std.specs.Prelude.{ℕ, ◌+◌, ◌*◌, Bool, ◌&&◌, List, [], ◌∷◌, eqb, length, get_or, take, drop}
+use Rattle.std.specs.Prelude.{ℕ, ◌+◌, ◌*◌, Bool, ◌&&◌, List, [], ◌∷◌, eqb, length, get_or, take, drop, Result, Ok, Err}
 use Rattle.ground.specs.Answer.{Answer, refused, given, unless, checked, unless_refused}
 use Rattle.ground.specs.Written.{upto, table}
-use Rattle.dividing.specs.declared.row.Copied.{Copied}
-use Rattle.dividing.specs.declared.row.Copied.TheVariants.{Done, WrongInput, WrongOutput}
+use Rattle.dividing.specs.declared.row.CopyError.{CopyError}
+use Rattle.dividing.specs.declared.row.CopyError.TheVariants.{WrongInput, WrongOutput}
 
 -- the n samples of a row that go to the image with this w: its sample j is the row's sample 2j + w
 unfoldable pub divided : ℕ → ℕ → List ℕ → List ℕ
@@ -19,10 +19,10 @@ abbrev pub stream_in : List ℕ → ℕ → List ℕ
 stream_in words t = take 1920 (drop (1920 * t) words)
 
 -- the paper's number for each answer
-abbrev pub paper_copied : Copied → Answer (Unit {0})
-paper_copied Done = given tt
-paper_copied WrongInput = refused 3 0
-paper_copied WrongOutput = refused 4 0
+abbrev pub paper_copied : Result (Unit {0}) CopyError → Answer (Unit {0})
+paper_copied (Ok done) = given done
+paper_copied (Err WrongInput) = refused 3 0
+paper_copied (Err WrongOutput) = refused 4 0
 
 -- the refusals in the order tried: 3 if an input has the wrong length, then 4 if an output has
 abbrev pub copy_of : Bool → Bool → Answer (Unit {0})

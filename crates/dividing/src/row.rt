@@ -1,7 +1,6 @@
-// The answer of dividing a row and of joining rows.
-#[derive(Drop)]
-pub enum Copied {
-    Done,
+// Why a row is not divided, or rows not joined.
+#[derive(Clone, Copy, Debug, PartialEq, Eq)]
+pub enum CopyError {
     // 3: an input of the wrong length.
     WrongInput,
     // 4: an output of the wrong length.

@@ -2,7 +2,7 @@
 ghost use Rattle.std.specs.Prelude.{◌≡◌, ◌*◌, length};
 ghost use Rattle.dividing.specs.Row.{divided, paper_copied, split_of, split_first, split_second};
 
-use crate::row::Copied;
+use crate::row::CopyError;
 
 // The even samples of a row go to the first, the odd ones to the second, n to each.
 fn deal(n: usize, row: &[u16], first: &mut [u16], second: &mut [u16])
@@ -12,29 +12,27 @@ fn deal(n: usize, row: &[u16], first: &mut [u16], second: &mut [u16])
     ensures first { first.new ≡ divided 0 n row.now }
     ensures second { second.new ≡ divided 1 n row.now }
 {
-    let mut j = 0;
-    while j < n {
+    for j in 0..n {
         first[j] = row[2 * j];
         second[j] = row[2 * j + 1];
-        j += 1;
     }
 }
 
 // Divides the row of a picture into the rows of its two images: 1 and 2 on an odd line, 3 and 4 on an even one.
-pub fn split(row: &[u16], first: &mut [u16], second: &mut [u16]) -> Copied
+pub fn split(row: &[u16], first: &mut [u16], second: &mut [u16]) -> Result<(), CopyError>
     ensures answer { paper_copied result ≡ split_of row.now first.old second.old }
     ensures first { first.new ≡ split_first row.now first.old second.old }
     ensures second { second.new ≡ split_second row.now first.old second.old }
 {
     if row.len() != 3840 {
-        return Copied::WrongInput;
+        return Err(CopyError::WrongInput);
     }
     if first.len() != 1920 {
-        return Copied::WrongOutput;
+        return Err(CopyError::WrongOutput);
     }
     if second.len() != 1920 {
-        return Copied::WrongOutput;
+        return Err(CopyError::WrongOutput);
     }
     deal(1920, row, first, second);
-    Copied::Done
+    Ok(())
 }

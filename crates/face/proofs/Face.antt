@@ -29,7 +29,7 @@ use Rattle.window.specs.Read.{span_tests, delivery_of, read_of, judge_of, pictur
 use Rattle.recording.specs.Call.{find_of, next_of, after_next, rows_next}
 use Rattle.line.specs.declared.stream.StreamLine.{StreamLine}
 use Rattle.word.proofs.LineNumbers.{line_good, read_sent}
-use Rattle.span.specs.declared.content.Content.TheVariants.{NoneNamed, Named}
+use Rattle.std.specs.Prelude.{None as NoneNamed, Some as Named}
 use Rattle.span.specs.declared.format.Format.{Format}
 use Rattle.span.specs.Stream.{Request}
 use Rattle.span.specs.Format.{is_known, shape_of, streams, samples_in, symbols_in}

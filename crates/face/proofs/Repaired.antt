@@ -8,8 +8,8 @@ use native.Mathlib.Omega.{arith}
 use Rattle.ground.specs.Answer.{Answer, refused, given, Row, unless}
 use Rattle.ground.specs.Bit.{inverted}
 use Rattle.ground.specs.Search.{is_some}
-use Rattle.word.specs.declared.repair.WrongBit.{WrongBit}
-use Rattle.word.specs.declared.repair.WrongBit.TheVariants.{Nothing, Bit}
+use Rattle.std.specs.Prelude.{Option as Answered}
+use Rattle.std.specs.Prelude.{None, Some}
 use Rattle.word.specs.declared.repair.Repaired.{Repaired}
 use Rattle.word.specs.Repair.{legal_word, nearest, repaired_to, repair_of}
 use Rattle.word.specs.Word.{is_word}
@@ -30,13 +30,13 @@ module _ (word : ℕ) where
       good_by_number repair_answer_of (λ x. x.number) (λ n p. refl) (λ r. refl) rows answer above e
 
   module _ (r : Repaired) (e : repair_of word ≡ given r) where
-    is_bit : (b : WrongBit) → r.bit ≡ b → bit_number b < 12 → inverted (bit_number b) word ≡ r.word
-    is_bit Nothing q h = absurd (omega arith)
-    is_bit (Bit k) q h = (demand_2.words.bit_answered word r k e q).1
+    is_bit : (b : Answered ℕ) → r.bit ≡ b → bit_number b < 12 → inverted (bit_number b) word ≡ r.word
+    is_bit None q h = absurd (omega arith)
+    is_bit (Some k) q h = (demand_2.words.bit_answered word r k e q).1
 
-    is_none : (b : WrongBit) → r.bit ≡ b → 12 ≤ bit_number b → word ≡ r.word
-    is_none Nothing q h = demand_2.words.nothing_answered word r e q
-    is_none (Bit k) q h = absurd (omega (arith, (demand_2.words.bit_answered word r k e q).0))
+    is_none : (b : Answered ℕ) → r.bit ≡ b → 12 ≤ bit_number b → word ≡ r.word
+    is_none None q h = demand_2.words.nothing_answered word r e q
+    is_none (Some k) q h = absurd (omega (arith, (demand_2.words.bit_answered word r k e q).0))
 
   pub bit_told : (repair·answer word).number ≡ 0 → (repair·answer word).bit < 12 → inverted (repair·answer word).bit word ≡ (repair·answer word).word
   bit_told zero h = let e = is_given zero in rw e (is_bit answer e answer.bit refl (rw e at h))

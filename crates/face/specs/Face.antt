@@ -22,7 +22,7 @@ use Rattle.word.specs.declared.repair.Repaired.{Repaired}
 use Rattle.crcc.specs.Crcc.{crc, crcc_words, crcc_of}
 use Rattle.dividing.specs.Row.{divided, joined, split_of, join_of}
 use Rattle.picture.specs.Division.{line_from, sample_from}
-use Rattle.span.specs.declared.content.Content.TheVariants.{NoneNamed, Named}
+use Rattle.std.specs.Prelude.{None as NoneNamed, Some as Named}
 use Rattle.span.specs.declared.content.ContentBytes.{ContentBytes}
 use Rattle.span.specs.Blanking.{fill_of, blank_row}
 use Rattle.span.specs.Format.{shape_of, streams, symbols_in}

@@ -9,7 +9,7 @@ use Rattle.ground.specs.Answer.{Answer, given}
 use Rattle.ground.proofs.Answers.{when_given}
 use Rattle.line.specs.Stream.{is_line}
 use Rattle.symbol.specs.declared.disparity.Disparity.{Disparity}
-use Rattle.span.specs.declared.content.Content.TheVariants.{NoneNamed}
+use Rattle.std.specs.Prelude.{None as NoneNamed}
 use Rattle.span.specs.declared.format.Format.{Format}
 use Rattle.span.specs.Format.{is_known, shape_of, samples_in, symbols_in}
 use Rattle.span.specs.Span.{span_symbols, span_after}

@@ -4,7 +4,7 @@
 use Rattle.std.specs.Prelude.{ℕ, zero, suc, ◌/◌, ◌%◌, List, [], ◌∷◌, ◌++◌, take}
 use Rattle.ground.specs.Answer.{Answer, refused, given}
 use Rattle.line.specs.Stream.{line_after}
-use Rattle.span.specs.declared.content.Content.TheVariants.{NoneNamed}
+use Rattle.std.specs.Prelude.{None as NoneNamed}
 use Rattle.span.specs.declared.format.Format.{Format}
 use Rattle.span.specs.Span.{signal}
 use Rattle.span.specs.Stream.{Request}

@@ -1,12 +1,17 @@
 -- What a call answers, in the paper's terms, and how its refusals are tested.
 -- Assumes nothing.
-use Rattle.std.specs.Prelude.{Bool, cond, List, [], ◌∷◌, ℕ}
+use Rattle.std.specs.Prelude.{Bool, cond, List, [], ◌∷◌, ℕ, Option as Answered, Some, None}
 use Rattle.std.proofs.Math.Option.{Option, none, some}
 
 -- a refusal, by its number and its place (0 if it has none), or the result asked for
 pub data Answer (A : Type 0) : Type 0 where
   refused : (number place : ℕ) → Answer A
   given : A → Answer A
+
+-- what the code answers, if anything, as the definitions have it
+abbrev pub told : {A : Type 0} → Answered A → Option A
+told None = none
+told (Some a) = some a
 
 -- a row of the table of refusals: its number, and the place at which its test fails, if it does
 pub record Row : Type 0 where

@@ -4,15 +4,13 @@ use mathlib.Core.Path.{◌≡◌, refl, sym, ap, ◌∙◌}
 use mathlib.Core.Option.{Option, none, some}
 use Prim.Native.Nat.{ℕ, ◌+◌, ◌-◌, ◌≤◌}
 use native.Mathlib.Omega.{arith}
+use Rattle.std.specs.Prelude.{Option as Answered, Some, None}
 use Rattle.ground.specs.Inside.Answer.{Injective}
 use Rattle.ground.proofs.Answers.{told_again}
 use Rattle.ground.proofs.Cases.{on_test}
 use Rattle.ground.proofs.Ranges.{is_within, not_within, from_low, to_high}
-use Rattle.line.specs.declared.picture.Carries.{Carries}
-use Rattle.line.specs.declared.picture.Carries.TheVariants.{Line, Nothing}
 use Rattle.line.specs.declared.picture.PictureLine.{PictureLine}
-use Rattle.line.specs.declared.picture.Travels.{Travels}
-use Rattle.line.specs.declared.picture.Travels.TheVariants.{On, Nowhere}
+use Rattle.line.specs.declared.stream.StreamLine.{StreamLine}
 use Rattle.line.specs.Picture.{is_basic_line, stream_line_of, basic_line_of, number_on, number_carried}
 use Rattle.line.specs.Stream.{is_active}
 
@@ -21,27 +19,27 @@ use Rattle.line.specs.Stream.{is_active}
 pub picture_one_to_one : Injective (λ (l : PictureLine). l.0)
 picture_one_to_one = told_again (λ (n : ℕ). record { 0 = n }) (λ l. refl)
 
-abbrev travels_again : Option ℕ → Travels
-travels_again (some n) = On record { 0 = n }
-travels_again none = Nowhere
+abbrev travels_again : Option ℕ → Answered StreamLine
+travels_again (some n) = Some record { 0 = n }
+travels_again none = None
 
 pub travels_one_to_one : Injective number_on
 travels_one_to_one = told_again travels_again again
   where
-    again : (r : Travels) → travels_again (number_on r) ≡ r
-    again (On l) = refl
-    again Nowhere = refl
+    again : (r : Answered StreamLine) → travels_again (number_on r) ≡ r
+    again (Some l) = refl
+    again None = refl
 
-abbrev carries_again : Option ℕ → Carries
-carries_again (some n) = Line record { 0 = n }
-carries_again none = Nothing
+abbrev carries_again : Option ℕ → Answered PictureLine
+carries_again (some n) = Some record { 0 = n }
+carries_again none = None
 
 pub carries_one_to_one : Injective number_carried
 carries_one_to_one = told_again carries_again again
   where
-    again : (r : Carries) → carries_again (number_carried r) ≡ r
-    again (Line l) = refl
-    again Nothing = refl
+    again : (r : Answered PictureLine) → carries_again (number_carried r) ≡ r
+    again (Some l) = refl
+    again None = refl
 
 -- ---- which lines travel
 

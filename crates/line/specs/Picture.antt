@@ -1,12 +1,10 @@
 -- The stream line that carries a line of a basic image (004, 6.1: lines 1 to 1080 go to stream lines 42 to 1121), and the way back.
 -- Assumes nothing.
-use Rattle.std.specs.Prelude.{ℕ, ◌+◌, ◌-◌, Bool, cond}
+use Rattle.std.specs.Prelude.{ℕ, ◌+◌, ◌-◌, Bool, cond, Option as Answered, Some, None}
 use Rattle.std.proofs.Math.Option.{Option, none, some}
 use Rattle.ground.specs.Range.{within}
-use Rattle.line.specs.declared.picture.Carries.{Carries}
-use Rattle.line.specs.declared.picture.Carries.TheVariants.{Line, Nothing}
-use Rattle.line.specs.declared.picture.Travels.{Travels}
-use Rattle.line.specs.declared.picture.Travels.TheVariants.{On, Nowhere}
+use Rattle.line.specs.declared.picture.PictureLine.{PictureLine}
+use Rattle.line.specs.declared.stream.StreamLine.{StreamLine}
 use Rattle.line.specs.Stream.{is_active}
 
 -- a basic image's lines run from 1 to 1080
@@ -22,10 +20,10 @@ abbrev pub basic_line_of : ℕ → Option ℕ
 basic_line_of n = cond (is_active n) (some (n - 41)) none
 
 -- the number in each answer, if it has one; the papers give no refusal here
-abbrev pub number_on : Travels → Option ℕ
-number_on (On l) = some l.0
-number_on Nowhere = none
+abbrev pub number_on : Answered StreamLine → Option ℕ
+number_on (Some l) = some l.0
+number_on None = none
 
-abbrev pub number_carried : Carries → Option ℕ
-number_carried (Line l) = some l.0
-number_carried Nothing = none
+abbrev pub number_carried : Answered PictureLine → Option ℕ
+number_carried (Some l) = some l.0
+number_carried None = none

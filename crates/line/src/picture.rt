@@ -22,38 +22,22 @@ pub fn number_of(l: PictureLine) -> u16
     l.0
 }
 
-// The stream line that carries a line of a basic image.
-#[derive(Drop)]
-pub enum Travels {
-    On(StreamLine),
-    // No basic image has the line.
-    Nowhere,
-}
-
-// The line of an image that a stream line carries.
-#[derive(Drop)]
-pub enum Carries {
-    Line(PictureLine),
-    // The stream line is one of frame blanking, or no line at all.
-    Nothing,
-}
-
-// The stream line on which a line of a basic image travels, 41 further on.
-pub fn stream_line_of(l: PictureLine) -> Travels
+// The stream line on which a line of a basic image travels, 41 further on; none if no basic image has the line.
+pub fn stream_line_of(l: PictureLine) -> Option<StreamLine>
     ensures { number_on result ≡ stream_line_of l.0 }
 {
     if ground::range::within(1, 1080, l.0) {
-        return Travels::On(crate::stream::stream_line(l.0 + 41));
+        return Some(crate::stream::stream_line(l.0 + 41));
     }
-    Travels::Nowhere
+    None
 }
 
-// The line of a basic image that a stream line carries.
-pub fn basic_line_of(l: StreamLine) -> Carries
+// The line of a basic image that a stream line carries; none if it is one of frame blanking, or no line at all.
+pub fn basic_line_of(l: StreamLine) -> Option<PictureLine>
     ensures { number_carried result ≡ basic_line_of l.0 }
 {
     if crate::stream::is_active(l) {
-        return Carries::Line(PictureLine(crate::stream::number_of(l) - 41));
+        return Some(PictureLine(crate::stream::number_of(l) - 41));
     }
-    Carries::Nothing
+    None
 }

@@ -1,6 +1,6 @@
 -- Samples and the words that carry them (004, 6.1; document 01, "Words of a stream" and refusal 25).
 -- Assumes nothing.
-use Rattle.std.specs.Prelude.{ℕ, ◌*◌, ◌%◌, Bool, true, false, cond, ◌&&◌, eqb}
+use Rattle.std.specs.Prelude.{ℕ, ◌*◌, ◌%◌, Bool, true, cond, ◌&&◌, eqb}
 use Rattle.ground.specs.Range.{within}
 
 -- the samples that may be sent at a depth, in bits. Every call refuses a depth that is neither 10 nor 12 before it asks; here, and in the two

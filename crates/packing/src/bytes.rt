@@ -15,12 +15,9 @@ pub struct TwoWords {
     pub b: u16,
 }
 
-#[derive(Drop)]
-pub enum Packed {
-    Bytes(ThreeBytes),
-    // 7: no word has more than twelve bits.
-    Above4095,
-}
+// 7: no word has more than twelve bits.
+#[derive(Clone, Copy, Debug, PartialEq, Eq)]
+pub struct Above4095;
 
 // The bytes of two words; twelve bits of each count.
 pub fn bytes_of(a: u16, b: u16) -> ThreeBytes
@@ -34,16 +31,16 @@ pub fn bytes_of(a: u16, b: u16) -> ThreeBytes
 }
 
 // The bytes of two words.
-pub fn pack(a: u16, b: u16) -> Packed
+pub fn pack(a: u16, b: u16) -> Result<ThreeBytes, Above4095>
     ensures { paper_packed result ≡ packed_of a b }
 {
     if 4095 < a {
-        return Packed::Above4095;
+        return Err(Above4095);
     }
     if 4095 < b {
-        return Packed::Above4095;
+        return Err(Above4095);
     }
-    Packed::Bytes(bytes_of(a, b))
+    Ok(bytes_of(a, b))
 }
 
 // The words of three bytes: taken as one number, the second word is above the first.

@@ -1,15 +1,14 @@
 -- The place of a sample of a 4K picture: one step of division, and the stream line that carries it (004, 5.3 and 6.1); and the way back from
 -- a stream line to the line of the picture (document 01, "Dividing a picture").
 -- Assumes nothing.
-use Rattle.std.specs.Prelude.{ℕ, ◌+◌, Bool, cond, ◌&&◌, [], ◌∷◌, leb}
+use Rattle.std.specs.Prelude.{ℕ, ◌+◌, Bool, cond, ◌&&◌, [], ◌∷◌, leb, Result, Ok, Err}
 use Rattle.std.proofs.Math.Option.{Option, none, map}
 use Rattle.ground.specs.Answer.{Answer, refused, given, unless, checked}
 use Rattle.ground.specs.Range.{within}
 use Rattle.line.specs.Picture.{basic_line_of}
 use Rattle.picture.specs.declared.division.Quarter.{Quarter}
 use Rattle.picture.specs.declared.place.Place.{Place}
-use Rattle.picture.specs.declared.place.Placed.{Placed}
-use Rattle.picture.specs.declared.place.Placed.TheVariants.{At, Outside}
+use Rattle.picture.specs.declared.place.Outside.{Outside}
 use Rattle.picture.specs.Division.{halved, line_from}
 
 -- 5.3: the lines of a 4K picture are 1 to 2160, its samples 0 to 3839
@@ -28,9 +27,9 @@ abbrev pub place_of : ℕ → ℕ → Place
 place_of line sample = carried (halved line sample)
 
 -- the paper's number and values for each answer
-abbrev pub paper_placed : Placed → Answer Place
-paper_placed (At p) = given p
-paper_placed Outside = refused 2 0
+abbrev pub paper_placed : Result Place Outside → Answer Place
+paper_placed (Ok p) = given p
+paper_placed (Err e) = refused 2 0
 
 -- the place of a sample of a picture line; 2 if the picture has no such line or no such sample
 abbrev pub placed_of : ℕ → ℕ → Answer Place

@@ -9,10 +9,10 @@ ghost use Rattle.picture_answers.specs.Pictures.{place_answer_of, way_back_answe
 ghost use Rattle.boundary.specs.Numbers.{number_in};
 
 use boundary::numbers::{PictureLineNumber, StreamLineNumber};
-use dividing::row::Copied;
-use picture::place::Placed;
-use span::blanking::Filled;
-use way_back::back::Back;
+use dividing::row::CopyError;
+use picture::place::{Outside, Place};
+use span::blanking::FillError;
+use way_back::back::{BackError, ImageLine};
 
 #[repr(C)]
 #[derive(Drop)]
@@ -24,18 +24,18 @@ pub struct PlaceAnswer {
     pub sample: u32,
 }
 
-pub fn place_answer(r: Placed) -> PlaceAnswer
+pub fn place_answer(r: Result<Place, Outside>) -> PlaceAnswer
     ensures { result ≡ place_answer_of (paper_placed r) }
 {
     match r {
-        Placed::At(p) => PlaceAnswer {
+        Ok(p) => PlaceAnswer {
             number: 0,
             image: p.image as u32,
             image_line: line::picture::number_of(p.line) as u32,
             stream_line: boundary::numbers::stream_line_number(p.stream),
             sample: p.sample as u32,
         },
-        Placed::Outside => PlaceAnswer {
+        Err(Outside) => PlaceAnswer {
             number: 2,
             image: 0,
             image_line: 0,
@@ -63,38 +63,38 @@ fn no_line(number: u32) -> WayBackAnswer
     }
 }
 
-pub fn way_back_answer(r: Back) -> WayBackAnswer
+pub fn way_back_answer(r: Result<ImageLine, BackError>) -> WayBackAnswer
     ensures { result ≡ way_back_answer_of (paper_back r) }
 {
     match r {
-        Back::Line(x) => WayBackAnswer {
+        Ok(x) => WayBackAnswer {
             number: 0,
             image: x.image as u32,
             line: boundary::numbers::picture_line_number(x.line),
         },
-        Back::UnknownFormat => no_line(1),
-        Back::NoLine => no_line(2),
+        Err(BackError::UnknownFormat) => no_line(1),
+        Err(BackError::NoLine) => no_line(2),
     }
 }
 
 // Dividing and joining.
-pub fn copied_number(r: Copied) -> u32
+pub fn copied_number(r: Result<(), CopyError>) -> u32
     ensures { result ≡ number_in (paper_copied r) }
 {
     match r {
-        Copied::Done => 0,
-        Copied::WrongInput => 3,
-        Copied::WrongOutput => 4,
+        Ok(()) => 0,
+        Err(CopyError::WrongInput) => 3,
+        Err(CopyError::WrongOutput) => 4,
     }
 }
 
 // Filling a row with blanking.
-pub fn filled_number(r: Filled) -> u32
+pub fn filled_number(r: Result<(), FillError>) -> u32
     ensures { result ≡ number_in (paper_filled r) }
 {
     match r {
-        Filled::Done => 0,
-        Filled::UnknownFormat => 1,
-        Filled::WrongOutput => 4,
+        Ok(()) => 0,
+        Err(FillError::UnknownFormat) => 1,
+        Err(FillError::WrongOutput) => 4,
     }
 }

@@ -17,7 +17,7 @@ use Rattle.ground.proofs.Writing.{length_table, get_d_table}
 use Rattle.line.specs.Stream.{is_line, is_active}
 use Rattle.picture.specs.Choice.{row_on}
 use Rattle.symbol.specs.declared.disparity.Disparity.{Disparity}
-use Rattle.span.specs.declared.content.Content.{Content}
+use Rattle.span.specs.Content.{Content}
 use Rattle.span.specs.declared.format.Format.{Format}
 use Rattle.span.specs.Blanking.{blank_row}
 use Rattle.span.specs.Format.{is_known, shape_of, samples_in, symbols_in}

@@ -5,7 +5,7 @@ use Rattle.ground.specs.Answer.{given}
 use Rattle.ground.specs.Inside.Answer.{Injective}
 use Rattle.symbol.specs.declared.disparity.Disparity.{Disparity}
 use Rattle.picture.specs.Choice.{row_on}
-use Rattle.span.specs.declared.content.Content.{Content}
+use Rattle.span.specs.Content.{Content}
 use Rattle.span.specs.declared.format.Format.{Format}
 use Rattle.span.specs.Blanking.{blank_row}
 use Rattle.span.specs.Numbers.{IsFormat, Symbols, Samples, Blank}

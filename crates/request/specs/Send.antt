@@ -1,32 +1,32 @@
 -- Sending a span: its refusals in the order tried, the answer, and the symbol buffer afterwards (document 01, "Sending" and its table of
 -- refusals).
 -- Assumes nothing.
-use Rattle.std.specs.Prelude.{ℕ, ◌/◌, Bool, not, List, [], ◌∷◌, eqb, length, get_or}
+use Rattle.std.specs.Prelude.{ℕ, ◌/◌, Bool, not, List, [], ◌∷◌, eqb, length, get_or, Result, Ok, Err}
 use Rattle.std.proofs.Math.Option.{Option}
 use Rattle.ground.specs.Answer.{Answer, refused, Row, unless, checked, unless_refused, given}
 use Rattle.ground.specs.Search.{first_below}
 use Rattle.line.specs.Stream.{is_line}
 use Rattle.symbol.specs.declared.disparity.Disparity.{Disparity}
-use Rattle.span.specs.declared.content.Content.{Content}
+use Rattle.span.specs.Content.{Content}
 use Rattle.span.specs.declared.format.Format.{Format}
 use Rattle.span.specs.Format.{is_known, shape_of, samples_in, symbols_in}
 use Rattle.span.specs.Sample.{allowed}
 use Rattle.span.specs.Span.{span_symbols, span_after}
 use Rattle.span.specs.Stream.{Request}
-use Rattle.request.specs.declared.sent.Sent.{Sent}
-use Rattle.request.specs.declared.sent.Sent.TheVariants.{After, UnknownFormat, NoLine, WrongInput, WrongOutput, NotAllowed}
+use Rattle.request.specs.declared.sent.SendError.{SendError}
+use Rattle.request.specs.declared.sent.SendError.TheVariants.{UnknownFormat, NoLine, WrongInput, WrongOutput, NotAllowed}
 
 abbrev pub request : ℕ → Content → List ℕ → Request
 request n content samples = record { line = n; content = content; samples = samples }
 
 -- the paper's number and values for each answer
-abbrev pub paper_sent : Sent → Answer Disparity
-paper_sent (After d) = given d
-paper_sent UnknownFormat = refused 1 0
-paper_sent NoLine = refused 2 0
-paper_sent WrongInput = refused 3 0
-paper_sent WrongOutput = refused 4 0
-paper_sent (NotAllowed place) = refused 6 place
+abbrev pub paper_sent : Result Disparity SendError → Answer Disparity
+paper_sent (Ok d) = given d
+paper_sent (Err UnknownFormat) = refused 1 0
+paper_sent (Err NoLine) = refused 2 0
+paper_sent (Err WrongInput) = refused 3 0
+paper_sent (Err WrongOutput) = refused 4 0
+paper_sent (Err (NotAllowed place)) = refused 6 place
 
 -- sample i, as given, may not be sent: it is one of stream i / 1920
 abbrev pub forbidden : Format → Request → ℕ → Bool

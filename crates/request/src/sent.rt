@@ -1,10 +1,6 @@
-// What sending a span answers (document 01, "Sending" and its table of refusals).
-use symbol::disparity::Disparity;
-
-#[derive(Drop)]
-pub enum Sent {
-    // The disparity after the span.
-    After(Disparity),
+// Why a span is not sent (document 01, "Sending" and its table of refusals).
+#[derive(Clone, Copy, Debug, PartialEq, Eq)]
+pub enum SendError {
     // 1
     UnknownFormat,
     // 2

@@ -14,7 +14,7 @@ use Rattle.ground.proofs.Ranges.{is_within}
 use Rattle.ground.proofs.Writing.{sets_append, sets_whole}
 use Rattle.symbol.specs.declared.disparity.Disparity.{Disparity}
 use Rattle.line.specs.Stream.{is_line, line_after}
-use Rattle.span.specs.declared.content.Content.TheVariants.{NoneNamed}
+use Rattle.std.specs.Prelude.{None as NoneNamed}
 use Rattle.span.specs.declared.format.Format.{Format}
 use Rattle.span.specs.Span.{span_symbols, span_after, signal_from}
 use Rattle.span.specs.Stream.{Request}

@@ -19,7 +19,7 @@ use Rattle.line.proofs.Travel.{carries}
 use Rattle.picture.specs.Place.{picture_line_on}
 use Rattle.picture.proofs.Places.{nothing_on, line_on}
 use Rattle.dividing.specs.Row.{divided}
-use Rattle.span.specs.declared.content.Content.TheVariants.{NoneNamed}
+use Rattle.std.specs.Prelude.{None as NoneNamed}
 use Rattle.span.specs.Format.{shape_of, streams}
 use Rattle.span.specs.Numbers.{IsFormat}
 use Rattle.span.specs.Stream.{Request, picture}

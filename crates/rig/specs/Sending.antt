@@ -2,7 +2,7 @@
 -- Assumes nothing.
 use Rattle.std.specs.Prelude.{ℕ, zero, suc}
 use Rattle.symbol.specs.declared.disparity.Disparity.{Disparity}
-use Rattle.span.specs.declared.content.Content.TheVariants.{NoneNamed}
+use Rattle.std.specs.Prelude.{None as NoneNamed}
 use Rattle.span.specs.Span.{span_after}
 use Rattle.span.specs.Stream.{Request}
 use Rattle.request.specs.Send.{request}

@@ -15,11 +15,10 @@ use Rattle.crcc.proofs.Crc.{crc_append}
 use Rattle.row_crc.specs.Inside.Sums.{sums_in}
 use Rattle.word.specs.LineNumber.{line_words}
 use Rattle.word.specs.Timing.{timing}
-use Rattle.span.specs.declared.content.Content.{Content}
+use Rattle.span.specs.Content.{Content, content_of}
 use Rattle.span.specs.declared.content.ContentBytes.{ContentBytes}
 use Rattle.span.specs.declared.format.Format.{Format}
 use Rattle.span.specs.declared.format.Shape.{Shape}
-use Rattle.span.specs.Content.{content_of}
 use Rattle.span.specs.Format.{is_known, shape_of, samples_in, symbols_in}
 use Rattle.span.specs.Encoding.{symbols_from, after_run}
 use Rattle.span.specs.Numbers.{IsFormat}

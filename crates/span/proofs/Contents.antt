@@ -1,7 +1,7 @@
 -- Which content bytes are sent (document 01, "Sending"): those that a call names, as named; zeros where it names none.
 -- Assumes nothing.
 use mathlib.Core.Path.{◌≡◌, refl}
-use Rattle.span.specs.declared.content.Content.TheVariants.{NoneNamed, Named}
+use Rattle.std.specs.Prelude.{None as NoneNamed, Some as Named}
 use Rattle.span.specs.declared.content.ContentBytes.{ContentBytes}
 use Rattle.span.specs.declared.format.Format.{Format}
 use Rattle.span.specs.Content.{content_of}

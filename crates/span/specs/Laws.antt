@@ -1,6 +1,6 @@
 -- Laws of a span, for a reader of the papers; `proofs/Laws` proves each. Streams count from 0 here, so the paper's stream 1 is stream 0.
 -- Assumes nothing.
-use Rattle.std.specs.Prelude.{ℕ, ◌*◌, ◌≡◌, true, []}
+use Rattle.std.specs.Prelude.{ℕ, ◌*◌, ◌≡◌, true}
 use Rattle.ground.specs.Range.{within}
 use Rattle.ground.specs.Inside.Answer.{Injective}
 use Rattle.span.specs.declared.format.Format.{Format}

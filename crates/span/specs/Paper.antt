@@ -12,7 +12,7 @@ use Rattle.symbol.specs.Code.{symbol_of}
 use Rattle.packing.specs.Bytes.{bytes_of}
 use Rattle.crcc.specs.Crcc.{crc, crcc_words}
 use Rattle.word.specs.LineNumber.{ln0, ln1}
-use Rattle.span.specs.declared.content.Content.TheVariants.{NoneNamed, Named}
+use Rattle.std.specs.Prelude.{None as NoneNamed, Some as Named}
 use Rattle.span.specs.declared.content.ContentBytes.{ContentBytes}
 use Rattle.span.specs.declared.format.Format.{Format}
 use Rattle.span.specs.Blanking.{fill_of, blank_row}

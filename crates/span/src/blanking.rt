@@ -6,9 +6,8 @@ ghost use Rattle.span.specs.Blanking.{paper_filled, fill_of, filled_row};
 
 use crate::format::Format;
 
-#[derive(Drop)]
-pub enum Filled {
-    Done,
+#[derive(Clone, Copy, Debug, PartialEq, Eq)]
+pub enum FillError {
     // 1
     UnknownFormat,
     // 4
@@ -33,17 +32,17 @@ pub fn fill_word() -> u16
 }
 
 // The blanking samples of all streams of a format, stream by stream.
-pub fn fill_blanking(f: Format, row: &mut [u16]) -> Filled
+pub fn fill_blanking(f: Format, row: &mut [u16]) -> Result<(), FillError>
     ensures answer { paper_filled result ≡ fill_of f row.old }
     ensures row { row.new ≡ filled_row f row.old }
 {
     if crate::format::is_known(f) {
         let lengths = crate::length::span_lengths(f);
         if row.len() != lengths.samples {
-            return Filled::WrongOutput;
+            return Err(FillError::WrongOutput);
         }
         ground::fill::fill(row, blank_word(f));
-        return Filled::Done;
+        return Ok(());
     }
-    Filled::UnknownFormat
+    Err(FillError::UnknownFormat)
 }

@@ -6,7 +6,7 @@ use crate::format::Format;
 
 // Content bytes 1 and 2 after the SAV's special characters, and after the EAV's.
 #[repr(C)]
-#[derive(Drop)]
+#[derive(Clone, Copy, Debug, PartialEq, Eq)]
 pub struct ContentBytes {
     pub sav1: u8,
     pub sav2: u8,
@@ -14,24 +14,14 @@ pub struct ContentBytes {
     pub eav2: u8,
 }
 
-// What a caller asks for.
-#[derive(Drop)]
-pub enum Content {
-    NoneNamed,
-    Named(ContentBytes),
-}
-
-// The bytes that are sent.
-pub fn content_of(f: Format, content: Content) -> ContentBytes
+// The bytes that are sent: those that the caller names, if any.
+pub fn content_of(f: Format, content: Option<ContentBytes>) -> ContentBytes
     ensures { result ≡ content_of f content }
 {
-    match content {
-        Content::NoneNamed => ContentBytes {
-            sav1: 0,
-            sav2: 0,
-            eav1: 0,
-            eav2: 0,
-        },
-        Content::Named(c) => c,
-    }
+    content.unwrap_or(ContentBytes {
+        sav1: 0,
+        sav2: 0,
+        eav1: 0,
+        eav2: 0,
+    })
 }

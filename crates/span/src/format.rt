@@ -18,6 +18,10 @@ pub struct Format {
     size: u8,
 }
 
+// 1: there is no such format.
+#[derive(Clone, Copy, Debug, PartialEq, Eq)]
+pub struct UnknownFormat;
+
 // The pairs of streams, the ancillary words per stream, the pairs of fill words.
 #[derive(Clone, Copy)]
 pub struct Shape {

@@ -3,19 +3,12 @@ ghost use Rattle.std.specs.Prelude.{◌≡◌};
 ghost use Rattle.span.specs.Format.{shape_of, samples_in, symbols_in};
 ghost use Rattle.span.specs.Length.{paper_lengths, lengths_of};
 
-use crate::format::Format;
+use crate::format::{Format, UnknownFormat};
 
-#[derive(Drop)]
+#[derive(Clone, Copy, Debug, PartialEq, Eq)]
 pub struct SpanLengths {
     pub samples: usize,
     pub symbols: usize,
-}
-
-#[derive(Drop)]
-pub enum Lengths {
-    Known(SpanLengths),
-    // 1: unknown format.
-    Unknown,
 }
 
 // The lengths of a format's spans; zeros for an unknown one.
@@ -30,11 +23,11 @@ pub fn span_lengths(f: Format) -> SpanLengths
 }
 
 // How many samples a span of a format takes, and how many symbols it has.
-pub fn lengths_of(f: Format) -> Lengths
+pub fn lengths_of(f: Format) -> Result<SpanLengths, UnknownFormat>
     ensures { paper_lengths result ≡ lengths_of f }
 {
     if crate::format::is_known(f) {
-        return Lengths::Known(span_lengths(f));
+        return Ok(span_lengths(f));
     }
-    Lengths::Unknown
+    Err(UnknownFormat)
 }

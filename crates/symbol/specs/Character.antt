@@ -1,6 +1,8 @@
 -- The 268 characters by number: the bytes are 0 to 255, the twelve special characters 256 to 267 in the order below.
 -- Assumes nothing.
 use Rattle.std.specs.Prelude.{ℕ, ◌-◌, ◌/◌, ◌%◌, Bool, not, cond, List, [], ◌∷◌, ltb, get_or}
+use Rattle.symbol.specs.declared.character.Character.{Character}
+use Rattle.symbol.specs.declared.character.Character.TheVariants.{Byte as byte, Special as special}
 use Rattle.symbol.specs.declared.special.Special.{Special}
 use Rattle.symbol.specs.declared.special.Special.TheVariants.{K28_0, K28_1, K28_2, K28_3, K28_4, K28_5, K28_6, K28_7, K23_7, K27_7, K29_7, K30_7}
 
@@ -43,10 +45,6 @@ special_names =
 unfoldable pub nth : ℕ → Special
 nth n = get_or special_names n K28_0
 
--- a character as the paper calls it: a byte, or a special character by name
-pub data Character : Type 0 where
-  byte : ℕ → Character
-  special : Special → Character
-
+-- a character as the paper calls it is a byte, or a special character by name
 abbrev pub character_of : ℕ → Character
 character_of c = cond (is_special c) (special (nth (c - 256))) (byte c)

@@ -3,7 +3,7 @@ ghost use Rattle.symbol.specs.Disparity.{fresh};
 ghost use Rattle.symbol.specs.Inside.Disparity.{flipped_if};
 
 // The running disparity has two values, and no call can be given a third.
-#[derive(Clone, Copy)]
+#[derive(Clone, Copy, Debug, PartialEq, Eq)]
 pub enum Disparity {
     Negative,
     Positive,

@@ -2,5 +2,6 @@
 #![tactic(auto)]
 
 pub mod blocks;
+pub mod character;
 pub mod disparity;
 pub mod special;

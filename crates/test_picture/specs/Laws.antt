@@ -7,7 +7,7 @@ use Rattle.line.specs.Stream.{is_line, is_active}
 use Rattle.symbol.specs.declared.disparity.Disparity.{Disparity}
 use Rattle.picture.specs.Division.{line_from, sample_from}
 use Rattle.dividing.specs.Row.{divided}
-use Rattle.span.specs.declared.content.Content.{Content}
+use Rattle.span.specs.Content.{Content}
 use Rattle.span.specs.declared.format.Format.{Format}
 use Rattle.span.specs.Format.{is_known, shape_of, streams, samples_in, symbols_in}
 use Rattle.span.specs.Image.{image_of}

@@ -1,7 +1,7 @@
 -- The way back to the picture (document 01, "Dividing a picture"): a component of a picture goes over two links at 120 and 100 Hz, of two
 -- streams each, and over one link at 50 Hz, of four streams. Links and streams count from 1.
 -- Assumes nothing.
-use Rattle.std.specs.Prelude.{ℕ, ◌-◌, Bool, cond, ◌&&◌, List, [], ◌∷◌, eqb}
+use Rattle.std.specs.Prelude.{ℕ, ◌-◌, Bool, cond, ◌&&◌, List, [], ◌∷◌, eqb, Result, Ok, Err}
 use Rattle.ground.specs.Answer.{Answer, refused, given, Row, unless, checked}
 use Rattle.ground.specs.Range.{within}
 use Rattle.line.specs.Stream.{is_active}
@@ -10,8 +10,8 @@ use Rattle.span.specs.declared.format.Format.{Format}
 use Rattle.span.specs.Format.{is_known, shape_of, streams}
 use Rattle.span.specs.Image.{image_of}
 use Rattle.way_back.specs.declared.back.ImageLine.{ImageLine}
-use Rattle.way_back.specs.declared.back.Back.{Back}
-use Rattle.way_back.specs.declared.back.Back.TheVariants.{Line, UnknownFormat, NoLine}
+use Rattle.way_back.specs.declared.back.BackError.{BackError}
+use Rattle.way_back.specs.declared.back.BackError.TheVariants.{UnknownFormat, NoLine}
 
 -- the links of one component, by the pairs of streams of a link
 abbrev pub links_by : ℕ → ℕ
@@ -38,7 +38,7 @@ abbrev pub back_of : Format → ℕ → ℕ → ℕ → Answer ImageLine
 back_of f link stream n = checked (back_rows f link stream n) (image_line_on f link stream n)
 
 -- the paper's number and values for each answer
-abbrev pub paper_back : Back → Answer ImageLine
-paper_back (Line x) = given x
-paper_back UnknownFormat = refused 1 0
-paper_back NoLine = refused 2 0
+abbrev pub paper_back : Result ImageLine BackError → Answer ImageLine
+paper_back (Ok x) = given x
+paper_back (Err UnknownFormat) = refused 1 0
+paper_back (Err NoLine) = refused 2 0

@@ -3,20 +3,19 @@ ghost use Rattle.std.specs.Prelude.{◌≡◌, ◌≤◌};
 ghost use Rattle.way_back.specs.Back.{paper_back, links_by, has_stream, back_of};
 ghost use Rattle.way_back.specs.Inside.Image.{image_on};
 
-use line::picture::{Carries, PictureLine};
+use line::picture::PictureLine;
 use line::stream::StreamLine;
 use span::format::Format;
 
 // A line of the picture, and the basic image in which a stream carries it.
-#[derive(Drop)]
+#[derive(Clone, Copy)]
 pub struct ImageLine {
     pub image: u8,
     pub line: PictureLine,
 }
 
-#[derive(Drop)]
-pub enum Back {
-    Line(ImageLine),
+#[derive(Clone, Copy, Debug, PartialEq, Eq)]
+pub enum BackError {
     // 1
     UnknownFormat,
     // 2: a component has no such link, or the link no such stream, or the stream line carries no picture.
@@ -56,22 +55,23 @@ fn image_on(link: u16, stream: u16) -> u8
 }
 
 // The line of the picture on a stream line, and its basic image: 1, 2.
-pub fn picture_line_of(f: Format, link: u16, stream: u16, l: StreamLine) -> Back
+pub fn picture_line_of(
+    f: Format,
+    link: u16,
+    stream: u16,
+    l: StreamLine,
+) -> Result<ImageLine, BackError>
     ensures { paper_back result ≡ back_of f link stream l.0 }
 {
     if span::format::is_known(f) {
         if has(f, link, stream) {
             let image = image_on(link, stream);
-            match picture::place::picture_line_on(l, image) {
-                Carries::Line(line) => {
-                    return Back::Line(ImageLine { image, line });
-                },
-                Carries::Nothing => {
-                    return Back::NoLine;
-                },
-            }
+            let Some(line) = picture::place::picture_line_on(l, image) else {
+                return Err(BackError::NoLine);
+            };
+            return Ok(ImageLine { image, line });
         }
-        return Back::NoLine;
+        return Err(BackError::NoLine);
     }
-    Back::UnknownFormat
+    Err(BackError::UnknownFormat)
 }

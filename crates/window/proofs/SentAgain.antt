@@ -16,7 +16,7 @@ use Rattle.ground.proofs.Cases.{on_test}
 use Rattle.ground.proofs.Writing.{length_table, get_d_table, is_table, get_d_upto}
 use Rattle.line.specs.Stream.{is_line, is_active}
 use Rattle.line.proofs.Lines.{before_is_line}
-use Rattle.span.specs.declared.content.Content.TheVariants.{Named}
+use Rattle.std.specs.Prelude.{Some as Named}
 use Rattle.span.specs.declared.content.ContentBytes.{ContentBytes}
 use Rattle.span.specs.declared.format.Format.{Format}
 use Rattle.span.specs.Encoding.{symbols_from}

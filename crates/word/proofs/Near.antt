@@ -1,4 +1,4 @@
--- VH of the legal word that is near a timing word, as a number, with 4 for none.
+-- VH of the legal word that is near a timing word, if there is one.
 -- Assumes nothing.
 use mathlib.Core.Path.{◌≡◌, refl, sym, ap, ◌∙◌}
 use mathlib.Core.Bool.{Bool, false}
@@ -8,9 +8,10 @@ use native.Mathlib.Nat.{pow-suc}
 use native.Mathlib.Omega.{arith}
 use lib.Count.{ones_in, ones, ones_step}
 use lib.Dec.{eqb}
+use Rattle.std.specs.Prelude.{Option as Answered, Some, None, unwrap_or}
 use borrow.Author.Tests.{lt-ltb, le-ltb}
 use Rattle.ground.specs.Xor.{◌⊕◌}
-use Rattle.ground.specs.Answer.{refused, given}
+use Rattle.ground.specs.Answer.{refused, given, told}
 use Rattle.ground.proofs.Bits.{ones_low}
 use Rattle.ground.proofs.Searches.{hit}
 use Rattle.word.specs.declared.repair.Repaired.{Repaired}
@@ -41,20 +42,21 @@ module _ (w : ℕ) (h : w < 4096) where
   is_refused : nearest w ≡ none → repair_of w ≡ refused 8 0
   is_refused e = simp (lt-ltb w 4096 h, e)
 
-  pub word_near : (r : Repaired) → given r ≡ repair_of w → r.word / 256 % 4 ≡ get_or (nearest w) 4
+  pub word_near : (r : Repaired) → given r ≡ repair_of w → some (r.word / 256 % 4) ≡ nearest w
   word_near r q = go (nearest w) refl
     where
-      go : (o : Option ℕ) → nearest w ≡ o → r.word / 256 % 4 ≡ get_or (nearest w) 4
+      go : (o : Option ℕ) → nearest w ≡ o → some (r.word / 256 % 4) ≡ nearest w
       go none e = let z : ◌≡◌ {A = ℕ} 0 1 = cc (q ∙ is_refused e) in absurd (omega arith)
       go (some vh) e =
           let same : r ≡ repaired_to w (legal_word vh) = cc (q ∙ is_given vh e) in
-          ap (λ (x : Repaired). x.word / 256 % 4) same ∙ vh_again vh (below w vh e) ∙ sym (rw e)
+          let is : r.word / 256 % 4 ≡ vh = ap (λ (x : Repaired). x.word / 256 % 4) same ∙ vh_again vh (below w vh e) in
+          ap some is ∙ sym e
 
-  pub none_near : (number : ℕ) → refused number 0 ≡ repair_of w → 4 ≡ get_or (nearest w) 4
+  pub none_near : (number : ℕ) → refused number 0 ≡ repair_of w → none ≡ nearest w
   none_near number q = go (nearest w) refl
     where
-      go : (o : Option ℕ) → nearest w ≡ o → 4 ≡ get_or (nearest w) 4
-      go none e = rw e
+      go : (o : Option ℕ) → nearest w ≡ o → none ≡ nearest w
+      go none e = sym e
       go (some vh) e = let z : ◌≡◌ {A = ℕ} 0 1 = cc (q ∙ is_given vh e) in absurd (omega arith)
 
 -- ---- what it tells
@@ -72,38 +74,30 @@ module _ (w : ℕ) (h : Bool) (j : ℕ) where
       go (suc (suc zero)) x l = refl
       go (suc (suc (suc j))) x l = absurd (omega arith)
 
-  module _ {v : ℕ} (l : 3 ≤ j) (is : v ≡ get_or (nearest w) 4) where
+  module _ (l : 3 ≤ j) where
     xyz : is_timing h j w ≡ has_h h (nearest w)
     xyz = rw (le-ltb j 3 l)
 
-    pub no_timing : v ≡ 4 → false ≡ is_timing h j w
-    no_timing q = go (nearest w) refl ∙ sym xyz
-      where
-        go : (o : Option ℕ) → nearest w ≡ o → false ≡ has_h h (nearest w)
-        go none e = rw e
-        go (some vh) e = let n : v ≡ vh = is ∙ rw e in absurd (omega (arith, below w vh e))
+    pub no_timing : none ≡ nearest w → false ≡ is_timing h j w
+    no_timing is = rw (← is) refl ∙ sym xyz
 
-    pub is_h : (v ≡ 4 → ⊥) → eqb (v % 2) (bit h) ≡ is_timing h j w
-    is_h x = go (nearest w) refl ∙ sym xyz
-      where
-        go : (o : Option ℕ) → nearest w ≡ o → eqb (v % 2) (bit h) ≡ has_h h (nearest w)
-        go none e = absurd (x (is ∙ rw e))
-        go (some vh) e = let n : v ≡ vh = is ∙ rw e in rw (n, e)
+    pub is_h : {v : ℕ} → some v ≡ nearest w → eqb (v % 2) (bit h) ≡ is_timing h j w
+    is_h is = rw (← is) refl ∙ sym xyz
 
-module _ (w : ℕ) {v : ℕ} (is : v ≡ get_or (nearest w) 4) where
-  pub v_told : eqb (v / 2) 1 ≡ v_in w
-  v_told = go (nearest w) refl
+-- as code has it: the VH that is told, and 0 for none
+module _ (w : ℕ) (o : Answered ℕ) (is : told o ≡ nearest w) where
+  vh_told : unwrap_or o 0 ≡ get_or (nearest w) 0
+  vh_told = go o ∙ ap (λ (x : Option ℕ). get_or x 0) is
     where
-      go : (o : Option ℕ) → nearest w ≡ o → eqb (v / 2) 1 ≡ v_in w
-      go none e = let n : v ≡ 4 = is ∙ rw e in rw (n, e)
-      go (some vh) e = let n : v ≡ vh = is ∙ rw e in rw (n, e)
+      go : (o : Answered ℕ) → unwrap_or o 0 ≡ get_or (told o) 0
+      go None = refl
+      go (Some vh) = refl
 
-  pub repaired_told : timing (eqb (v / 2) 1) (eqb (v % 2) 1) ≡ repaired w
-  repaired_told = go (nearest w) refl
-    where
-      go : (o : Option ℕ) → nearest w ≡ o → timing (eqb (v / 2) 1) (eqb (v % 2) 1) ≡ repaired w
-      go none e = let n : v ≡ 4 = is ∙ rw e in rw (n, e)
-      go (some vh) e = let n : v ≡ vh = is ∙ rw e in rw (n, e)
+  pub v_told : {v : ℕ} → v ≡ unwrap_or o 0 → eqb (v / 2) 1 ≡ v_in w
+  v_told e = ap (λ (x : ℕ). eqb (x / 2) 1) (e ∙ vh_told)
+
+  pub repaired_told : {v : ℕ} → v ≡ unwrap_or o 0 → timing (eqb (v / 2) 1) (eqb (v % 2) 1) ≡ repaired w
+  repaired_told e = ap (λ (x : ℕ). timing (eqb (x / 2) 1) (eqb (x % 2) 1)) (e ∙ vh_told)
 
 -- ---- the wrong bits
 

@@ -21,7 +21,7 @@ use Rattle.ground.proofs.Cases.{on_test}
 use Rattle.ground.proofs.Searches.{Nowhere, is_hit, is_miss, is_only}
 use Rattle.ground.proofs.Tests.{at_number}
 use Rattle.ground.proofs.Xors.{⊕_self, ⊕_below, ⊕_cancel, ⊕_middle, zero_⊕, ones_⊕, one_inverted, two_inverted}
-use Rattle.word.specs.declared.repair.WrongBit.{WrongBit}
+use Rattle.std.specs.Prelude.{Option as Answered}
 use Rattle.word.specs.declared.repair.Repaired.{Repaired}
 use Rattle.word.specs.Repair.{distance, bit_of, legal_word, near, nearest, repaired_to, repair_of}
 use Rattle.word.specs.Timing.{timing}
@@ -88,7 +88,7 @@ difference_is a b = nearness_is (bit_xor a b % 4096) (omega arith) ∙ ap (min 2
 -- ---- what the search finds
 
 -- a word repaired, field by field
-pub is_repaired : (w : ℕ) {legal word d : ℕ} {b : WrongBit} → word ≡ legal → d ≡ distance w legal → b ≡ bit_of w legal
+pub is_repaired : (w : ℕ) {legal word d : ℕ} {b : Answered ℕ} → word ≡ legal → d ≡ distance w legal → b ≡ bit_of w legal
     → ◌≡◌ {A = Answer Repaired} (given (record { word = word; distance = d; bit = b })) (given (repaired_to w legal))
 is_repaired w p q r = rw (p, q, r)
 

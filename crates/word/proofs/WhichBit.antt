@@ -19,7 +19,7 @@ use Rattle.ground.proofs.Cases.{on_test}
 use Rattle.ground.proofs.Searches.{hit}
 use Rattle.ground.proofs.Tests.{at_number}
 use Rattle.ground.proofs.Xors.{⊕_self, ⊕_assoc, ⊕_below, ⊕_cancel, zero_⊕, inverted_⊕, one_inverted}
-use Rattle.word.specs.declared.repair.WrongBit.TheVariants.{Nothing, Bit}
+use Rattle.std.specs.Prelude.{None, Some}
 use Rattle.word.specs.Repair.{distance, differs_at, bit_found, bit_of}
 use Rattle.word.proofs.Repairs.{some_one}
 
@@ -80,7 +80,7 @@ module _ (a b : ℕ) where
   by_lowest = refl
 
   -- they are the same
-  pub no_difference : a ⊕ b ≡ 0 → bit_of a b ≡ Nothing
+  pub no_difference : a ⊕ b ≡ 0 → bit_of a b ≡ None
   unfolding first_below first_from bit_in
   no_difference e = by_lowest ∙ ap (λ (x : ℕ). bit_found (lowest_one x)) e
 
@@ -89,7 +89,7 @@ module _ (a b : ℕ) where
 
   module _ (h : a < 4096) (l : b < 4096) where
     -- they are not
-    pub some_bit : (a ⊕ b ≡ 0 → ⊥) → bit_of a b ≡ Bit (count_trailing_zeros 16 (a ⊕ b))
+    pub some_bit : (a ⊕ b ≡ 0 → ⊥) → bit_of a b ≡ Some (count_trailing_zeros 16 (a ⊕ b))
     some_bit n = by_lowest ∙ ap bit_found (lowest_is (a ⊕ b) (⊕_below 12 a b h l) n)
 
     pub bit_below : (a ⊕ b ≡ 0 → ⊥) → count_trailing_zeros 16 (a ⊕ b) < 12
@@ -97,14 +97,14 @@ module _ (a b : ℕ) where
         (hit (λ j. eqb (bit_in j (a ⊕ b)) 1) 12 (count_trailing_zeros 16 (a ⊕ b)) (lowest_is (a ⊕ b) (⊕_below 12 a b h l) n)).below
 
     -- the bit that is answered, inverted, makes the one the other, where they differ in no second
-    pub other_word : (k : ℕ) → distance a b ≤ 1 → bit_of a b ≡ Bit k → (k < 12) × (inverted k a ≡ b)
+    pub other_word : (k : ℕ) → distance a b ≤ 1 → bit_of a b ≡ Some k → (k < 12) × (inverted k a ≡ b)
     unfolding distance
     other_word k d e =
         let x = a ⊕ b in
-        on_test (eqb x 0) (λ t. let q : Nothing ≡ Bit k = sym (no_difference (eqb-true x 0 t)) ∙ e in let z : ◌≡◌ {A = ℕ} 0 1 = cc in absurd (omega arith))
+        on_test (eqb x 0) (λ t. let q : None ≡ Some k = sym (no_difference (eqb-true x 0 t)) ∙ e in let z : ◌≡◌ {A = ℕ} 0 1 = cc in absurd (omega arith))
         (λ t.
         let n : x ≡ 0 → ⊥ = eqb-false x 0 t in
-        let q : Bit (count_trailing_zeros 16 x) ≡ Bit k = sym (some_bit n) ∙ e in
+        let q : Some (count_trailing_zeros 16 x) ≡ Some k = sym (some_bit n) ∙ e in
         let is : count_trailing_zeros 16 x ≡ k = cc in
         let small = ⊕_below 12 a b h l in
         let power : 2 ^ k ≡ x = rw is at (alone 12 16 x (omega arith) small (pos_of_ne-zero n) d) in (
@@ -112,16 +112,16 @@ module _ (a b : ℕ) where
           inverted_⊕ k a ∙ ap (λ (y : ℕ). a ⊕ y) power ∙ sym (⊕_assoc a a b) ∙ rw (⊕_self, zero_⊕),
         ))
 
-    pub same_words : bit_of a b ≡ Nothing → a ≡ b
+    pub same_words : bit_of a b ≡ None → a ≡ b
     same_words e =
         on_test (eqb (a ⊕ b) 0) same
         (λ t.
-        let q : Bit (count_trailing_zeros 16 (a ⊕ b)) ≡ Nothing = sym (some_bit (eqb-false (a ⊕ b) 0 t)) ∙ e in
+        let q : Some (count_trailing_zeros 16 (a ⊕ b)) ≡ None = sym (some_bit (eqb-false (a ⊕ b) 0 t)) ∙ e in
         let z : ◌≡◌ {A = ℕ} 0 1 = cc in
         absurd (omega arith))
 
 -- a word with one bit inverted
-pub this_bit : (k w : ℕ) → k < 12 → bit_of (inverted k w) w ≡ Bit k
+pub this_bit : (k w : ℕ) → k < 12 → bit_of (inverted k w) w ≡ Some k
 unfolding first_below first_from bit_in
 this_bit k w h =
     by_lowest (inverted k w) w

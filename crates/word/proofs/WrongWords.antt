@@ -13,8 +13,8 @@ use Rattle.ground.proofs.Bits.{inverted_below}
 use Rattle.ground.proofs.Cases.{on_test}
 use Rattle.ground.proofs.Searches.{hit}
 use Rattle.ground.proofs.Xors.{⊕_self}
-use Rattle.word.specs.declared.repair.WrongBit.{WrongBit}
-use Rattle.word.specs.declared.repair.WrongBit.TheVariants.{Nothing, Bit}
+use Rattle.std.specs.Prelude.{Option as Answered}
+use Rattle.std.specs.Prelude.{None, Some}
 use Rattle.word.specs.declared.repair.Repaired.{Repaired}
 use Rattle.word.specs.Repair.{distance, differs_at, legal_word, near, nearest, repaired_to, repair_of}
 use Rattle.word.specs.Received.{repaired, bit_wrong}
@@ -23,7 +23,7 @@ use Rattle.word.proofs.Repairs.{lost, no_distance, nearest_is, nearest_none, one
 use Rattle.word.proofs.Timings.{timing_below}
 use Rattle.word.proofs.WhichBit.{one_bit_differs, no_difference, this_bit, other_word, same_words}
 
-abbrev answer : ℕ → ℕ → WrongBit → Answer Repaired
+abbrev answer : ℕ → ℕ → Answered ℕ → Answer Repaired
 answer word distance bit = given (record { word = word; distance = distance; bit = bit })
 
 module _ (vh : ℕ) (h : vh < 4) where
@@ -37,12 +37,12 @@ module _ (vh : ℕ) (h : vh < 4) where
   near_legal w l d = simp (lt-ltb w 4096 l, nearest_is w vh h d)
 
   -- none wrong: the word itself; one wrong: the word that it was, and the bit
-  pub none_wrong : repair_of legal ≡ given (record { word = legal; distance = 0; bit = Nothing })
+  pub none_wrong : repair_of legal ≡ given (record { word = legal; distance = 0; bit = None })
   none_wrong =
       let e = no_distance legal in
       near_legal legal legal_below (omega (arith, e)) ∙ ap₂ (answer legal) e (no_difference legal legal (⊕_self legal))
 
-  pub one_wrong : (k : ℕ) → k < 12 → repair_of (inverted k legal) ≡ given (record { word = legal; distance = 1; bit = Bit k })
+  pub one_wrong : (k : ℕ) → k < 12 → repair_of (inverted k legal) ≡ given (record { word = legal; distance = 1; bit = Some k })
   one_wrong k l =
       let e = one_off k legal l in
       near_legal (inverted k legal) (inverted_below 12 k legal l legal_below) (omega (arith, e)) ∙ ap₂ (answer legal) e (this_bit k legal l)
@@ -58,7 +58,7 @@ module _ (vh : ℕ) (h : vh < 4) where
       simp (lt-ltb w 4096 small, nearest_none w vh h e)
 
 -- the word of any V and H, as it is sent
-pub sent_whole : (v h : Bool) → repair_of (timing v h) ≡ given (record { word = timing v h; distance = 0; bit = Nothing })
+pub sent_whole : (v h : Bool) → repair_of (timing v h) ≡ given (record { word = timing v h; distance = 0; bit = None })
 sent_whole false false = none_wrong 0 (omega arith)
 sent_whole false true = none_wrong 1 (omega arith)
 sent_whole true false = none_wrong 2 (omega arith)
@@ -121,12 +121,12 @@ module _ (w : ℕ) (r : Repaired) (e : repair_of w ≡ given r) where
   pub near_answered : r.distance ≤ 1
   near_answered = omega (arith, n.near, ap (λ (x : Repaired). x.distance) n.is)
 
-  pub bit_answered : (k : ℕ) → r.bit ≡ Bit k → (k < 12) × (inverted k w ≡ r.word)
+  pub bit_answered : (k : ℕ) → r.bit ≡ Some k → (k < 12) × (inverted k w ≡ r.word)
   bit_answered k q =
       let x = other_word w (legal_word n.vh) n.small below k n.near (ap (λ (x : Repaired). x.bit) (sym n.is) ∙ q) in
       (x.0, x.1 ∙ word_is)
 
-  pub nothing_answered : r.bit ≡ Nothing → w ≡ r.word
+  pub nothing_answered : r.bit ≡ None → w ≡ r.word
   nothing_answered q = same_words w (legal_word n.vh) n.small below (ap (λ (x : Repaired). x.bit) (sym n.is) ∙ q) ∙ word_is
 
 -- ---- which words are refused, in the paper's own numerals

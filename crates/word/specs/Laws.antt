@@ -3,7 +3,7 @@
 use Rattle.std.specs.Prelude.{ℕ, ◌-◌, ◌/◌, ◌%◌, ◌^◌, ◌≤◌, ◌<◌, ◌≡◌, Bool, cond, ◌⊎◌, eqb}
 use Rattle.ground.specs.Answer.{refused, given}
 use Rattle.ground.specs.Inside.Answer.{Injective}
-use Rattle.word.specs.declared.repair.WrongBit.TheVariants.{Nothing}
+use Rattle.std.specs.Prelude.{None}
 use Rattle.word.specs.LineNumber.{ln0, ln1, line_words, paper_numbered, numbered_of, paper_named, named_of}
 use Rattle.word.specs.Repair.{distance, legal_word, paper_repair, repair_of}
 use Rattle.word.specs.Timing.{timing}
@@ -20,7 +20,7 @@ pub record WordLaws : Type 0 where
   -- any two of the four legal timing words differ in four bits (6.2)
   pub legal_apart : (i j : ℕ) → i < 4 → j < 4 → distance (legal_word i) (legal_word j) ≡ cond (eqb i j) 0 4
   -- a timing word as sent is repaired to itself, at distance 0, with no wrong bit
-  pub sent_whole : (v h : Bool) → repair_of (timing v h) ≡ given (record { word = timing v h; distance = 0; bit = Nothing })
+  pub sent_whole : (v h : Bool) → repair_of (timing v h) ≡ given (record { word = timing v h; distance = 0; bit = None })
   -- repair refuses a number above 4095 with 7, and a word that is two bits or more from every legal word with 8
   pub repair_meets7 : (w : ℕ) → 4095 < w → repair_of w ≡ refused 7 0
   pub repair_meets8 : (w : ℕ) → w ≤ 4095 → ((v h : Bool) → 1 < distance w (timing v h)) → repair_of w ≡ refused 8 0

@@ -3,7 +3,7 @@
 use Rattle.std.specs.Prelude.{ℕ, ◌-◌, ◌*◌, ◌/◌, ◌%◌, ◌≤◌, ◌<◌, ◌≡◌, Bool, cond, map, eqb}
 use Rattle.ground.specs.Answer.{refused, given}
 use Rattle.ground.specs.Bit.{inverted}
-use Rattle.word.specs.declared.repair.WrongBit.TheVariants.{Nothing, Bit}
+use Rattle.std.specs.Prelude.{None, Some}
 use Rattle.word.specs.declared.repair.Repaired.{Repaired}
 use Rattle.word.specs.LineNumber.{ln0, ln1, named_of}
 use Rattle.word.specs.Repair.{distance, differs_at, repair_of}
@@ -29,5 +29,5 @@ pub record WordPaper : Type 0 where
   -- of a legal word with one bit inverted that bit is wrong, and no other
   pub wrong_one : (v h : Bool) (j k : ℕ) → j < 12 → k < 12 → bit_wrong j (inverted k (timing v h)) ≡ cond (eqb j k) 1 0
   -- where a bit is answered, inverting it in the given word gives the answered word; where none is, the given word is the answered one
-  pub bit_answered : (w : ℕ) (r : Repaired) (k : ℕ) → repair_of w ≡ given r → r.bit ≡ Bit k → (k < 12) × (inverted k w ≡ r.word)
-  pub nothing_answered : (w : ℕ) (r : Repaired) → repair_of w ≡ given r → r.bit ≡ Nothing → w ≡ r.word
+  pub bit_answered : (w : ℕ) (r : Repaired) (k : ℕ) → repair_of w ≡ given r → r.bit ≡ Some k → (k < 12) × (inverted k w ≡ r.word)
+  pub nothing_answered : (w : ℕ) (r : Repaired) → repair_of w ≡ given r → r.bit ≡ None → w ≡ r.word

@@ -1,17 +1,15 @@
 -- Repair of a timing word (document 01, "Words of a stream"; 004, 6.2: one wrong bit is corrected, two are detected).
 -- Assumes nothing.
-use Rattle.std.specs.Prelude.{ℕ, ◌/◌, ◌%◌, Bool, [], ◌∷◌, eqb, leb}
+use Rattle.std.specs.Prelude.{ℕ, ◌/◌, ◌%◌, Bool, [], ◌∷◌, eqb, leb, Option as Answered, Some, None, Result, Ok, Err}
 use Rattle.std.proofs.Math.Option.{Option, none, some, get_or}
 use Rattle.std.specs.Int.Count.{ones_in}
 use Rattle.ground.specs.Answer.{Answer, refused, given, unless, checked}
 use Rattle.ground.specs.Bit.{bit_in}
 use Rattle.ground.specs.Search.{first_below, is_some}
 use Rattle.ground.specs.Xor.{◌⊕◌}
-use Rattle.word.specs.declared.repair.WrongBit.{WrongBit}
-use Rattle.word.specs.declared.repair.WrongBit.TheVariants.{Nothing, Bit}
 use Rattle.word.specs.declared.repair.Repaired.{Repaired}
-use Rattle.word.specs.declared.repair.Repair.{Repair}
-use Rattle.word.specs.declared.repair.Repair.TheVariants.{Word, Above4095, BeyondRepair}
+use Rattle.word.specs.declared.repair.RepairError.{RepairError}
+use Rattle.word.specs.declared.repair.RepairError.TheVariants.{Above4095, BeyondRepair}
 use Rattle.word.specs.Timing.{timing}
 use Rattle.word.specs.Word.{is_word}
 
@@ -25,11 +23,11 @@ unfoldable pub differs_at : ℕ → ℕ → ℕ → ℕ
 differs_at k a b = bit_in k (a ⊕ b)
 
 -- the bit in which they differ, the lowest if there are more, or that there is none
-abbrev pub bit_found : Option ℕ → WrongBit
-bit_found none = Nothing
-bit_found (some k) = Bit k
+abbrev pub bit_found : Option ℕ → Answered ℕ
+bit_found none = None
+bit_found (some k) = Some k
 
-unfoldable pub bit_of : ℕ → ℕ → WrongBit
+unfoldable pub bit_of : ℕ → ℕ → Answered ℕ
 bit_of a b = bit_found (first_below 12 (λ k. eqb (differs_at k a b) 1))
 
 -- the four legal words, VH = 00, 01, 10, 11
@@ -45,10 +43,10 @@ unfoldable pub nearest : ℕ → Option ℕ
 nearest w = first_below 4 (near w)
 
 -- the paper's number and values for each answer
-abbrev pub paper_repair : Repair → Answer Repaired
-paper_repair (Word r) = given r
-paper_repair Above4095 = refused 7 0
-paper_repair BeyondRepair = refused 8 0
+abbrev pub paper_repair : Result Repaired RepairError → Answer Repaired
+paper_repair (Ok r) = given r
+paper_repair (Err Above4095) = refused 7 0
+paper_repair (Err BeyondRepair) = refused 8 0
 
 -- a word repaired to a legal one: that word, the distance, and the bit
 abbrev pub repaired_to : ℕ → ℕ → Repaired

@@ -7,8 +7,8 @@ use Rattle.symbol.specs.declared.disparity.Disparity.TheVariants.{Negative, Posi
 use Rattle.symbol.specs.declared.special.Special.TheVariants.{K28_5, K29_7}
 use Rattle.symbol.specs.Character.{number_of}
 use Rattle.symbol.specs.Code.{symbol_of}
-use Rattle.word.specs.declared.repair.WrongBit.{WrongBit}
-use Rattle.word.specs.declared.repair.WrongBit.TheVariants.{Nothing, Bit}
+use Rattle.std.specs.Prelude.{Option as Answered}
+use Rattle.std.specs.Prelude.{None, Some}
 use Rattle.word.specs.declared.repair.Repaired.{Repaired}
 use Rattle.word.specs.declared.line_number.LineWords.{LineWords}
 use Rattle.word.specs.LineNumber.{numbered_of}
@@ -27,9 +27,9 @@ abbrev xyz : Bool → Bool → Answer (List ℕ)
 xyz v h = given (timing v h ∷ [])
 
 -- the repaired word, its distance, and the bit, if one was wrong
-abbrev bits : WrongBit → List ℕ
-bits Nothing = []
-bits (Bit k) = k ∷ []
+abbrev bits : Answered ℕ → List ℕ
+bits None = []
+bits (Some k) = k ∷ []
 
 abbrev repair : Answer Repaired → Answer (List ℕ)
 repair (refused n p) = refused n p

@@ -11,16 +11,12 @@ pub struct LineWords {
     pub ln1: u16,
 }
 
-#[derive(Drop)]
-pub enum Numbered {
-    Words(LineWords),
-    // 2: not 1 to 1125.
-    NoLine,
-}
+// 2: not 1 to 1125.
+#[derive(Clone, Copy, Debug, PartialEq, Eq)]
+pub struct NoLine;
 
-#[derive(Clone, Copy)]
-pub enum Named {
-    Line(StreamLine),
+#[derive(Clone, Copy, Debug, PartialEq, Eq)]
+pub enum NameError {
     // 7: no word has more than twelve bits.
     Above4095,
     // 22: the words are not those of any line.
@@ -46,13 +42,13 @@ pub fn words_after(l: StreamLine) -> LineWords
 }
 
 // The words sent for a stream line.
-pub fn line_words(l: StreamLine) -> Numbered
+pub fn line_words(l: StreamLine) -> Result<LineWords, NoLine>
     ensures { paper_numbered result ≡ numbered_of l.0 }
 {
     if line::stream::is_line(l) {
-        return Numbered::Words(words_of(l));
+        return Ok(words_of(l));
     }
-    Numbered::NoLine
+    Err(NoLine)
 }
 
 // Whether a stream has the line, and both words are what is sent for it.
@@ -72,18 +68,18 @@ fn are_words_of(given: StreamLine, ln0: u16, ln1: u16) -> bool
 // lost, which joins the number's bits without checking the rest: from LN0 of line 128 (800) and LN1 of line 127 (800) it makes line 0.
 // Here 800 800 names no line, and neither do words with a wrong guard bit, with a reserved bit set, or with a number above 1125. Both
 // words are from one stream; that all streams agree is for the span reader to check.
-pub fn read_line_words(ln0: u16, ln1: u16) -> Named
+pub fn read_line_words(ln0: u16, ln1: u16) -> Result<StreamLine, NameError>
     ensures { paper_named result ≡ named_of ln0 ln1 }
 {
     if 4095 < ln0 {
-        return Named::Above4095;
+        return Err(NameError::Above4095);
     }
     if 4095 < ln1 {
-        return Named::Above4095;
+        return Err(NameError::Above4095);
     }
     let l = line::stream::stream_line(ln0 / 16 % 128 + ln1 / 16 % 16 * 128);
     if are_words_of(l, ln0, ln1) {
-        return Named::Line(l);
+        return Ok(l);
     }
-    Named::Nameless
+    Err(NameError::Nameless)
 }

@@ -1,20 +1,17 @@
 // What a timing word says, with one wrong bit corrected. Twelve bits of each word count.
 ghost use Rattle.std.specs.Prelude.{◌≡◌, ◌%◌, ◌≤◌};
-ghost use Rattle.std.proofs.Math.Option.{get_or};
+ghost use Rattle.ground.specs.Answer.{told};
 ghost use Rattle.ground.specs.Xor.{◌⊕◌};
 ghost use Rattle.word.specs.Repair.{nearest};
 ghost use Rattle.word.specs.Received.{is_timing, repaired, v_in, wrong_bits};
 
-use crate::repair::Repair;
-
-// VH of the near legal word, 0 to 3; 4 if there is none.
-fn nearest_vh(w: u16) -> u16
-    ensures { result ≡ get_or (nearest (w % 4096)) 4 }
+// VH of the near legal word, 0 to 3, if there is one.
+fn nearest_vh(w: u16) -> Option<u16>
+    ensures { told result ≡ nearest (w % 4096) }
 {
     match crate::repair::repair_timing_word(w % 4096) {
-        Repair::Word(r) => r.word / 256 % 4,
-        Repair::Above4095 => 4,
-        Repair::BeyondRepair => 4,
+        Ok(r) => Some(r.word / 256 % 4),
+        Err(_) => None,
     }
 }
 
@@ -28,28 +25,27 @@ pub fn is_timing(h: bool, j: usize, w: u16) -> bool
     if j < 3 {
         return w % 4096 == 0x000;
     }
-    let vh = nearest_vh(w);
-    if vh == 4 {
+    let Some(vh) = nearest_vh(w) else {
         return false;
-    }
+    };
     if h {
         return vh % 2 == 1;
     }
     vh % 2 == 0
 }
 
-// V of the word as repaired.
+// V of the word as repaired; 0 if no legal word is near.
 pub fn v_in(w: u16) -> bool
     ensures { result ≡ v_in (w % 4096) }
 {
-    nearest_vh(w) / 2 == 1
+    nearest_vh(w).unwrap_or(0) / 2 == 1
 }
 
 // The word as repaired; if no legal word is near, that of VH 00.
 pub fn repaired_word(w: u16) -> u16
     ensures { result ≡ repaired (w % 4096) }
 {
-    let vh = nearest_vh(w);
+    let vh = nearest_vh(w).unwrap_or(0);
     crate::timing::timing_word(vh / 2 == 1, vh % 2 == 1)
 }
 

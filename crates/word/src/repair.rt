@@ -2,24 +2,17 @@
 ghost use Rattle.std.specs.Prelude.{◌≡◌, ◌<◌, min};
 ghost use Rattle.word.specs.Repair.{distance, bit_of, paper_repair, repair_of};
 
-// Which of the twelve bits was wrong, 0 to 11: bit 0 is b0 of table 6, the lowest.
-#[derive(Drop)]
-pub enum WrongBit {
-    Nothing,
-    Bit(u8),
-}
-
-// The legal word, in how many of its twelve bits the given one differs, 0 or 1, and in which.
-#[derive(Drop)]
+// The legal word, in how many of its twelve bits the given one differs, 0 or 1, and in which, if one was wrong: bit 0 is b0 of table 6, the
+// lowest.
+#[derive(Clone, Copy, Debug, PartialEq, Eq)]
 pub struct Repaired {
     pub word: u16,
     pub distance: u8,
-    pub bit: WrongBit,
+    pub bit: Option<u8>,
 }
 
-#[derive(Drop)]
-pub enum Repair {
-    Word(Repaired),
+#[derive(Clone, Copy, Debug, PartialEq, Eq)]
+pub enum RepairError {
     // 7: no word has more than twelve bits.
     Above4095,
     // 8: two bits or more from each legal word.
@@ -40,38 +33,36 @@ fn difference(a: u16, b: u16) -> u8
     2
 }
 
-// The bit in which two words of twelve bits differ; the lowest if there are more.
-fn wrong_bit(a: u16, b: u16) -> WrongBit
+// The bit in which two words of twelve bits differ, if they do; the lowest if there are more.
+fn wrong_bit(a: u16, b: u16) -> Option<u8>
     requires a_bound { a < 4096 }
     requires b_bound { b < 4096 }
     ensures { result ≡ bit_of a b }
 {
     let x = a ^ b;
     if x == 0 {
-        return WrongBit::Nothing;
+        return None;
     }
-    WrongBit::Bit(u16::trailing_zeros(x) as u8)
+    Some(u16::trailing_zeros(x) as u8)
 }
 
-// The legal word at most one bit from a given one. There are never two: law one-near.
-pub fn repair_timing_word(w: u16) -> Repair
+// The legal word at most one bit from a given one. There are never two: law one_near.
+pub fn repair_timing_word(w: u16) -> Result<Repaired, RepairError>
     ensures { paper_repair result ≡ repair_of w }
 {
     if 4095 < w {
-        return Repair::Above4095;
+        return Err(RepairError::Above4095);
     }
-    let mut vh = 0u8;
-    while vh < 4 {
+    for vh in 0..4u8 {
         let legal = crate::timing::timing_word(vh / 2 == 1, vh % 2 == 1);
         let d = difference(w, legal);
         if d < 2 {
-            return Repair::Word(Repaired {
+            return Ok(Repaired {
                 word: legal,
                 distance: d,
                 bit: wrong_bit(w, legal),
             });
         }
-        vh += 1;
     }
-    Repair::BeyondRepair
+    Err(RepairError::BeyondRepair)
 }

@@ -1,11 +1,9 @@
 -- What the calls on words answer to C (document 01, "Words of a stream"; refusals 2, 7, 8 and 22). In a refusal fields are 0, and `bit` is 12.
 -- Assumes nothing.
-use Rattle.std.specs.Prelude.{ℕ}
+use Rattle.std.specs.Prelude.{ℕ, Option as Answered, None, Some}
 use Rattle.ground.specs.Answer.{Answer, refused, given}
 use Rattle.line.specs.declared.stream.StreamLine.{StreamLine}
 use Rattle.word.specs.declared.line_number.LineWords.{LineWords}
-use Rattle.word.specs.declared.repair.WrongBit.{WrongBit}
-use Rattle.word.specs.declared.repair.WrongBit.TheVariants.{Nothing, Bit}
 use Rattle.word.specs.declared.repair.Repaired.{Repaired}
 use Rattle.crcc.specs.Crcc.{crcc_words}
 use Rattle.boundary.specs.Numbers.{stream_line_number}
@@ -27,9 +25,9 @@ abbrev pub no_bit : ℕ
 no_bit = 12
 
 -- the bit that was wrong, if one was
-abbrev pub bit_number : WrongBit → ℕ
-bit_number Nothing = no_bit
-bit_number (Bit k) = k
+abbrev pub bit_number : Answered ℕ → ℕ
+bit_number None = no_bit
+bit_number (Some k) = k
 
 abbrev pub repair_answer_of : Answer Repaired → RepairAnswer
 repair_answer_of (refused number place) = record { number = number; word = 0; distance = 0; bit = no_bit }

@@ -7,9 +7,10 @@ ghost use Rattle.crcc.specs.Crcc.{paper_crcc};
 ghost use Rattle.word_answers.specs.Words.{line_words_answer_of, read_line_words_answer_of, bit_number, repair_answer_of, crcc_answer_of};
 
 use boundary::numbers::StreamLineNumber;
-use crcc::crcc::Crcc;
-use word::line_number::{Named, Numbered};
-use word::repair::{Repair, WrongBit};
+use crcc::crcc::Above4095;
+use line::stream::StreamLine;
+use word::line_number::{LineWords, NameError, NoLine};
+use word::repair::{RepairError, Repaired};
 
 #[repr(C)]
 #[derive(Drop)]
@@ -54,16 +55,16 @@ fn nameless(number: u32) -> ReadLineWordsAnswer
 }
 
 // 12 where nothing was wrong: 0 is a bit, the lowest.
-fn bit_number(b: WrongBit) -> u32
+fn bit_number(b: Option<u8>) -> u32
     ensures { result ≡ bit_number b }
 {
     match b {
-        WrongBit::Nothing => 12,
-        WrongBit::Bit(k) => k as u32,
+        None => 12,
+        Some(k) => k as u32,
     }
 }
 
-fn repaired(number: u32, word: u16, distance: u8, bit: WrongBit) -> RepairAnswer
+fn repaired(number: u32, word: u16, distance: u8, bit: Option<u8>) -> RepairAnswer
     ensures { result ≡ record { number = number; word = word; distance = distance; bit = bit_number bit } }
 {
     RepairAnswer {
@@ -74,16 +75,16 @@ fn repaired(number: u32, word: u16, distance: u8, bit: WrongBit) -> RepairAnswer
     }
 }
 
-pub fn line_words_answer(r: Numbered) -> LineWordsAnswer
+pub fn line_words_answer(r: Result<LineWords, NoLine>) -> LineWordsAnswer
     ensures { result ≡ line_words_answer_of (paper_numbered r) }
 {
     match r {
-        Numbered::Words(w) => LineWordsAnswer {
+        Ok(w) => LineWordsAnswer {
             number: 0,
             ln0: w.ln0 as u32,
             ln1: w.ln1 as u32,
         },
-        Numbered::NoLine => LineWordsAnswer {
+        Err(NoLine) => LineWordsAnswer {
             number: 2,
             ln0: 0,
             ln1: 0,
@@ -91,38 +92,35 @@ pub fn line_words_answer(r: Numbered) -> LineWordsAnswer
     }
 }
 
-pub fn read_line_words_answer(r: Named) -> ReadLineWordsAnswer
+pub fn read_line_words_answer(r: Result<StreamLine, NameError>) -> ReadLineWordsAnswer
     ensures { result ≡ read_line_words_answer_of (paper_named r) }
 {
     match r {
-        Named::Line(l) => ReadLineWordsAnswer {
+        Ok(l) => ReadLineWordsAnswer {
             number: 0,
             line: boundary::numbers::stream_line_number(l),
         },
-        Named::Above4095 => nameless(7),
-        Named::Nameless => nameless(22),
+        Err(NameError::Above4095) => nameless(7),
+        Err(NameError::Nameless) => nameless(22),
     }
 }
 
-pub fn repair_answer(r: Repair) -> RepairAnswer
+pub fn repair_answer(r: Result<Repaired, RepairError>) -> RepairAnswer
     ensures { result ≡ repair_answer_of (paper_repair r) }
 {
     match r {
-        Repair::Word(w) => {
-            let bit = w.bit;
-            repaired(0, w.word, w.distance, bit)
-        },
-        Repair::Above4095 => repaired(7, 0, 0, WrongBit::Nothing),
-        Repair::BeyondRepair => repaired(8, 0, 0, WrongBit::Nothing),
+        Ok(w) => repaired(0, w.word, w.distance, w.bit),
+        Err(RepairError::Above4095) => repaired(7, 0, 0, None),
+        Err(RepairError::BeyondRepair) => repaired(8, 0, 0, None),
     }
 }
 
 // The register and the words that carry it.
-pub fn crcc_answer(r: Crcc) -> CrccAnswer
+pub fn crcc_answer(r: Result<u32, Above4095>) -> CrccAnswer
     ensures { result ≡ crcc_answer_of (paper_crcc r) }
 {
     match r {
-        Crcc::Register(c) => {
+        Ok(c) => {
             let words = crcc::crcc::crcc_words(c);
             CrccAnswer {
                 number: 0,
@@ -131,7 +129,7 @@ pub fn crcc_answer(r: Crcc) -> CrccAnswer
                 crcc1: words.crcc1 as u32,
             }
         },
-        Crcc::Above4095 => CrccAnswer {
+        Err(Above4095) => CrccAnswer {
             number: 7,
             crc: 0,
             crcc0: 0,

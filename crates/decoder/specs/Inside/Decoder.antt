@@ -12,7 +12,7 @@ use Rattle.symbol.specs.Code.{char_of}
 use Rattle.symbol.specs.Inside.Code.{flips}
 use Rattle.ground.specs.Bit.{bit}
 use Rattle.symbol.specs.Inside.Disparity.{flipped_if}
-use Rattle.decoder.specs.Decode.{After}
+use Rattle.decoder.specs.declared.decode.Decoded.{Decoded}
 use Rattle.decoder.specs.Meaning.{Means, meant_by}
 
 -- an entry: the character's number in bits 0 to 8, bit 9 set if it is legal at negative disparity, bit 10 if at positive, bits 11 and 12
@@ -39,15 +39,17 @@ legal_bit Positive e = eqb (e / 1024 % 2) 1
 abbrev pub entry_after : Disparity → ℕ → Disparity
 entry_after d e = flipped_if (eqb (e / 2048 % 2) 1) d
 
-abbrev pub decoded_by : Disparity → ℕ → Answer After
+abbrev pub decoded_by : Disparity → ℕ → Answer Decoded
 decoded_by d e =
     checked (unless 20 (legal_bit d e) ∷ []) (record { character = character_of (e % 512); after = entry_after d e })
 
-abbrev pub meaning_by : ℕ → Answer Means
-meaning_by e =
-    given
-    (record {
+abbrev pub means_by : ℕ → Means
+means_by e =
+    record {
       character = cond (eqb e 0) none (some (character_of (e % 512)));
       negative = legal_bit Negative e;
       positive = legal_bit Positive e;
-    })
+    }
+
+abbrev pub meaning_by : ℕ → Answer Means
+meaning_by e = given (means_by e)

@@ -3,7 +3,6 @@
 use Rattle.std.specs.Prelude.{ℕ, ◌<◌, ◌≡◌, true, false, length}
 use Rattle.span.specs.declared.format.Format.{Format}
 use Rattle.span.specs.Format.{is_known, shape_of, samples_in}
-use Rattle.span.specs.Sample.{allowed}
 use Rattle.span.specs.Stream.{Request}
 use Rattle.request.specs.Send.{forbidden}
 

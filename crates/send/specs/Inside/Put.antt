@@ -19,11 +19,10 @@ use Rattle.row_crc.specs.Inside.Sums.{sums_in}
 use Rattle.word.specs.declared.line_number.LineWords.{LineWords}
 use Rattle.word.specs.LineNumber.{line_words}
 use Rattle.word.specs.Timing.{timing}
-use Rattle.span.specs.declared.content.Content.{Content}
+use Rattle.span.specs.Content.{Content, content_of}
 use Rattle.span.specs.declared.content.ContentBytes.{ContentBytes}
 use Rattle.span.specs.declared.format.Format.{Format}
 use Rattle.span.specs.declared.format.Shape.{Shape}
-use Rattle.span.specs.Content.{content_of}
 use Rattle.span.specs.Encoding.{symbols_from, after_run}
 use Rattle.span.specs.Format.{shape_of}
 use Rattle.span.specs.Sample.{blank_word}

@@ -1,13 +1,9 @@
 -- `crcc::crcc::crcc_of` meets its contract: what is left, from the register so far, is the whole from 0.
 -- Assumes nothing.
 use mathlib.Core.Path.{◌≡◌}
-use Prim.Native.Nat.{◌-◌, ◌≤◌}
-use lib.ListN.{length, drop}
+use lib.ListN.{drop}
 use Rattle.crcc.specs.Crcc.{crcc_from}
 use Rattle.crcc.proofs.crcc.crcc_of.Given as goal
 
-abbrev pub invariant-loop-i : goal.invariant-loop-i
-invariant-loop-i l = (l.i ≤ length l.words) × (crcc_from l.c (drop l.i l.words) ≡ crcc_from 0 l.words)
-
-abbrev pub decreases-loop-i : goal.decreases-loop-i
-decreases-loop-i l = length l.words - l.i
+abbrev pub invariant-loop-w : goal.invariant-loop-w
+invariant-loop-w l = crcc_from l.c (drop l.w-index l.words) ≡ crcc_from 0 l.words

@@ -3,6 +3,7 @@
 use mathlib.Core.Path.{◌∙◌, ap}
 use Prim.Native.Nat.{◌<◌}
 use native.Mathlib.Omega.{arith}
+use Rattle.ground.specs.Answer.{given}
 use Rattle.decoder.specs.Inside.Decoder.{meaning_by}
 use Rattle.decoder.proofs.Reading.{meaning_entry}
 use Rattle.decoder.proofs.meaning.meaning_of.Goals as goal
@@ -11,4 +12,4 @@ pub returns : goal.returns
 returns c =
     let a = c.args in
     let h : a.s < 1024 = omega arith in
-    c.meaning_by.ensures ∙ ap meaning_by c.entry_of.ensures ∙ meaning_entry a.s h
+    ap given c.meaning_by.ensures ∙ ap meaning_by c.entry_of.ensures ∙ meaning_entry a.s h

@@ -1,7 +1,7 @@
 -- `dividing::split::deal` meets its contract: after j iterations each image's row begins with its j samples.
 -- Assumes nothing.
 use mathlib.Core.Path.{◌≡◌}
-use Prim.Native.Nat.{◌-◌, ◌≤◌}
+use Prim.Native.Nat.{◌≤◌}
 use lib.ListN.{length}
 use lib.Seq.{sets}
 use Rattle.dividing.specs.Row.{divided}
@@ -14,6 +14,3 @@ invariant-loop-j l =
     × (length l.second ≡ l.n)
     × (l.first ≡ sets l.initial.first 0 (divided 0 l.j l.row))
     × (l.second ≡ sets l.initial.second 0 (divided 1 l.j l.row))
-
-abbrev pub decreases-loop-j : goal.decreases-loop-j
-decreases-loop-j l = l.n - l.j

@@ -1,6 +1,4 @@
 use mathlib.Core.Path.{sym}
-use Prim.Native.Nat.{◌≤◌}
-use native.Mathlib.Omega.{arith}
 use borrow.Author.Tests.{le-leb}
 use Rattle.ground.specs.Range.{within}
 use Rattle.ground.proofs.Ranges.{is_below}

@@ -1,9 +1,7 @@
 -- `line::stream::line_before` meets its contract: the test says which case of the definition holds.
 -- Assumes nothing.
 use mathlib.Core.Path.{sym, ◌∙◌}
-use mathlib.Core.Bool.{true}
 use native.Mathlib.Omega.{arith}
-use Rattle.ground.specs.Range.{within}
 use Rattle.ground.proofs.Ranges.{from_low}
 use Rattle.line.proofs.stream.line_before.Goals as goal
 

@@ -18,10 +18,10 @@ on q stream = given record { image = q.image; line = q.line; stream = record { 0
 line_of : {q r : Quarter} → q ≡ r → stream_line_of q.line.0 ≡ stream_line_of r.line.0
 line_of e = ap (λ (q : Quarter). stream_line_of q.line.0) e
 
-pub returns-in-On : goal.returns-in-On
-returns-in-On c =
+pub returns-in-Some : goal.returns-in-Some
+returns-in-Some c =
     let a = c.args in
-    let travels = sym c.stream_line_of.ensures ∙ ap number_on c.in-On.is in
+    let travels = sym c.stream_line_of.ensures ∙ ap number_on c.in-Some.is in
     let told = travels_if a.line.0 _ (sym (line_of c.halve-q.ensures) ∙ travels) in
     ap (on c.halve-q.result) (sym told.1.1)
     ∙ ap (λ (q : Quarter). on q (image_line a.line.0 + 41)) c.halve-q.ensures

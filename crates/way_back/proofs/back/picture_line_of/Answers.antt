@@ -12,20 +12,20 @@ image_on-image-requires c =
     let h = has_told a.f a.link a.stream (sym c.has.ensures ∙ c.if-has.true) in
     record { le_link = h.link_from; link_bound = h.link_to; le_stream = h.stream_from; stream_bound = omega (arith, h.stream_to, h.pairs) }
 
-pub returns-in-Line : goal.returns-in-Line
-returns-in-Line c =
+pub returns-then-has : goal.returns-then-has
+returns-then-has c =
     let a = c.args in
     let known = sym c.is_known.ensures ∙ c.if-is_known.true in
     let has = sym c.has.ensures ∙ c.if-has.true in
     let image = c.image_on-image.ensures in
-    let on = sym c.picture_line_on.ensures ∙ ap number_carried c.in-Line.is in
+    let on = sym c.picture_line_on.ensures ∙ ap number_carried c.in-Some.is in
     line_told a.f a.link a.stream a.l.0 known has image _ on
 
-pub returns-in-Nothing : goal.returns-in-Nothing
-returns-in-Nothing c =
+pub returns-in_default : goal.returns-in_default
+returns-in_default c =
     let a = c.args in
     let known = sym c.is_known.ensures ∙ c.if-is_known.true in
     let has = sym c.has.ensures ∙ c.if-has.true in
     let image = c.image_on-image.ensures in
-    let on = sym c.picture_line_on.ensures ∙ ap number_carried c.in-Nothing.is in
+    let on = sym c.picture_line_on.ensures ∙ ap number_carried c.in_default.is in
     none_told a.f a.link a.stream a.l.0 known has image on

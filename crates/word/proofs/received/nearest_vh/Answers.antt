@@ -5,8 +5,8 @@ use native.Mathlib.Omega.{arith}
 use Prim.Native.Nat.{◌%◌, ◌<◌}
 use Rattle.word.proofs.received.nearest_vh.Goals as goal
 
-pub returns-in-Word : goal.returns-in-Word
-returns-in-Word c =
+pub returns-in-Ok : goal.returns-in-Ok
+returns-in-Ok c =
     let w = c.args.w % 4096 in
     let h : w < 4096 = omega arith in
-    word_near w h c.in-Word.r (rw c.in-Word.is at c.repair_timing_word.ensures)
+    word_near w h c.in-Ok.r (rw c.in-Ok.is at c.repair_timing_word.ensures)

@@ -6,4 +6,4 @@ use Rattle.word.proofs.Near.{repaired_told}
 use Rattle.word.proofs.received.repaired_word.Goals as goal
 
 pub returns : goal.returns
-returns c = c.timing_word.ensures ∙ repaired_told (c.args.w % 4096) c.nearest_vh-vh.ensures
+returns c = c.timing_word.ensures ∙ repaired_told (c.args.w % 4096) _ c.nearest_vh.ensures c.unwrap_or-vh.ensures
