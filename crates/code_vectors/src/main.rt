@@ -9,34 +9,21 @@ use decoder::meaning::meaning_of;
 use encoder::encode::{encode_byte, encode_special};
 use print::{DecodedAs, Means, Name, Sign};
 use std::io;
+use symbol::character::Character;
 use symbol::disparity::Disparity;
 use symbol::special;
 
 const DISPARITIES: [Disparity; 2] = [Disparity::Negative, Disparity::Positive];
 
-fn bytes(rt: &impl Print) -> io::Result<()> {
-    for b in 0..=255u8 {
-        for d in DISPARITIES {
-            let e = encode_byte(d, b);
-            println!(rt; "{b:02x} {} {:03x} {}", Sign(d), e.symbol, Sign(e.after))?;
-        }
-    }
-    Ok(())
-}
-
-fn specials(rt: &impl Print) -> io::Result<()> {
-    for n in 0..12 {
-        let k = special::named(n);
-        for d in DISPARITIES {
-            let e = encode_special(d, k);
-            println!(rt;
-                "{} {} {:03x} {}",
-                Name(k),
-                Sign(d),
-                e.symbol,
-                Sign(e.after)
-            )?;
-        }
+fn character_lines(rt: &impl Print, c: Character) -> io::Result<()> {
+    for d in DISPARITIES {
+        let e = match c {
+            Character::Byte(b) => encode_byte(d, b),
+            Character::Special(k) => encode_special(d, k),
+        };
+        let before = Sign(d);
+        let after = Sign(e.after);
+        println!(rt; "{} {before} {:03x} {after}", Name(c), e.symbol)?;
     }
     Ok(())
 }
@@ -48,8 +35,12 @@ fn symbol_line(rt: &impl Print, s: u16) -> io::Result<()> {
 }
 
 fn main(rt: HostRuntime) -> io::Result<()> {
-    bytes(&rt)?;
-    specials(&rt)?;
+    for b in 0..=255 {
+        character_lines(&rt, Character::Byte(b))?;
+    }
+    for n in 0..12 {
+        character_lines(&rt, Character::Special(special::named(n)))?;
+    }
     for s in 0..1024 {
         symbol_line(&rt, s)?;
     }
