@@ -4,7 +4,7 @@ ghost use Rattle.std.proofs.lemmas.List.Edits.{sets};
 ghost use Rattle.io.specs.Counts.{IsPrefixLen};
 ghost use Rattle.reception.specs.Summary.{delivered, first_lost, last_lost, item, blanking_text, lines_text, carried_text, lost_item, which, summary, paper_summarised, summarised_of, summary_put, CountsIn};
 
-use line::picture::{Carries, PictureLine};
+use line::picture::PictureLine;
 use line::stream::StreamLine;
 
 // Why there is no summary.
@@ -89,10 +89,10 @@ fn put_carried(l: StreamLine, out: &mut [u8], at: usize) -> usize
     ensures most { result ≤ at + 33 }
     ensures written { out.new ≡ sets out.old at (carried_text l.0) }
 {
-    let Carries::Line(odd) = picture::place::picture_line_on(l, 1) else {
+    let Some(odd) = picture::place::picture_line_on(l, 1) else {
         return put_blanking(out, at);
     };
-    let Carries::Line(even) = picture::place::picture_line_on(l, 3) else {
+    let Some(even) = picture::place::picture_line_on(l, 3) else {
         return put_blanking(out, at);
     };
     put_lines(odd, even, out, at)

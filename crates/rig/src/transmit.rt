@@ -6,8 +6,6 @@ ghost use Rattle.rig.specs.Sending.{request_on, after_from};
 ghost use Rattle.rig.specs.Inside.Sending.{sent_from};
 
 use line::stream::StreamLine;
-use request::sent::Sent;
-use span::content::Content;
 use symbol::disparity::Disparity;
 
 // The span of a line. Its samples go into words lent for them.
@@ -22,10 +20,7 @@ fn send_line(l: StreamLine, d: Disparity, words: &mut [u16], symbols: &mut [u16]
     let f = reception::link::link();
     // Neither call refuses a line of the frame.
     let _ = test_picture::samples::put_samples(f, l, words);
-    match send::send::send(f, l, d, Content::NoneNamed, words, symbols) {
-        Sent::After(after) => after,
-        _ => d,
-    }
+    send::send::send(f, l, d, None, words, symbols).unwrap_or(d)
 }
 
 // The spans of five lines, the first of which is given.
