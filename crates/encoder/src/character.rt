@@ -62,14 +62,7 @@ pub(crate) fn six_of(d: Disparity, c: u16) -> u16
 fn takes_alternate(d: Disparity, x: u16) -> bool
     ensures { result ≡ one_of x (alternate_at d) }
 {
-    let xs = symbol::blocks::alternate_at(d);
-    if x == xs[0] {
-        return true;
-    }
-    if x == xs[1] {
-        return true;
-    }
-    x == xs[2]
+    symbol::blocks::alternate_at(d).contains(&x)
 }
 
 // The four bits of a byte x.y, by the disparity before them.

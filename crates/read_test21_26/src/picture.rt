@@ -17,10 +17,8 @@ fn each_allowed(depth: u8, rows: &[u16]) -> bool
     ensures { result ≡ all_allowed depth rows.now }
 {
     let mut found = 0;
-    let mut i = 0;
-    while i < rows.len() {
-        found = found | wrong_word(depth, rows[i]);
-        i += 1;
+    for w in rows {
+        found |= wrong_word(depth, *w);
     }
     found == 0
 }

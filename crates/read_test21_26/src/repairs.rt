@@ -36,11 +36,9 @@ fn wrong_in_all(t: &[u16; 1024], p: Shape, symbols: &[u16]) -> u8
 {
     let s = 2 * p.stream_pairs;
     let mut sum = 0;
-    let mut i = 0;
-    while i < s {
+    for i in 0..s {
         let xyz = xyz_of(t, p, symbols, i);
-        sum = sum + (word::received::wrong_bits(xyz.sav) + word::received::wrong_bits(xyz.eav));
-        i += 1;
+        sum += word::received::wrong_bits(xyz.sav) + word::received::wrong_bits(xyz.eav);
     }
     sum
 }
@@ -102,13 +100,11 @@ fn each_bit(t: &[u16; 1024], p: Shape, symbols: &[u16]) -> RepairsOfBit
 {
     let s = 2 * p.stream_pairs;
     let mut counts = no_bits();
-    let mut i = 0;
-    while i < s {
+    for i in 0..s {
         let xyz = xyz_of(t, p, symbols, i);
         let sav = word::received::wrong_mask(xyz.sav);
         let eav = word::received::wrong_mask(xyz.eav);
         counts = with_bits(counts, sav, eav);
-        i += 1;
     }
     counts
 }

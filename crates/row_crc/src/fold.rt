@@ -39,10 +39,8 @@ fn fold(row: &[u16], moved: &mut [u16])
     ensures size { length moved.new ≡ 1984 }
     ensures folds { FoldInv row.now moved.new 1781 }
 {
-    let mut j = 0;
-    while j < FOLDED {
+    for j in 0..FOLDED {
         moved[FURTHEST + j] = with_moved(row, moved, j);
-        j += 1;
     }
 }
 
@@ -58,11 +56,9 @@ fn crc_of_last(a: &[u16], ma: &[u16], b: &[u16], mb: &[u16]) -> Two
 {
     let mut c = 0;
     let mut d = 0;
-    let mut j = FOLDED;
-    while j < 1920 {
+    for j in FOLDED..1920 {
         c = crcc::crcc::crc_word(c, with_moved(a, ma, j));
         d = crcc::crcc::crc_word(d, with_moved(b, mb, j));
-        j += 1;
     }
     Two { a: c, b: d }
 }

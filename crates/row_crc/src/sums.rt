@@ -4,20 +4,13 @@ ghost use Rattle.row_crc.specs.Inside.Sums.{summed_of};
 
 use crcc::sums::Sums;
 
-#[derive(Drop)]
-pub enum Summed {
-    Rows(Sums),
-    // Not two rows of 1,920 words, nor four.
-    OtherLength,
-}
-
-// For two rows of 1,920 words, or four.
-pub fn sums_of_rows(rows: &[u16]) -> Summed
+// Of two rows of 1,920 words, or of four; rows of another length have none.
+pub fn sums_of_rows(rows: &[u16]) -> Option<Sums>
     ensures { result ≡ summed_of rows.now }
 {
     if rows.len() == 3840 {
         let low = crate::fold::crc_of_two(&rows[0..1920], &rows[1920..3840]);
-        return Summed::Rows(Sums {
+        return Some(Sums {
             first: low.a,
             second: low.b,
             third: 0,
@@ -27,12 +20,12 @@ pub fn sums_of_rows(rows: &[u16]) -> Summed
     if rows.len() == 7680 {
         let low = crate::fold::crc_of_two(&rows[0..1920], &rows[1920..3840]);
         let high = crate::fold::crc_of_two(&rows[3840..5760], &rows[5760..7680]);
-        return Summed::Rows(Sums {
+        return Some(Sums {
             first: low.a,
             second: low.b,
             third: high.a,
             fourth: high.b,
         });
     }
-    Summed::OtherLength
+    None
 }

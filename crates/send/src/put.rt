@@ -187,12 +187,10 @@ pub(crate) fn put_run(
         b.second as u16,
         b.third as u16,
     );
-    let mut i = 0;
-    while i < pairs {
+    for i in 0..pairs {
         out[at + 3 * i] = t.first;
         out[at + 3 * i + 1] = t.second;
         out[at + 3 * i + 2] = t.third;
-        i += 1;
     }
 }
 
@@ -202,10 +200,8 @@ fn repeat(out: &mut [u16], from: usize, to: usize)
     requires to_in_bounds { to ≤ length out.old }
     ensures { out.new ≡ repeated (to - from) from out.old }
 {
-    let mut i = from;
-    while i < to {
+    for i in from..to {
         out[i] = out[i - 96];
-        i += 1;
     }
 }
 

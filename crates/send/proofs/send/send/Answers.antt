@@ -54,6 +54,8 @@ returns-then-symbols-lengths c =
     in
     record { answer = sym bad; symbols = when_refused _ _ bad }
 
-pub send_samples-requires : goal.send_samples-requires
-send_samples-requires c =
-    let lengths = c.span_lengths-lengths.ensures in record { f_value = sym c.is_known.ensures ∙ c.if-not-is_known.false; l_value = sym c.is_line.ensures ∙ c.if-not-is_line.false; samples_len = omega (arith, samples lengths); symbols_len = omega (arith, symbols lengths) }
+pub send_samples-requires-clause-f_value : goal.send_samples-requires-clause-f_value
+send_samples-requires-clause-f_value c = sym c.is_known.ensures ∙ c.if-not-is_known.false
+
+pub send_samples-requires-clause-l_value : goal.send_samples-requires-clause-l_value
+send_samples-requires-clause-l_value c = sym c.is_line.ensures ∙ c.if-not-is_line.false

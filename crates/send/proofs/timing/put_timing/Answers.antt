@@ -2,22 +2,24 @@
 -- Assumes nothing.
 use Rattle.std.proofs.Common.{◌-◌, ◌*◌, sym, refl, ap, arith}
 use Rattle.send.specs.Inside.Put.{sync_chars}
-use Rattle.send.proofs.Putting.{made, renamed, then, is_offset, same_size}
+use Rattle.send.proofs.Putting.{made, renamed, then, is_offset}
 use Rattle.send.proofs.Runs.{zero_stays, run_made}
 use Rattle.send.proofs.Sizes.{length_run}
 use Rattle.send.proofs.TimingCodes.{timing_is}
 use Rattle.send.proofs.timing.put_timing.Goals as goal
 
-pub put_run-requires : goal.put_run-requires
-put_run-requires c =
+pub put_run-requires-clause-d_value : goal.put_run-requires-clause-d_value
+put_run-requires-clause-d_value c =
     let p = made (c.put_sync-d1.ensures.offset, c.put_sync-d1.ensures.out) in
-    record { symbols_value = c.requires.symbols_value; flips_value = c.requires.flips_value; d_value = is_offset p; keeps_disparity = zero_stays; pairs_in_bounds = omega (arith, same_size p, c.requires.le_pairs, c.requires.pairs_in_bounds) }
+    is_offset p
 
-pub put_same-requires : goal.put_same-requires
-put_same-requires c =
+pub put_run-requires-clause-keeps_disparity : goal.put_run-requires-clause-keeps_disparity
+put_run-requires-clause-keeps_disparity c = zero_stays
+
+pub put_same-requires-clause-d_value : goal.put_same-requires-clause-d_value
+put_same-requires-clause-d_value c =
     let p = made (c.put_sync-d1.ensures.offset, c.put_sync-d1.ensures.out) in
-    let q = run_made (is_offset p) (3 * c.args.pairs - 2) zero_stays c.put_run.ensures in
-    record { symbols_value = c.requires.symbols_value; flips_value = c.requires.flips_value; le_pairs = c.requires.le_pairs; pairs_bound = c.requires.pairs_bound; d_value = is_offset p; pairs_in_bounds = omega (arith, same_size p, same_size q, c.requires.pairs_in_bounds) }
+    is_offset p
 
 pub returns : goal.returns
 returns c =
