@@ -34,7 +34,7 @@ returns-then-is_err c =
     let told = whole_told a.f w is (sym c.in_ok-v.was ∙ c.take.ensures.taken ∙ taken_is a.f w is a.rows.now c.requires.rows_len) in
     record {
       answer = c.read_words-read.ensures;
-      rows = refused_rows a.f w is a.rows.now told.0 _ c.read_words-read.ensures (sym c.is_err.ensures.value ∙ c.if-is_err.true) _ (search rules) c.fill.ensures;
+      rows = refused_rows a.f w is a.rows.now told.0 _ c.read_words-read.ensures (sym c.is_err.ensures.value ∙ c.if-is_err.true) _ (search rules) (c.fill.ensures.after (λ y e. e));
     }
 
 pub returns-else-is_err : goal.returns-else-is_err
