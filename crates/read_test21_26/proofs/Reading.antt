@@ -133,10 +133,6 @@ module _ (p : Shape) (w : List ℕ) (i : ℕ) where
 -- ---- places
 
 module _ (s : ℕ) (some_streams : 1 ≤ s) (k : ℕ) where
-  -- word k / s stands at or before k
-  pub word_before : s * (k / s) ≤ k
-  word_before = omega (arith, place_again s some_streams k)
-
   -- the first word of a group of s
   pub first_word : (j : ℕ) → k ≡ j * s → k / s ≡ j
   first_word j e =

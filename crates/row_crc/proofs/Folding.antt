@@ -16,13 +16,9 @@ use Rattle.ground.proofs.Writing.{table_same}
 use Rattle.ground.proofs.Xors.{⊕_zero, zero_⊕, ⊕_self, ⊕_comm, ⊕_assoc, ⊕_middle}
 use Rattle.crcc.specs.Crcc.{crc, crc_word}
 use Rattle.crcc.proofs.Linear.{crc_next, crc_sum}
-use Rattle.row_crc.specs.declared.fold.Two.{Two}
 use Rattle.row_crc.specs.Inside.Fold.{with_moved, left, Empty, FoldInv}
 use Rattle.row_crc.specs.Inside.Sums.{words_in}
 use Rattle.row_crc.proofs.Moving.{zeros, only, moves, moves_nothing}
-
-pub two_same : {a b x y : ℕ} → a ≡ x → b ≡ y → ◌≡◌ {A = Two} (record { a = a; b = b }) (record { a = x; b = y })
-two_same p q = rw (p, q)
 
 -- ---- the room for what is moved
 
@@ -37,9 +33,6 @@ empty_room =
 -- all of it, as the code lends it
 pub whole_room : (l : List ℕ) → length l ≡ 1984 → take 1984 (l ++ []) ≡ l
 whole_room l e = ap (take 1984) (append-nil l) ∙ take_all 1984 l (omega arith)
-
-pub room_long : (l : List ℕ) → length l ≡ 1984 → 1984 ≤ length (l ++ [])
-room_long l e = rw (append-nil l) (omega arith)
 
 -- ---- one word
 
