@@ -9,6 +9,7 @@ use native.Mathlib.Omega.{arith}
 use types.Run.{OneOf}
 use lib.ListN.{length, take}
 use lib.Seq.{sets, length-sets, length-take-le}
+use Rattle.std.specs.Prelude.{Result, Ok, Err}
 use Rattle.io.specs.Counts.{IsPrefixLen}
 use Rattle.ground.specs.Answer.{refused, given}
 use Rattle.ground.proofs.Putting.{Put, put_length}
@@ -17,8 +18,8 @@ use Rattle.text.specs.Put.{end_of, put_of}
 use Rattle.text.proofs.Putting.{put_told}
 use Rattle.generate.specs.declared.left.Left.{Left}
 use Rattle.generate.specs.declared.parameters.Parameters.{Parameters}
-use Rattle.generate.specs.declared.parameters.Wanted.{Wanted}
-use Rattle.generate.specs.declared.parameters.Wanted.TheVariants.{Recording, UnknownFormat, NoLine, WrongInput}
+use Rattle.generate.specs.declared.parameters.WantError.{WantError}
+use Rattle.generate.specs.declared.parameters.WantError.TheVariants.{UnknownFormat, NoLine, WrongInput}
 use Rattle.generate.specs.declared.start.Start.{Start}
 use Rattle.generate.specs.Generated.{refused_with, refusal_by, refusal}
 use Rattle.generate.specs.Parameters.{wanted_of}
@@ -59,12 +60,12 @@ module _ (input before : List ℕ) where
 
   -- nothing, where nothing is wanted that is not refused
   pub no_start :
-      (r : Wanted) → ((p : Parameters) → r ≡ Recording p → ⊥) → paper_wanted r ≡ wanted_of input → {left : Left} → left ≡ nothing
+      (r : Result Parameters WantError) → ((p : Parameters) → r ≡ Ok p → ⊥) → paper_wanted r ≡ wanted_of input → {left : Left} → left ≡ nothing
       → Started input before before (record { end = 0; left = left })
-  no_start (Recording p) x e rest = absurd (x p refl)
-  no_start UnknownFormat x e rest = refused_start (sym e) rest
-  no_start NoLine x e rest = refused_start (sym e) rest
-  no_start WrongInput x e rest = refused_start (sym e) rest
+  no_start (Ok p) x e rest = absurd (x p refl)
+  no_start (Err UnknownFormat) x e rest = refused_start (sym e) rest
+  no_start (Err NoLine) x e rest = refused_start (sym e) rest
+  no_start (Err WrongInput) x e rest = refused_start (sym e) rest
 
   -- the header
   pub header :

@@ -1,10 +1,11 @@
 -- What is answered where all refusals are told as one.
 -- Assumes nothing.
+use Rattle.std.specs.Prelude.{Some, None, Ok, Err}
 use mathlib.Core.Path.{◌≡◌, refl, sym, ap, ◌∙◌}
 use mathlib.Core.Bool.{true, false, true≢false, ◌&&◌}
 use mathlib.Core.List.{List}
 use mathlib.Core.Logic.{⊎_elim}
-use mathlib.Core.Option.{none, some}
+use mathlib.Core.Option.{none}
 use Prim.Native.Nat.{ℕ}
 use native.Mathlib.Nat.{eq-or-lt_of_le}
 use native.Mathlib.Omega.{arith}
@@ -26,9 +27,7 @@ use Rattle.window.proofs.Windows.{unknown, no_window, no_room, read_is}
 use Rattle.read_test20.specs.declared.whole.Valid.{Valid}
 use Rattle.read_test20.specs.Inside.Run.{place20}
 use Rattle.read_test20.specs.Inside.Whole.{valid_of, is_all_valid, whole_if, rows_whole}
-use Rattle.read_test21_26.specs.declared.service.Verdict.{Verdict}
-use Rattle.read_test21_26.specs.declared.service.Verdict.TheVariants.{AllHold, Fails}
-use Rattle.read_test21_26.specs.Inside.Verdict.{is_failed, first_row}
+use Rattle.read_test21_26.specs.Inside.Verdict.{Verdict, is_failed, first_row}
 use Rattle.read.specs.Inside.Accept.{delivered_in, rows_accepted}
 use Rattle.read.specs.Inside.Picture.{line_tests, picture_tests}
 use Rattle.read.proofs.Picturing.{fill_refused}
@@ -37,15 +36,27 @@ use Rattle.read.proofs.Windows.{place_most, read_20, read_by, first_hold}
 
 -- ---- a test that does not hold
 failed_none : (d : Delivery) (v : Verdict) → is_failed v ≡ true → none ≡ delivered_in (answer_by v d)
-failed_none d AllHold t = absurd (true≢false (sym t))
-failed_none d (Fails x) t = refl
+failed_none d (Ok done) t = absurd (true≢false (sym t))
+failed_none d (Err x) t = refl
 
 then_failed : (v more : Verdict) → is_failed more ≡ true → is_failed (then_by v more) ≡ true
-then_failed AllHold more t = t
-then_failed (Fails x) more t = refl
+then_failed (Ok done) more t = t
+then_failed (Err x) more t = refl
+
+failed_then : (v more : Verdict) → is_failed v ≡ true → is_failed (then_by v more) ≡ true
+failed_then (Ok done) more t = absurd (true≢false (sym t))
+failed_then (Err x) more t = refl
+
+-- tests 21 to 24
+pub not_served : (f : Format) (w : List ℕ) → IsWindow f w → place20 (shape_of f) w ≡ length w → is_failed (first_row (line_tests f w)) ≡ true
+    → none ≡ delivered_in (read_span f w)
+not_served f w is all t =
+    failed_none (delivery_of f w) (then_by (first_row (line_tests f w)) (first_row (picture_tests f w)))
+    (failed_then (first_row (line_tests f w)) (first_row (picture_tests f w)) t)
+    ∙ sym (ap delivered_in (read_by f w is all (then_by_lem (line_tests f w) (picture_tests f w))))
 
 -- tests 25 and 26 after those that hold
-module _ (f : Format) (w : List ℕ) (is : IsWindow f w) (all : place20 (shape_of f) w ≡ length w) (hold : first_row (line_tests f w) ≡ AllHold) where
+module _ (f : Format) (w : List ℕ) (is : IsWindow f w) (all : place20 (shape_of f) w ≡ length w) (hold : first_row (line_tests f w) ≡ Ok tt) where
   pub not_accepted : is_failed (first_row (picture_tests f w)) ≡ true → none ≡ delivered_in (read_span f w)
   not_accepted t =
       failed_none (delivery_of f w) (first_row (picture_tests f w)) t ∙ sym (ap delivered_in (read_by f w is all (first_hold f w is hold)))
@@ -72,13 +83,13 @@ module _ (f : Format) (w : List ℕ) (room : ℕ) where
     pub filled : fill_right (shape_of f) w ≡ true
     pub whole : is_all_valid f w room ≡ true
 
-  pub right : {v : Valid} → some v ≡ whole_if f w room → Right v
+  pub right : {v : Valid} → Some v ≡ whole_if f w room → Right v
   right {v} e =
       on_test (is_all_valid f w room)
       (λ t.
       let fit : ready f (length w) room ≡ true = both_left (ready f (length w) room) (eqb place (length w) && fill_right (shape_of f) w) t in
       let both = both_right (ready f (length w) room) (eqb place (length w) && fill_right (shape_of f) w) t in
-      let same : some v ≡ some (valid_of (shape_of f) w) = rw t at e in
+      let same : Some v ≡ Some (valid_of (shape_of f) w) = rw t at e in
       record {
         is = record { known = known_then f (length w) room fit; long = symbols_then f (length w) room fit };
         enough = rows_then f (length w) room fit;
@@ -90,7 +101,7 @@ module _ (f : Format) (w : List ℕ) (room : ℕ) where
       (λ t. let z : ◌≡◌ {A = ℕ} 0 1 = cc (rw t at e) in absurd (omega arith))
 
   -- what it does not say is refused, by one number or another
-  pub wrong : none ≡ whole_if f w room → none ≡ delivered_in (read_of f w room)
+  pub wrong : None ≡ whole_if f w room → none ≡ delivered_in (read_of f w room)
   wrong e = on_test (is_known f) with_format (λ t. sym (ap delivered_in (unknown f w room t).0))
     where
       whole_not : is_all_valid f w room ≡ true → ⊥

@@ -1,5 +1,6 @@
 -- Tests 25 and 26: where the picture and the fill are right they hold, and else they fail at the lowest place.
 -- Assumes nothing.
+use Rattle.std.specs.Prelude.{Ok}
 use mathlib.Core.Path.{◌≡◌, refl, sym, ap, ◌∙◌, fun_ext}
 use mathlib.Core.Bool.{Bool, true, false, true≢false, not}
 use mathlib.Core.List.{List, [], ◌∷◌}
@@ -34,9 +35,9 @@ use Rattle.window.proofs.Placing.{place_again, stream_below, placed_at}
 use Rattle.read_test21_26.specs.Inside.Call.{wrong25, wrong26}
 use Rattle.read_test21_26.specs.Inside.Holds.{picture25, fill26, wrong_in}
 use Rattle.read_test21_26.specs.Inside.Picture.{all_allowed}
-use Rattle.read_test21_26.specs.declared.service.Verdict.{Verdict}
-use Rattle.read_test21_26.specs.declared.service.Verdict.TheVariants.{AllHold}
-use Rattle.read_test21_26.specs.Inside.Verdict.{verdict_of, is_failed, first_row}
+use Rattle.read_test21_26.specs.declared.service.Test.{Test}
+use Rattle.read_test21_26.specs.declared.service.Test.TheVariants.{Sample, Fill}
+use Rattle.read_test21_26.specs.Inside.Verdict.{Verdict, verdict_of, is_failed, first_row}
 use Rattle.window.specs.Inside.Window.{IsWindow}
 use Rattle.window.proofs.Windows.{length_rows}
 use Rattle.read.specs.Inside.Picture.{picture_tests, right_picture}
@@ -160,9 +161,9 @@ module _ (f : Format) (w : List ℕ) (is : IsWindow f w) where
           let m : s * (5 + i) ≤ s * eav_start = mul-le-mul_left s (let h : 5 + i ≤ eav_start = omega arith in h) in omega (arith, m)
 
   -- the verdict of a search that finds something, whatever follows
-  found_some : (number : ℕ) (rest : Verdict) (o : Option ℕ) → (o ≡ none → ⊥) → verdict_of number o AllHold ≡ verdict_of number o rest
-  found_some number rest none x = absurd (x refl)
-  found_some number rest (some k) x = refl
+  found_some : (test : Test) (rest : Verdict) (o : Option ℕ) → (o ≡ none → ⊥) → verdict_of test o (Ok tt) ≡ verdict_of test o rest
+  found_some test rest none x = absurd (x refl)
+  found_some test rest (some k) x = refl
 
   -- a word of the picture stands among its places, and the other way round
   outside_25 : (k : ℕ) → (picture_start * s ≤ k → eav_start * s ≤ k) → placed s (holds25 s word f) k ≡ true
@@ -195,13 +196,13 @@ module _ (f : Format) (w : List ℕ) (is : IsWindow f w) where
   right_25 t = on_test (is_active (line_read s word)) (λ a. active_25 a ∙ words_allowed (rw a at t)) blank_25
 
   pub wrong_25 : (rest : Verdict) → right_picture f (line_read s word) (picture_of f w) ≡ false
-      → verdict_of 25 (wrong25 f w) AllHold ≡ verdict_of 25 fails25 rest
+      → verdict_of Sample (wrong25 f w) (Ok tt) ≡ verdict_of Sample fails25 rest
   unfolding picture_of wrong25
   wrong_25 rest t =
       on_test (is_active (line_read s word))
       (λ a.
-      found_some 25 rest (wrong_in asked25 (picture_start * s) (eav_start * s)) (λ e. true≢false (sym (none_wrong e) ∙ rw a at t))
-      ∙ ap (λ (o : Option ℕ). verdict_of 25 o rest) (sym (active_25 a)))
+      found_some Sample rest (wrong_in asked25 (picture_start * s) (eav_start * s)) (λ e. true≢false (sym (none_wrong e) ∙ rw a at t))
+      ∙ ap (λ (o : Option ℕ). verdict_of Sample o rest) (sym (active_25 a)))
       (λ a. absurd (true≢false (rw a at t)))
 
   -- ---- 26
@@ -244,41 +245,41 @@ module _ (f : Format) (w : List ℕ) (is : IsWindow f w) where
   pub right_26 : fill_right (shape_of f) w ≡ true → fails26 ≡ none
   right_26 t = fill_26 ∙ is_none _ (sym looked_26 ∙ t)
 
-  pub wrong_26 : verdict_of 26 (wrong26 f w) AllHold ≡ verdict_of 26 fails26 AllHold
+  pub wrong_26 : verdict_of Fill (wrong26 f w) (Ok tt) ≡ verdict_of Fill fails26 (Ok tt)
   unfolding wrong26
-  wrong_26 = ap (λ (o : Option ℕ). verdict_of 26 o AllHold) (sym fill_26)
+  wrong_26 = ap (λ (o : Option ℕ). verdict_of Fill o (Ok tt)) (sym fill_26)
 
   -- ---- the verdict over both
-  pub both_hold : right_picture f (line_read s word) (picture_of f w) ≡ true → fill_right (shape_of f) w ≡ true → AllHold ≡ first_row (picture_tests f w)
+  pub both_hold : right_picture f (line_read s word) (picture_of f w) ≡ true → fill_right (shape_of f) w ≡ true → (Ok tt) ≡ first_row (picture_tests f w)
   both_hold t u = rw (right_25 t, right_26 u)
 
-  pub fill_fails : {v : Verdict} → right_picture f (line_read s word) (picture_of f w) ≡ true → v ≡ verdict_of 26 (wrong26 f w) AllHold
+  pub fill_fails : {v : Verdict} → right_picture f (line_read s word) (picture_of f w) ≡ true → v ≡ verdict_of Fill (wrong26 f w) (Ok tt)
       → v ≡ first_row (picture_tests f w)
-  fill_fails t e = e ∙ wrong_26 ∙ ap (λ (o : Option ℕ). verdict_of 25 o (verdict_of 26 fails26 AllHold)) (sym (right_25 t))
+  fill_fails t e = e ∙ wrong_26 ∙ ap (λ (o : Option ℕ). verdict_of Sample o (verdict_of Fill fails26 (Ok tt))) (sym (right_25 t))
 
-  pub picture_fails : {v : Verdict} → right_picture f (line_read s word) (picture_of f w) ≡ false → v ≡ verdict_of 25 (wrong25 f w) AllHold
+  pub picture_fails : {v : Verdict} → right_picture f (line_read s word) (picture_of f w) ≡ false → v ≡ verdict_of Sample (wrong25 f w) (Ok tt)
       → v ≡ first_row (picture_tests f w)
-  picture_fails t e = e ∙ wrong_25 (verdict_of 26 fails26 AllHold) t
+  picture_fails t e = e ∙ wrong_25 (verdict_of Fill fails26 (Ok tt)) t
 
   -- ---- that they do not hold, without a place
-  first_failed : (number : ℕ) (rest : Verdict) (o : Option ℕ) → (o ≡ none → ⊥) → is_failed (verdict_of number o rest) ≡ true
-  first_failed number rest none x = absurd (x refl)
-  first_failed number rest (some k) x = refl
+  first_failed : (test : Test) (rest : Verdict) (o : Option ℕ) → (o ≡ none → ⊥) → is_failed (verdict_of test o rest) ≡ true
+  first_failed test rest none x = absurd (x refl)
+  first_failed test rest (some k) x = refl
 
-  rest_failed : (number : ℕ) (rest : Verdict) (o : Option ℕ) → is_failed rest ≡ true → is_failed (verdict_of number o rest) ≡ true
-  rest_failed number rest none t = t
-  rest_failed number rest (some k) t = refl
+  rest_failed : (test : Test) (rest : Verdict) (o : Option ℕ) → is_failed rest ≡ true → is_failed (verdict_of test o rest) ≡ true
+  rest_failed test rest none t = t
+  rest_failed test rest (some k) t = refl
 
   pub picture_refused : right_picture f (line_read s word) (picture_of f w) ≡ false → is_failed (first_row (picture_tests f w)) ≡ true
   unfolding picture_of
   picture_refused t =
-      first_failed 25 (verdict_of 26 fails26 AllHold) fails25
+      first_failed Sample (verdict_of Fill fails26 (Ok tt)) fails25
       (λ e.
       on_test (is_active (line_read s word)) (λ a. true≢false (sym (none_wrong (sym (active_25 a) ∙ e)) ∙ rw a at t))
       (λ a. true≢false (rw a at t)))
 
   pub fill_refused : fill_right (shape_of f) w ≡ false → is_failed (first_row (picture_tests f w)) ≡ true
   fill_refused t =
-      rest_failed 25 (verdict_of 26 fails26 AllHold) fails25
-      (first_failed 26 AllHold fails26
+      rest_failed Sample (verdict_of Fill fails26 (Ok tt)) fails25
+      (first_failed Fill (Ok tt) fails26
       (λ e. true≢false (sym (looked_26 ∙ ap (λ (o : Option ℕ). not (is_some o)) (sym fill_26 ∙ e)) ∙ t)))

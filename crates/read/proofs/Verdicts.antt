@@ -1,50 +1,46 @@
 -- What a verdict over a list of tests says of the answer.
 -- Assumes nothing.
+use Rattle.std.specs.Prelude.{Some, None, Result, Ok, Err, IsErrAnd}
+use Rattle.std.specs.Result.{result_ok}
 use mathlib.Core.Path.{◌≡◌, refl, sym, ap}
-use mathlib.Core.Bool.{Bool, true, ◌&&◌, true≢false}
+use mathlib.Core.Bool.{Bool, true, ◌&&◌}
 use mathlib.Core.List.{List, [], ◌∷◌, ◌++◌}
 use mathlib.Core.Option.{Option, none, some}
 use Prim.Native.Nat.{ℕ, ◌≤◌}
 use native.Mathlib.Omega.{arith}
-use lib.Dec.{leb}
-use borrow.Author.Tests.{leb-true}
+use lib.Dec.{leb, eqb}
+use borrow.Author.Tests.{leb-true, eqb-true, eqb-false}
 use Rattle.ground.specs.Answer.{Answer, Row, refused, given, checked}
+use Rattle.ground.proofs.Cases.{on_test}
 use Rattle.ground.proofs.Tests.{both_left, both_right}
-use Rattle.read_test21_26.specs.declared.call.Judged.TheVariants.{Serves, Refused, NoWindow}
-use Rattle.read_test21_26.specs.declared.call.Lowest.TheVariants.{Place, NoneWrong, NoWindow as NotWindow}
+use Rattle.read_test21_26.specs.declared.call.JudgeError.TheVariants.{Fails, NoWindow}
 use Rattle.read_test21_26.specs.declared.call.Service.{Service}
 use Rattle.read_test21_26.specs.declared.service.Fault.{Fault}
-use Rattle.read_test21_26.specs.declared.service.Verdict.{Verdict}
-use Rattle.read_test21_26.specs.declared.service.Verdict.TheVariants.{AllHold, Fails}
-use Rattle.read_test21_26.specs.Inside.Call.{judged_by, lowest_of}
-use Rattle.read_test21_26.specs.Inside.Verdict.{is_failed, verdict_of, first_row}
+use Rattle.read_test21_26.specs.declared.service.Test.{Test}
+use Rattle.read_test21_26.specs.declared.service.Test.TheVariants.{Timing, Line, V, Crcc, Sample, Fill}
+use Rattle.read_test21_26.specs.Tests.{number_of, test_of}
+use Rattle.read_test21_26.specs.Inside.Call.{judged_by}
+use Rattle.read_test21_26.specs.Inside.Verdict.{Verdict, is_failed, first_row}
 
--- ---- the answer: what was asked for if all hold, and else the refusal
-abbrev pub answer_by : {A : Type 0} → Verdict → A → Answer A
-answer_by AllHold a = given a
-answer_by (Fails x) a = refused x.number x.place
+-- ---- the tests and their numbers
+pub number_late : (t : Test) → 20 ≤ number_of t
+number_late Timing = omega arith
+number_late Line = omega arith
+number_late V = omega arith
+number_late Crcc = omega arith
+number_late Sample = omega arith
+number_late Fill = omega arith
 
-pub checked_by : {A : Type 0} (a : A) (rs : List Row) → checked rs a ≡ answer_by (first_row rs) a
-checked_by a [] = refl
-checked_by {A} a (r ∷ rs) = go r.fails refl (checked_by a rs)
-  where
-    go : (o : Option ℕ) → r.fails ≡ o → checked rs a ≡ answer_by (first_row rs) a → checked (r ∷ rs) a ≡ answer_by (first_row (r ∷ rs)) a
-    go (some k) q more = rw q
-    go none q more = rw q more
-
--- ---- tests and then more of them
-abbrev pub then_by : Verdict → Verdict → Verdict
-then_by AllHold v = v
-then_by (Fails x) v = Fails x
-
-pub then_by_lem : (rs more : List Row) → first_row (rs ++ more) ≡ then_by (first_row rs) (first_row more)
-then_by_lem [] more = refl
-then_by_lem (r ∷ rs) more = go r.fails refl (then_by_lem rs more)
-  where
-    go : (o : Option ℕ) → r.fails ≡ o → first_row (rs ++ more) ≡ then_by (first_row rs) (first_row more)
-        → first_row ((r ∷ rs) ++ more) ≡ then_by (first_row (r ∷ rs)) (first_row more)
-    go (some k) q next = rw q
-    go none q next = rw q next
+pub numbered : (n : ℕ) → 21 ≤ n → n ≤ 26 → number_of (test_of n) ≡ n
+numbered n h l =
+    on_test (eqb n 21) (λ a. rw a (sym (eqb-true n 21 a)))
+    (λ a. on_test (eqb n 22) (λ b. rw (a, b) (sym (eqb-true n 22 b)))
+    (λ b. on_test (eqb n 23) (λ d. rw (a, b, d) (sym (eqb-true n 23 d)))
+    (λ d. on_test (eqb n 24) (λ e. rw (a, b, d, e) (sym (eqb-true n 24 e)))
+    (λ e. on_test (eqb n 25) (λ g. rw (a, b, d, e, g) (sym (eqb-true n 25 g)))
+    (λ g.
+    let last : 26 ≡ n = omega (arith, eqb-false n 21 a, eqb-false n 22 b, eqb-false n 23 d, eqb-false n 24 e, eqb-false n 25 g) in
+    rw (a, b, d, e, g) last)))))
 
 -- ---- the numbers of all rows lie in a range
 abbrev pub ranged : ℕ → ℕ → List Row → Bool
@@ -67,43 +63,56 @@ module _ (low high : ℕ) where
   rest_of : (r : Row) (rs : List Row) → ranged low high (r ∷ rs) ≡ true → ranged low high rs ≡ true
   rest_of r rs t = both_right (leb low r.number && leb r.number high) (ranged low high rs) t
 
-  -- and so does that of the one that fails
-  pub in_range_lem : (rs : List Row) → ranged low high rs ≡ true → {x : Fault} → first_row rs ≡ Fails x → (low ≤ x.number) × (x.number ≤ high)
-  in_range_lem [] t e = absurd (true≢false (sym (ap is_failed e)))
-  in_range_lem (r ∷ rs) t {x} e = go r.fails refl (λ y. in_range_lem rs (rest_of r rs t) y)
-    where
-      go : (o : Option ℕ) → r.fails ≡ o → (first_row rs ≡ Fails x → (low ≤ x.number) × (x.number ≤ high)) → (low ≤ x.number) × (x.number ≤ high)
-      go (some k) q more =
-          let z : Fails (record { number = r.number; place = k }) ≡ Fails x = rw q at e in
-          let same : record { number = r.number; place = k } ≡ x = cc in
-          let n : r.number ≡ x.number = ap (λ (y : Fault). y.number) same in
-          (omega (arith, low_of r rs t), omega (arith, high_of r rs t))
-      go none q more = more (rw q at e)
+-- ---- the answer: what was asked for if all hold, and else the refusal
+abbrev pub answer_by : {A : Type 0} → Verdict → A → Answer A
+answer_by (Ok done) a = given a
+answer_by (Err x) a = refused (number_of x.test) x.place
+
+pub checked_by : {A : Type 0} (a : A) (rs : List Row) → ranged 21 26 rs ≡ true → checked rs a ≡ answer_by (first_row rs) a
+checked_by a [] t = refl
+checked_by {A} a (r ∷ rs) t = go r.fails refl (checked_by a rs (rest_of 21 26 r rs t))
+  where
+    go : (o : Option ℕ) → r.fails ≡ o → checked rs a ≡ answer_by (first_row rs) a → checked (r ∷ rs) a ≡ answer_by (first_row (r ∷ rs)) a
+    go (some k) q more = rw q (ap (λ (n : ℕ). refused n k) (sym (numbered r.number (low_of 21 26 r rs t) (high_of 21 26 r rs t))))
+    go none q more = rw q more
+
+-- ---- tests and then more of them
+abbrev pub then_by : Verdict → Verdict → Verdict
+then_by (Ok done) v = v
+then_by (Err x) v = Err x
+
+pub then_by_lem : (rs more : List Row) → first_row (rs ++ more) ≡ then_by (first_row rs) (first_row more)
+then_by_lem [] more = refl
+then_by_lem (r ∷ rs) more = go r.fails refl (then_by_lem rs more)
+  where
+    go : (o : Option ℕ) → r.fails ≡ o → first_row (rs ++ more) ≡ then_by (first_row rs) (first_row more)
+        → first_row ((r ∷ rs) ++ more) ≡ then_by (first_row (r ∷ rs)) (first_row more)
+    go (some k) q next = rw q
+    go none q next = rw q next
 
 -- ---- what is told of a window
 module _ (service : Service) where
-  pub serves_told : {s : Service} (v : Verdict) → Serves s ≡ judged_by v service → (v ≡ AllHold) × (s ≡ service)
-  serves_told AllHold e = (refl, cc)
-  serves_told (Fails x) e = let z : ◌≡◌ {A = ℕ} 0 1 = cc in absurd (omega arith)
+  pub serves_told : {s : Service} (v : Verdict) → Ok s ≡ judged_by v service → (v ≡ Ok tt) × (s ≡ service)
+  serves_told (Ok done) e = (refl, cc)
+  serves_told (Err x) e = cc
 
-  pub refused_told : {x : Fault} (v : Verdict) → Refused x ≡ judged_by v service → v ≡ Fails x
-  refused_told AllHold e = let z : ◌≡◌ {A = ℕ} 0 1 = cc in absurd (omega arith)
-  refused_told (Fails y) e = cc
+  pub refused_told : {x : Fault} (v : Verdict) → Err (Fails x) ≡ judged_by v service → v ≡ Err x
+  refused_told (Ok done) e = cc
+  refused_told (Err y) e = cc
 
-  pub never_none : {A : Type 0} (v : Verdict) → NoWindow ≡ judged_by v service → A
-  never_none AllHold e = let z : ◌≡◌ {A = ℕ} 0 1 = cc in absurd (omega arith)
-  never_none (Fails y) e = let z : ◌≡◌ {A = ℕ} 0 1 = cc in absurd (omega arith)
+  pub never_none : {A : Type 0} (v : Verdict) → Err NoWindow ≡ judged_by v service → A
+  never_none (Ok done) e = cc
+  never_none (Err y) e = cc
 
--- ---- and of a lowest place
-module _ (number : ℕ) where
-  pub place_told : (o : Option ℕ) {k : ℕ} → Place k ≡ lowest_of o → Fails (record { number = number; place = k }) ≡ verdict_of number o AllHold
-  place_told none e = let z : ◌≡◌ {A = ℕ} 0 1 = cc in absurd (omega arith)
-  place_told (some m) {k} e = let same : k ≡ m = cc in rw same
+  pub none_served : (v : Verdict) → result_ok (judged_by v service) ≡ None → is_failed v ≡ true
+  none_served (Ok done) e = cc
+  none_served (Err x) e = refl
 
-  pub none_told : (o : Option ℕ) → NoneWrong ≡ lowest_of o → AllHold ≡ verdict_of number o AllHold
-  none_told none e = refl
-  none_told (some m) e = let z : ◌≡◌ {A = ℕ} 0 1 = cc in absurd (omega arith)
+-- ---- what an answer that is handed on tells
+pub ok_told : {A E : Type 0} (o : Result A E) {x : A} → result_ok o ≡ Some x → o ≡ Ok x
+ok_told (Ok y) e = cc
+ok_told (Err y) e = cc
 
-pub always_told : {A : Type 0} (o : Option ℕ) → NotWindow ≡ lowest_of o → A
-always_told none e = let z : ◌≡◌ {A = ℕ} 0 1 = cc in absurd (omega arith)
-always_told (some m) e = let z : ◌≡◌ {A = ℕ} 0 1 = cc in absurd (omega arith)
+pub handed : {A E : Type 0} {e : E} (r : Result A E) → IsErrAnd r (λ y. y ≡ e) → r ≡ Err e
+handed (Ok x) m = absurd m
+handed (Err y) m = ap Err m

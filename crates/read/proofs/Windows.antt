@@ -1,7 +1,8 @@
 -- What the parts answer of a window, and what its reading answers.
 -- Assumes nothing.
+use Rattle.std.specs.Prelude.{Result, Ok, Err, is_err}
 use mathlib.Core.Path.{◌≡◌, refl, sym, ap, ◌∙◌}
-use mathlib.Core.Bool.{Bool, cond, not}
+use mathlib.Core.Bool.{Bool, true, false, cond, not}
 use mathlib.Core.Logic.{⊎_elim}
 use mathlib.Core.List.{List}
 use mathlib.Core.Option.{Option, none, some, get_or}
@@ -21,12 +22,11 @@ use Rattle.span.specs.Format.{shape_of, streams, samples_in, symbols_in}
 use Rattle.span.proofs.Formats.{small}
 use Rattle.span.proofs.Lengths.{known_has_streams}
 use Rattle.read_test21_26.specs.declared.call.Service.{Service}
-use Rattle.read_test21_26.specs.declared.call.Judged.{Judged}
+use Rattle.read_test21_26.specs.declared.call.JudgeError.{JudgeError}
 use Rattle.read_test21_26.specs.declared.service.Fault.{Fault}
-use Rattle.read_test21_26.specs.declared.service.Verdict.{Verdict}
-use Rattle.read_test21_26.specs.declared.service.Verdict.TheVariants.{AllHold, Fails}
-use Rattle.read_test20.specs.declared.whole.Taken.{Taken}
-use Rattle.read_test20.specs.declared.whole.Taken.TheVariants.{Whole, Invalid, NotExamined}
+use Rattle.read_test21_26.specs.declared.service.Test.{Test}
+use Rattle.read_test20.specs.declared.whole.TakeError.{TakeError}
+use Rattle.read_test20.specs.declared.whole.TakeError.TheVariants.{Invalid, NotExamined}
 use Rattle.read_test20.specs.declared.whole.Valid.{Valid}
 use Rattle.window.specs.declared.delivery.Delivery.{Delivery}
 use Rattle.crcc.specs.declared.sums.Sums.{Sums}
@@ -37,13 +37,20 @@ use Rattle.window.specs.Words.{word_at}
 use Rattle.window.specs.Inside.Columns.{sums_of}
 use Rattle.read_test20.specs.Inside.Run.{place20}
 use Rattle.read_test20.specs.Inside.Whole.{valid_of, taken_of, taken_if, rows_if}
-use Rattle.read_test21_26.specs.Inside.Call.{service_of, judged_by, service_if, lowest_of, lowest_if}
-use Rattle.read_test21_26.specs.Inside.Verdict.{first_row}
+use Rattle.read_test21_26.specs.Inside.Call.{service_of, judged_by, service_if, lowest_if}
+use Rattle.read_test21_26.specs.Inside.Holds.{lowest_of}
+use Rattle.read_test21_26.specs.Inside.Verdict.{Verdict, first_row}
 use Rattle.window.specs.Inside.Window.{IsWindow}
 use Rattle.window.proofs.Windows.{long, read_is}
+use Rattle.read_test21_26.specs.Tests.{number_of}
+use Rattle.read_test21_26.specs.declared.call.JudgeError.TheVariants.{NoWindow, Fails}
+use Rattle.read.specs.declared.answer.ReadError.{ReadError}
+use Rattle.read.specs.declared.answer.ReadError.TheVariants.{UnknownFormat, WrongInput, WrongOutput, WrongSymbol, Fails as Wrong}
+use Rattle.read.specs.Call.{paper_read}
+use Rattle.read.specs.Inside.Answer.{read_taken, read_judged}
 use Rattle.read.specs.Inside.Picture.{line_tests, picture_tests, wrong_place}
 use Rattle.read.proofs.Summing.{sums_right}
-use Rattle.read.proofs.Verdicts.{answer_by, checked_by, then_by, then_by_lem, in_range_lem}
+use Rattle.read.proofs.Verdicts.{answer_by, checked_by, then_by, then_by_lem, number_late, refused_told, never_none}
 
 -- the place of test 20 is no further than the end
 pub place_most : (p : Shape) (w : List ℕ) → place20 p w ≤ length w
@@ -60,7 +67,7 @@ module _ (f : Format) (w : List ℕ) (is : IsWindow f w) where
   word = word_at (shape_of f) w
 
   -- ---- the parts
-  pub judged_is : {r : Judged} {c : Sums} → c ≡ sums_of (shape_of f) w → r ≡ service_if f w c
+  pub judged_is : {r : Result Service JudgeError} {c : Sums} → c ≡ sums_of (shape_of f) w → r ≡ service_if f w c
       → r ≡ judged_by (first_row (line_tests f w)) (service_of (shape_of f) w)
   judged_is sums answer =
       let p = shape_of f in
@@ -69,8 +76,8 @@ module _ (f : Format) (w : List ℕ) (is : IsWindow f w) where
       (ap (λ (rs : List Row). judged_by (first_row rs) (service_of p w))
       (sums_right p w (known_has_streams f is.known) (small f refl).half f refl))
 
-  pub lowest_is : (number : ℕ) → lowest_if number f w ≡ lowest_of (wrong_place number f w)
-  lowest_is number = rw (is.known, long)
+  pub lowest_is : (test : Test) → lowest_if test f w ≡ Ok (lowest_of (wrong_place test f w))
+  lowest_is test = rw (is.known, long)
 
   -- ---- test 20
   abbrev wrong20 : ℕ → Bool
@@ -116,40 +123,40 @@ module _ (f : Format) (w : List ℕ) (is : IsWindow f w) where
 
   -- each of its answers tells which it was
   module _ where
-    abbrev answer : Bool → Taken
-    answer whole = cond whole (Whole (valid_of (shape_of f) w)) (Invalid (place20 (shape_of f) w))
+    abbrev answer : Bool → Result Valid TakeError
+    answer whole = cond whole (Ok (valid_of (shape_of f) w)) (Err (Invalid (place20 (shape_of f) w)))
 
-    pub whole_told : {v : Valid} → Whole v ≡ taken_of (shape_of f) w → (place20 (shape_of f) w ≡ length w) × (v ≡ valid_of (shape_of f) w)
+    pub whole_told : {v : Valid} → Ok v ≡ taken_of (shape_of f) w → (place20 (shape_of f) w ≡ length w) × (v ≡ valid_of (shape_of f) w)
     whole_told {v} e =
         on_test (eqb (place20 (shape_of f) w) (length w))
-        (λ t. (eqb-true _ _ t, let q : Whole v ≡ Whole (valid_of (shape_of f) w) = e ∙ ap answer t in cc))
+        (λ t. (eqb-true _ _ t, let q : Ok v ≡ Ok (valid_of (shape_of f) w) = e ∙ ap answer t in cc))
         (λ t.
-        let q : Whole v ≡ Invalid (place20 (shape_of f) w) = e ∙ ap answer t in
+        let q : Ok v ≡ Err (Invalid (place20 (shape_of f) w)) = e ∙ ap answer t in
         let z : ◌≡◌ {A = ℕ} 0 1 = cc in
         absurd (omega arith))
 
-    pub invalid_told : {k : ℕ} → Invalid k ≡ taken_of (shape_of f) w → (place20 (shape_of f) w < length w) × (k ≡ place20 (shape_of f) w)
+    pub invalid_told : {k : ℕ} → Err (Invalid k) ≡ taken_of (shape_of f) w → (place20 (shape_of f) w < length w) × (k ≡ place20 (shape_of f) w)
     invalid_told {k} e =
         on_test (eqb (place20 (shape_of f) w) (length w))
         (λ t.
-        let q : Invalid k ≡ Whole (valid_of (shape_of f) w) = e ∙ ap answer t in
+        let q : Err (Invalid k) ≡ Ok (valid_of (shape_of f) w) = e ∙ ap answer t in
         let z : ◌≡◌ {A = ℕ} 0 1 = cc in
         absurd (omega arith))
         (λ t.
-        let q : Invalid k ≡ Invalid (place20 (shape_of f) w) = e ∙ ap answer t in (
+        let q : Err (Invalid k) ≡ Err (Invalid (place20 (shape_of f) w)) = e ∙ ap answer t in (
           ⊎_elim (λ x. absurd (eqb-false _ _ t x)) (λ x. x) (eq-or-lt_of_le (place_most (shape_of f) w)),
           cc,
         ))
 
-    pub always_examined : {A : Type 0} → NotExamined ≡ taken_of (shape_of f) w → A
+    pub always_examined : {A : Type 0} → Err NotExamined ≡ taken_of (shape_of f) w → A
     always_examined e =
         on_test (eqb (place20 (shape_of f) w) (length w))
         (λ t.
-        let q : NotExamined ≡ Whole (valid_of (shape_of f) w) = e ∙ ap answer t in
+        let q : Err NotExamined ≡ Ok (valid_of (shape_of f) w) = e ∙ ap answer t in
         let z : ◌≡◌ {A = ℕ} 0 1 = cc in
         absurd (omega arith))
         (λ t.
-        let q : NotExamined ≡ Invalid (place20 (shape_of f) w) = e ∙ ap answer t in
+        let q : Err NotExamined ≡ Err (Invalid (place20 (shape_of f) w)) = e ∙ ap answer t in
         let z : ◌≡◌ {A = ℕ} 0 1 = cc in
         absurd (omega arith))
 
@@ -161,23 +168,52 @@ module _ (f : Format) (w : List ℕ) (is : IsWindow f w) where
   pub read_by : {v : Verdict} → place20 (shape_of f) w ≡ length w → first_row (word_tests f word) ≡ v → read_span f w ≡ answer_by v (delivery_of f w)
   unfolding read_span
   read_by all e =
-      rw (none_20 all) (checked_by (delivery_of f w) (word_tests f word) ∙ ap (λ (v : Verdict). answer_by v (delivery_of f w)) e)
+      rw (none_20 all) (checked_by (delivery_of f w) (word_tests f word) refl ∙ ap (λ (v : Verdict). answer_by v (delivery_of f w)) e)
 
   -- tests 21 to 24, and then the others
-  pub first_fails : {x : Fault} → first_row (line_tests f w) ≡ Fails x → first_row (word_tests f word) ≡ Fails x
+  pub first_fails : {x : Fault} → first_row (line_tests f w) ≡ Err x → first_row (word_tests f word) ≡ Err x
   first_fails e = then_by_lem (line_tests f w) (picture_tests f w) ∙ ap (λ (v : Verdict). then_by v (first_row (picture_tests f w))) e
 
-  pub first_hold : first_row (line_tests f w) ≡ AllHold → first_row (word_tests f word) ≡ first_row (picture_tests f w)
+  pub first_hold : first_row (line_tests f w) ≡ Ok tt → first_row (word_tests f word) ≡ first_row (picture_tests f w)
   first_hold e = then_by_lem (line_tests f w) (picture_tests f w) ∙ ap (λ (v : Verdict). then_by v (first_row (picture_tests f w))) e
 
-  -- the number of one that fails
-  pub met_range : {x : Fault} → first_row (word_tests f word) ≡ Fails x → (21 ≤ x.number) × (x.number ≤ 26)
-  met_range e = in_range_lem 21 26 (word_tests f word) refl e
+  -- ---- what is handed on
+  pub taken_refused : (e : TakeError) → Err e ≡ taken_of (shape_of f) w → paper_read (Err (read_taken e)) ≡ read_span f w
+  taken_refused (Invalid k) e = let told = invalid_told e in ap (λ (k : ℕ). refused 20 k) told.1 ∙ sym (read_20 told.0)
+  taken_refused NotExamined e = always_examined e
 
--- ---- the rows afterwards
-module _ {number place : ℕ} (f : Format) (w entry made : List ℕ) (e : read_span f w ≡ refused number place) where
-  pub rows_zero : {l : List ℕ} (n : ℕ) → 20 ≤ number → n ≡ length entry → l ≡ replicate n 0 → l ≡ rows_left (read_span f w) entry made
-  rows_zero n h q zero = zero ∙ rw (e, le-ltb number 20 h, q)
+  pub judged_refused : (e : JudgeError) → place20 (shape_of f) w ≡ length w → Err e ≡ judged_by (first_row (line_tests f w)) (service_of (shape_of f) w)
+      → paper_read (Err (read_judged e)) ≡ read_span f w
+  judged_refused (Fails x) all e = sym (read_by all (first_fails (refused_told (service_of (shape_of f) w) (first_row (line_tests f w)) e)))
+  judged_refused NoWindow all e = never_none (service_of (shape_of f) w) (first_row (line_tests f w)) e
+
+  -- ---- and the rows with it
+  module _ (rows : List ℕ) {left : List ℕ} (room : length rows ≡ samples_in (shape_of f)) where
+    pub taken_rows : (e : TakeError) → Err e ≡ taken_of (shape_of f) w → left ≡ rows_if f w rows → left ≡ rows_left (read_span f w) rows (picture_of f w)
+    taken_rows (Invalid k) e is =
+        let told = invalid_told e in
+        is ∙ rows_invalid rows room told.0 ∙ rw (read_20 told.0)
+    taken_rows NotExamined e is = always_examined e
+
+  module _ (entry : List ℕ) {left : List ℕ} (all : place20 (shape_of f) w ≡ length w) where
+    pub read_rows : (r : Result Delivery ReadError) → paper_read r ≡ read_span f w → is_err r ≡ false → left ≡ picture_of f w
+        → left ≡ rows_left (read_span f w) entry (picture_of f w)
+    read_rows (Ok d) e t is = is ∙ rw (← e)
+    read_rows (Err x) e t is = cc
+
+    pub refused_rows : (r : Result Delivery ReadError) → paper_read r ≡ read_span f w → is_err r ≡ true → (n : ℕ) → n ≡ length entry → left ≡ replicate n 0
+        → left ≡ rows_left (read_span f w) entry (picture_of f w)
+    refused_rows r e t n size zero = go (first_row (word_tests f word)) refl r e t
+      where
+        go : (v : Verdict) → first_row (word_tests f word) ≡ v → (r : Result Delivery ReadError) → paper_read r ≡ read_span f w → is_err r ≡ true
+            → left ≡ rows_left (read_span f w) entry (picture_of f w)
+        go (Err x) q r e t = zero ∙ rw (read_by all q, le-ltb (number_of x.test) 20 (number_late x.test), size)
+        go (Ok done) q (Ok d) e t = cc
+        go (Ok done) q (Err UnknownFormat) e t = let z = e ∙ read_by all q in cc
+        go (Ok done) q (Err WrongInput) e t = let z = e ∙ read_by all q in cc
+        go (Ok done) q (Err WrongOutput) e t = let z = e ∙ read_by all q in cc
+        go (Ok done) q (Err (WrongSymbol k)) e t = let z = e ∙ read_by all q in cc
+        go (Ok done) q (Err (Wrong x)) e t = let z = e ∙ read_by all q in cc
 
 -- ---- the values of a delivery
 pub delivery_is : (f : Format) (w : List ℕ) → IsWindow f w → {v : Valid} {service : Service} → v ≡ valid_of (shape_of f) w

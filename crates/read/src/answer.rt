@@ -1,49 +1,54 @@
-// What reading or judging a span answers.
-ghost use Rattle.std.specs.Prelude.{◌≡◌, ◌≤◌};
-ghost use Rattle.ground.specs.Answer.{refused};
-ghost use Rattle.read.specs.Call.{paper_read};
+// Why a span is not read.
+ghost use Rattle.std.specs.Prelude.{◌≡◌};
+ghost use Rattle.read.specs.declared.answer.ReadError.TheVariants.{Fails};
+ghost use Rattle.read.specs.Inside.Answer.{read_taken, read_judged};
 
-use window::delivery::Delivery;
+use read_test20::whole::TakeError;
+use read_test21_26::call::JudgeError;
+use read_test21_26::service::Fault;
 
-#[derive(Drop)]
-pub enum Read {
-    Delivered(Delivery),
+#[derive(Clone, Copy, Debug, PartialEq, Eq)]
+pub enum ReadError {
     // 1
     UnknownFormat,
     // 3
     WrongInput,
     // 4: only for a call with rows.
     WrongOutput,
-    // 20 to 26, each with its place: a symbol for 20, else an interleaved word.
+    // 20, with its symbol.
     WrongSymbol(usize),
-    WrongTiming(usize),
-    WrongLine(usize),
-    WrongV(usize),
-    WrongCrcc(usize),
-    WrongSample(usize),
-    WrongFill(usize),
+    // 21 to 26, with its interleaved word.
+    Fails(Fault),
 }
 
-// The answer for one of tests 21 to 26 that does not hold at a place.
-pub(crate) fn refusal(number: u8, place: usize) -> Read
-    requires le_number { 21 ≤ number }
-    requires number_bound { number ≤ 26 }
-    ensures { paper_read result ≡ refused number place }
-{
-    if number == 21 {
-        return Read::WrongTiming(place);
+impl From<TakeError> for ReadError {
+    ghost from_gives = { λ x e. e ≡ read_taken x };
+
+    fn from(x: TakeError) -> ReadError {
+        match x {
+            TakeError::Invalid(place) => ReadError::WrongSymbol(place),
+            // Not met: the lengths were judged before.
+            TakeError::NotExamined => ReadError::WrongInput,
+        }
     }
-    if number == 22 {
-        return Read::WrongLine(place);
+}
+
+impl From<JudgeError> for ReadError {
+    ghost from_gives = { λ x e. e ≡ read_judged x };
+
+    fn from(x: JudgeError) -> ReadError {
+        match x {
+            JudgeError::Fails(fault) => ReadError::Fails(fault),
+            // Not met: the lengths were judged before.
+            JudgeError::NoWindow => ReadError::WrongInput,
+        }
     }
-    if number == 23 {
-        return Read::WrongV(place);
+}
+
+impl From<Fault> for ReadError {
+    ghost from_gives = { λ x e. e ≡ Fails x };
+
+    fn from(x: Fault) -> ReadError {
+        ReadError::Fails(x)
     }
-    if number == 24 {
-        return Read::WrongCrcc(place);
-    }
-    if number == 25 {
-        return Read::WrongSample(place);
-    }
-    Read::WrongFill(place)
 }

@@ -9,16 +9,11 @@ use window::delivery::Delivery;
 pub(crate) fn delivery(v: Valid, service: Service) -> Delivery
     ensures { result ≡ record { line = service.line; content = service.content; before = v.before; after = v.after; repairs = service.repairs } }
 {
-    let before = v.before;
-    let after = v.after;
-    let line = service.line;
-    let content = service.content;
-    let repairs = service.repairs;
     Delivery {
-        line,
-        content,
-        before,
-        after,
-        repairs,
+        line: service.line,
+        content: service.content,
+        before: v.before,
+        after: v.after,
+        repairs: service.repairs,
     }
 }

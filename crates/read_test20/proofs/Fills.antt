@@ -3,13 +3,14 @@
 use mathlib.Core.Path.{◌≡◌, refl, sym, ap, ap₂, subst, ◌∙◌}
 use mathlib.Core.Bool.{true, true≢false}
 use mathlib.Core.List.{List}
-use Prim.Native.Nat.{ℕ, zero, suc, ◌+◌, ◌-◌, ◌*◌, ◌/◌, ◌%◌, ◌≤◌, ◌<◌}
+use Prim.Native.Nat.{ℕ, zero, suc, ◌+◌, ◌-◌, ◌*◌, ◌/◌, ◌%◌, ◌≤◌, ◌<◌, min}
 use native.Mathlib.Nat.{eq-or-lt_of_le}
 use native.Mathlib.Omega.{arith}
 use mathlib.Core.Logic.{◌⊎◌, inl, inr, ⊎_elim}
 use lib.Bits.{bit_or, bit_xor, or_zero_l, xor_self}
 use lib.Dec.{eqb}
-use lib.ListN.{length}
+use lib.ListN.{length, get_or, take, drop, length-take, length-drop}
+use lib.Seq.{get_or-take, get_or-drop}
 use borrow.Author.Tests.{ne_eqb, eqb-true, eqb-false}
 use Rattle.ground.specs.Range.{within}
 use Rattle.ground.specs.Search.{is_some}
@@ -296,6 +297,13 @@ right_fill p w from flips some long begins bit bytes right =
               on_test (eqb x.b 0x100) (λ t. eqb-true x.b 0x100 t)
               (λ t. absurd (true≢false (sym right ∙ second_wrong p w some k refl (omega arith) (omega arith) (eqb-false x.b 0x100 t))));
         })
+
+-- the symbols from one place to another
+pub piece_long : (w : List ℕ) (from n : ℕ) → length (take n (drop from w)) ≡ min n (length w - from)
+piece_long w from n = length-take n (drop from w) ∙ ap (min n) (length-drop from w)
+
+pub piece_at : (w : List ℕ) (from n k : ℕ) → k < length (take n (drop from w)) → get_or (take n (drop from w)) k 0 ≡ symbol_at w (from + k)
+piece_at w from n k h = get_or-take n (drop from w) k 0 (omega (arith, piece_long w from n)) ∙ get_or-drop from w k 0
 
 -- one symbol more is as the one three before it
 pub repeats_step : (w : List ℕ) (other i : ℕ) {k : ℕ} → bit_or other (bit_xor (symbol_at w (i + 3)) (symbol_at w i)) ≡ 0

@@ -22,7 +22,7 @@ use Rattle.window.specs.Words.{word_at}
 use Rattle.window.specs.Inside.Columns.{column_of, sums_of}
 use Rattle.window.specs.Inside.Given.{plain_pair}
 use Rattle.row_crc.specs.Inside.Sums.{stream_row, sums_in}
-use Rattle.read_test20.specs.declared.picture.Passed.{Passed}
+use Rattle.read_test20.specs.declared.see.Kept.{Kept}
 use Rattle.read_test20.specs.declared.see.Six.{Six}
 use Rattle.read_test20.specs.declared.see.Three.{Three}
 use Rattle.read_test20.specs.Inside.Picture.{put_two, pair_in, put_pair, place_two, rows_two, place_four, rows_four, RowsInv, TwoRowsInv}
@@ -33,8 +33,8 @@ use Rattle.read_test20.proofs.Seeing.{three_step}
 pair_at_lem : (w : List ℕ) (j half u o : ℕ) → o ≡ 3 * (half * (picture_start + j) + u) → plain_pair w o ≡ pair_in half w u j
 pair_at_lem w j half u o e = ap (plain_pair w) e
 
-module _ (w : List ℕ) {old : List ℕ} {j : ℕ} {v : Passed} {rows : List ℕ} (h : j < 1920) where
-  pub got_two : RowsInv 1 w old j v rows → RowsInv 1 w old (j + 1) (place_two w j v) (rows_two w j rows)
+module _ (w : List ℕ) {old : List ℕ} {j : ℕ} {v : Kept} {rows : List ℕ} (h : j < 1920) where
+  got_two : RowsInv 1 w old j v rows → RowsInv 1 w old (j + 1) (place_two w j v) (rows_two w j rows)
   unfolding seen_three
   got_two g =
       let at : 12 + 3 * j ≡ 3 * (1 * (picture_start + j) + 0) = omega arith in
@@ -50,7 +50,7 @@ module _ (w : List ℕ) {old : List ℕ} {j : ℕ} {v : Passed} {rows : List ℕ
         four = λ e. absurd (omega arith);
       }
 
-  pub got_four : RowsInv 2 w old j v rows → RowsInv 2 w old (j + 1) (place_four w j v) (rows_four w j rows)
+  got_four : RowsInv 2 w old j v rows → RowsInv 2 w old (j + 1) (place_four w j v) (rows_four w j rows)
   unfolding seen_three seen_six
   got_four g =
       let first : 24 + 6 * j ≡ 3 * (2 * (picture_start + j) + 0) = omega arith in
@@ -71,72 +71,17 @@ module _ (w : List ℕ) {old : List ℕ} {j : ℕ} {v : Passed} {rows : List ℕ
             (ap (λ (y : TwoWords). y.b) high));
       }
 
--- ---- four words more
+-- one word more of what was seen, and put
+module _ (w : List ℕ) {old : List ℕ} {j : ℕ} (v : Kept) {rows more : List ℕ} (h : j < 1920) where
+  pub put_two_more : {x : Three} → x ≡ seen_three w (12 + 3 * j) v.good v.flips → more ≡ put_pair x.words j rows → RowsInv 1 w old j v rows
+      → RowsInv 1 w old (j + 1) (record { good = x.good; flips = x.flips }) more
+  unfolding seen_three
+  put_two_more seen put g = rw (put, seen) (got_two w h g)
 
-module _ (w : List ℕ) {old : List ℕ} {j : ℕ} {v : Passed} {rows : List ℕ} (h : j + 4 ≤ 1920) where
-  pub four_of_two : RowsInv 1 w old j v rows
-      → RowsInv 1 w old (j + 4) (place_two w (j + 3) (place_two w (j + 2) (place_two w (j + 1) (place_two w j v))))
-      (rows_two w (j + 3) (rows_two w (j + 2) (rows_two w (j + 1) (rows_two w j rows))))
-  four_of_two g =
-      let two : j + 1 + 1 ≡ j + 2 = omega arith in
-      let three : j + 2 + 1 ≡ j + 3 = omega arith in
-      let four : j + 3 + 1 ≡ j + 4 = omega arith in
-      rw four at
-      (got_two w (omega arith)
-      (rw three at (got_two w (omega arith) (rw two at (got_two w (omega arith) (got_two w (omega arith) g))))))
-
-  pub four_of_four : RowsInv 2 w old j v rows
-      → RowsInv 2 w old (j + 4) (place_four w (j + 3) (place_four w (j + 2) (place_four w (j + 1) (place_four w j v))))
-      (rows_four w (j + 3) (rows_four w (j + 2) (rows_four w (j + 1) (rows_four w j rows))))
-  four_of_four g =
-      let two : j + 1 + 1 ≡ j + 2 = omega arith in
-      let three : j + 2 + 1 ≡ j + 3 = omega arith in
-      let four : j + 3 + 1 ≡ j + 4 = omega arith in
-      rw four at
-      (got_four w (omega arith)
-      (rw three at (got_four w (omega arith) (rw two at (got_four w (omega arith) (got_four w (omega arith) g))))))
-
--- what is answered after four words, and the rows with them, by what was seen of each
-module _ (w : List ℕ) (j : ℕ) (v : Passed) where
-  pub after_two : {a b c d : Three} → a ≡ seen_three w (12 + 3 * j) v.good v.flips
-      → b ≡ seen_three w (12 + 3 * (j + 1)) a.good a.flips → c ≡ seen_three w (12 + 3 * (j + 2)) b.good b.flips
-      → d ≡ seen_three w (12 + 3 * (j + 3)) c.good c.flips
-      → record { good = d.good; flips = d.flips } ≡ place_two w (j + 3) (place_two w (j + 2) (place_two w (j + 1) (place_two w j v)))
-  after_two ea eb ec ed = rw (ed, ec, eb, ea)
-
-  pub after_four_lem : {a b c d : Six} → a ≡ seen_six w (24 + 6 * j) v.good v.flips
-      → b ≡ seen_six w (24 + 6 * (j + 1)) a.good a.flips → c ≡ seen_six w (24 + 6 * (j + 2)) b.good b.flips
-      → d ≡ seen_six w (24 + 6 * (j + 3)) c.good c.flips
-      → record { good = d.good; flips = d.flips }
-      ≡ place_four w (j + 3) (place_four w (j + 2) (place_four w (j + 1) (place_four w j v)))
-  after_four_lem ea eb ec ed = rw (ed, ec, eb, ea)
-
--- the words of what was seen
-pub words_seen : {x : Three} (w : List ℕ) (o good flips : ℕ) → x ≡ seen_three w o good flips → x.words ≡ plain_pair w o
-unfolding seen_three
-words_seen w o good flips e = ap (λ (y : Three). y.words) e
-
-pub low_seen : {x : Six} (w : List ℕ) (o good flips : ℕ) → x ≡ seen_six w o good flips → x.low ≡ plain_pair w o
-unfolding seen_three seen_six
-low_seen w o good flips e = ap (λ (y : Six). y.low) e
-
-pub high_seen : {x : Six} (w : List ℕ) (o good flips : ℕ) → x ≡ seen_six w o good flips → x.high ≡ plain_pair w (o + 3)
-unfolding seen_three seen_six
-high_seen w o good flips e = ap (λ (y : Six). y.high) e
-
-module _ (w : List ℕ) (j : ℕ) (r0 : List ℕ) {r1 r2 r3 r4 : List ℕ} where
-  pub put_two_lem : {a b c d : TwoWords} → a ≡ plain_pair w (12 + 3 * j) → b ≡ plain_pair w (12 + 3 * (j + 1)) → c ≡ plain_pair w (12 + 3 * (j + 2))
-      → d ≡ plain_pair w (12 + 3 * (j + 3)) → r1 ≡ put_pair a j r0 → r2 ≡ put_pair b (j + 1) r1 → r3 ≡ put_pair c (j + 2) r2
-      → r4 ≡ put_pair d (j + 3) r3 → r4 ≡ rows_two w (j + 3) (rows_two w (j + 2) (rows_two w (j + 1) (rows_two w j r0)))
-  put_two_lem ea eb ec ed q1 q2 q3 q4 = rw (q4, q3, q2, q1, ea, eb, ec, ed)
-
-  pub put_four : {a b c d k l m n : TwoWords} → a ≡ plain_pair w (24 + 6 * j) → b ≡ plain_pair w (24 + 6 * (j + 1))
-      → c ≡ plain_pair w (24 + 6 * (j + 2)) → d ≡ plain_pair w (24 + 6 * (j + 3)) → k ≡ plain_pair w (24 + 6 * j + 3)
-      → l ≡ plain_pair w (24 + 6 * (j + 1) + 3) → m ≡ plain_pair w (24 + 6 * (j + 2) + 3) → n ≡ plain_pair w (24 + 6 * (j + 3) + 3)
-      → r1 ≡ put_pair k (3840 + j) (put_pair a j r0) → r2 ≡ put_pair l (3840 + (j + 1)) (put_pair b (j + 1) r1)
-      → r3 ≡ put_pair m (3840 + (j + 2)) (put_pair c (j + 2) r2) → r4 ≡ put_pair n (3840 + (j + 3)) (put_pair d (j + 3) r3)
-      → r4 ≡ rows_four w (j + 3) (rows_four w (j + 2) (rows_four w (j + 1) (rows_four w j r0)))
-  put_four ea eb ec ed ek el em en q1 q2 q3 q4 = rw (q4, q3, q2, q1, ea, eb, ec, ed, ek, el, em, en)
+  pub put_four_more : {x : Six} → x ≡ seen_six w (24 + 6 * j) v.good v.flips → more ≡ put_pair x.high (3840 + j) (put_pair x.low j rows)
+      → RowsInv 2 w old j v rows → RowsInv 2 w old (j + 1) (record { good = x.good; flips = x.flips }) more
+  unfolding seen_three seen_six
+  put_four_more seen put g = rw (put, seen) (got_four w h g)
 
 -- at the beginning nothing is
 pub got_begin : (half flips : ℕ) (w old : List ℕ) → GatherInv w (12 * half) (12 * half) 65535 flips
@@ -170,7 +115,7 @@ module _ (p : Shape) (w : List ℕ) where
         → low ≡ 2 * u * 1920 → high ≡ 2 * u * 1920 + 1920 → rows ≡ put_two p w u picture_start 1920 old
     put_columns t l k = t.put ∙ rw (first_column, second_column, l, k)
 
-  module _ {old rows : List ℕ} {v : Passed} (small : p.stream_pairs ≤ 2) (some : 1 ≤ p.stream_pairs) (long : length old ≡ samples_in p)
+  module _ {old rows : List ℕ} {v : Kept} (small : p.stream_pairs ≤ 2) (some : 1 ≤ p.stream_pairs) (long : length old ≡ samples_in p)
       (g : RowsInv p.stream_pairs w old 1920 v rows) where
     low_rows_are : g.low_rows ≡ put_two p w 0 picture_start 1920 old
     low_rows_are = put_columns 0 (omega arith) g.low refl refl

@@ -1,9 +1,11 @@
 -- What the single pass finds, and what is answered from it.
 -- Assumes nothing.
-use mathlib.Core.Path.{◌≡◌, sym, ap, subst, ◌∙◌}
+use Rattle.std.specs.Prelude.{Option, Some, None, Result, Ok, Err, MatchResult, IsErrAnd}
+use Rattle.std.specs.Bool.{then_some}
+use Rattle.std.specs.Result.{result_ok}
+use mathlib.Core.Path.{refl, ◌≡◌, sym, ap, subst, ◌∙◌}
 use mathlib.Core.Bool.{Bool, true, false, true≢false}
 use mathlib.Core.List.{List}
-use mathlib.Core.Option.{Option, none, some}
 use Prim.Native.Nat.{ℕ}
 use lib.Dec.{eqb}
 use lib.ListN.{length, replicate}
@@ -14,10 +16,10 @@ use Rattle.span.specs.declared.format.Shape.{Shape}
 use Rattle.span.specs.Format.{shape_of}
 use Rattle.span.specs.Inside.Fit.{ready}
 use Rattle.window.specs.Inside.Fill.{fill_right}
-use Rattle.read_test20.specs.declared.whole.Outcome.{Outcome}
-use Rattle.read_test20.specs.declared.whole.Outcome.TheVariants.{Whole as AllValid, Faulty, NotExamined as NoWindow}
+use Rattle.read_test20.specs.declared.whole.PassError.{PassError}
+use Rattle.read_test20.specs.declared.whole.PassError.TheVariants.{Faulty, NotExamined as NoWindow}
 use Rattle.read_test20.specs.declared.whole.Reached.{Reached}
-use Rattle.read_test20.specs.declared.whole.Taken.TheVariants.{Whole, Invalid, NotExamined}
+use Rattle.read_test20.specs.declared.whole.TakeError.TheVariants.{Invalid, NotExamined}
 use Rattle.read_test20.specs.declared.whole.Valid.{Valid}
 use Rattle.read_test20.specs.Inside.Run.{ScanInv, place20}
 use Rattle.read_test20.specs.Inside.Whole.{AllHold, PassedWindow, PassedIf, taken_if, rows_if, is_all_valid, whole_if, rows_whole}
@@ -29,74 +31,94 @@ use Rattle.read_test20.proofs.Kept.{all_right}
 abbrev Asked : Shape → List ℕ → Bool → Type 0
 Asked p w haste = haste ≡ true → fill_right p w ≡ true
 
-pub is_faulty : {x : Reached} (p : Shape) (w : List ℕ) (haste : Bool) (rows : List ℕ) (o : Outcome) → o ≡ Faulty x
-    → (AllHold p w → Asked p w haste → ⊥) → ScanInv p w x.place x.mask → PassedWindow p w haste rows o
-is_faulty p w haste rows o e not-all scan = subst (λ (o : Outcome). PassedWindow p w haste rows o) (sym e) (not-all, scan)
+pub is_faulty : {x y : Reached} (p : Shape) (w : List ℕ) (haste : Bool) (rows : List ℕ) → y ≡ x
+    → (AllHold p w → Asked p w haste → ⊥) → ScanInv p w x.place x.mask → PassedWindow p w haste rows (Err y)
+is_faulty p w haste rows e not-all scan = (not-all, rw e scan)
 
 some_wrong : (p : Shape) (w : List ℕ) → (AllHold p w → Asked p w false → ⊥) → eqb (place20 p w) (length w) ≡ false
 some_wrong p w not-all = ne_eqb (place20 p w) (length w) (λ e. not-all (all_right p w e) (λ z. absurd (true≢false (sym z))))
 
 -- ---- a window of a known format is passed
 
-pub window_passed : (f : Format) (w : List ℕ) (haste : Bool) (entry rows : List ℕ) (o : Outcome) → ready f (length w) (length entry) ≡ true
-    → PassedWindow (shape_of f) w haste rows o → PassedIf f w haste entry rows o
-window_passed f w haste entry rows (AllValid v) fit h = (fit, h)
-window_passed f w haste entry rows (Faulty x) fit h = (fit, h)
-window_passed f w haste entry rows NoWindow fit h = absurd h
+abbrev pub as_passed : Result Valid Reached → Result Valid PassError
+as_passed (Ok v) = Ok v
+as_passed (Err x) = Err (Faulty x)
+
+pub mapped : (o : Result Valid Reached) (r : Result Valid PassError)
+    → MatchResult o (λ v. r ≡ Ok v) (λ x. IsErrAnd r (λ e. e ≡ Faulty x)) → r ≡ as_passed o
+mapped (Ok v) r m = m
+mapped (Err x) (Ok v) m = absurd m
+mapped (Err x) (Err e) m = ap Err m
+
+pub window_passed : (f : Format) (w : List ℕ) (haste : Bool) (entry rows : List ℕ) (o : Result Valid Reached) {r : Result Valid PassError}
+    → ready f (length w) (length entry) ≡ true → PassedWindow (shape_of f) w haste rows o → r ≡ as_passed o → PassedIf f w haste entry rows r
+window_passed f w haste entry rows (Ok v) fit h e = rw e (fit, h)
+window_passed f w haste entry rows (Err x) fit h e = rw e (fit, h)
 
 -- ---- what is answered
-module _ (f : Format) (w entry rows : List ℕ) (o : Outcome) where
+
+ok_told : (o : Result Valid PassError) {v : Valid} → result_ok o ≡ Some v → o ≡ Ok v
+ok_told (Ok x) e = cc
+ok_told (Err x) e = cc
+
+module _ (f : Format) (w entry rows : List ℕ) (o : Result Valid PassError) where
   abbrev p : Shape
   p = shape_of f
 
   -- with the place of a fault, and rows that are zero then
   module _ (passed : PassedIf f w false entry rows o) where
-    abbrev by : Outcome → Type 0
+    abbrev by : Result Valid PassError → Type 0
     by o = PassedIf f w false entry rows o
 
     -- the first symbols are known to be valid
-    pub scanned : {x : Reached} → o ≡ Faulty x → ScanInv p w x.place x.mask
+    pub scanned : {x : Reached} → o ≡ Err (Faulty x) → ScanInv p w x.place x.mask
     scanned e = (subst by e passed).1.1
 
-    pub whole_taken : {v : Valid} → o ≡ AllValid v → (Whole v ≡ taken_if f w entry) × (rows ≡ rows_if f w entry)
+    pub whole_taken : {v : Valid} → o ≡ Ok v → (Ok v ≡ taken_if f w entry) × (rows ≡ rows_if f w entry)
     whole_taken e =
         let (fit, (all, valid, picture)) = subst by e passed in
-        (rw (fit, eq-eqb (place20 p w) (length w) all) (ap Whole valid), rw (fit, eq-eqb (place20 p w) (length w) all) picture)
+        (rw (fit, eq-eqb (place20 p w) (length w) all) (ap Ok valid), rw (fit, eq-eqb (place20 p w) (length w) all) picture)
 
-    pub fault_taken : {x : Reached} {k : ℕ} {l : List ℕ} (n : ℕ) → o ≡ Faulty x → k ≡ place20 p w → l ≡ replicate n 0 → n ≡ length entry
-        → (Invalid k ≡ taken_if f w entry) × (l ≡ rows_if f w entry)
+    pub fault_taken : {x : Reached} {k : ℕ} {l : List ℕ} (n : ℕ) → o ≡ Err (Faulty x) → k ≡ place20 p w → l ≡ replicate n 0 → n ≡ length entry
+        → (Err (Invalid k) ≡ taken_if f w entry) × (l ≡ rows_if f w entry)
     fault_taken n e place zero long =
         let (fit, (not-all, scan)) = subst by e passed in
-        (rw (fit, some_wrong p w not-all) (ap Invalid place), zero ∙ rw (fit, some_wrong p w not-all, long))
+        (rw (fit, some_wrong p w not-all) (ap (λ (k : ℕ). Err (Invalid k)) place), zero ∙ rw (fit, some_wrong p w not-all, long))
 
-    pub nothing_taken : o ≡ NoWindow → (NotExamined ≡ taken_if f w entry) × (rows ≡ rows_if f w entry)
+    pub nothing_taken : o ≡ Err NoWindow → (Err NotExamined ≡ taken_if f w entry) × (rows ≡ rows_if f w entry)
     nothing_taken e = let (unfit, same) = subst by e passed in (rw unfit, rw unfit same)
 
   -- without it, and in haste
   module _ (passed : PassedIf f w true entry rows o) where
-    abbrev hastily : Outcome → Type 0
+    abbrev hastily : Result Valid PassError → Type 0
     hastily o = PassedIf f w true entry rows o
 
     abbrev Says : Option Valid → Type 0
     Says x = (x ≡ whole_if f w (length entry)) × (rows ≡ rows_whole f w (length entry) rows)
 
-    not_whole : is_all_valid f w (length entry) ≡ false → Says none
+    not_whole : is_all_valid f w (length entry) ≡ false → Says None
     not_whole e = (rw e, rw e)
 
-    pub whole_examined : {v : Valid} → o ≡ AllValid v → v.filled ≡ true → Says (some v)
+    whole_examined : {v : Valid} → o ≡ Ok v → v.filled ≡ true → Says (Some v)
     whole_examined e t =
         let (fit, (all, valid, picture)) = subst hastily e passed in
         let right : fill_right p w ≡ true = sym (ap (λ (x : Valid). x.filled) valid) ∙ t in
         let whole : is_all_valid f w (length entry) ≡ true = rw (fit, eq-eqb (place20 p w) (length w) all, right) in
-        (rw whole (ap some valid), rw whole picture)
+        (rw whole (ap Some valid), rw whole picture)
 
-    pub unfilled_examined : {v : Valid} → o ≡ AllValid v → v.filled ≡ false → Says none
+    unfilled_examined : {v : Valid} → o ≡ Ok v → v.filled ≡ false → Says None
     unfilled_examined e t =
         let (fit, (all, valid, picture)) = subst hastily e passed in
         let wrong : fill_right p w ≡ false = sym (ap (λ (x : Valid). x.filled) valid) ∙ t in
         not_whole (rw (fit, eq-eqb (place20 p w) (length w) all, wrong))
 
-    pub fault_examined : {x : Reached} → o ≡ Faulty x → Says none
+    -- what is known of a window is answered where its fill is right
+    pub valid_examined : {v : Valid} → result_ok o ≡ Some v → Says (then_some v.filled v)
+    valid_examined {v} e =
+        on_test v.filled (λ t. subst (λ (b : Bool). Says (then_some b v)) (sym t) (whole_examined (ok_told o e) t))
+        (λ t. subst (λ (b : Bool). Says (then_some b v)) (sym t) (unfilled_examined (ok_told o e) t))
+
+    fault_examined : {x : Reached} → o ≡ Err (Faulty x) → Says None
     fault_examined e =
         let (fit, (not-all, scan)) = subst hastily e passed in
         not_whole
@@ -105,5 +127,12 @@ module _ (f : Format) (w entry rows : List ℕ) (o : Outcome) where
         on_test (fill_right p w) (λ u. absurd (not-all (all_right p w (eqb-true (place20 p w) (length w) t)) (λ _. u))) (λ u. rw (fit, t, u)))
         (λ t. rw (fit, t)))
 
-    pub nothing_examined : o ≡ NoWindow → Says none
+    nothing_examined : o ≡ Err NoWindow → Says None
     nothing_examined e = let (unfit, same) = subst hastily e passed in not_whole (rw unfit)
+
+-- a fault, or what is not examined
+pub refused_examined : (f : Format) (w entry rows : List ℕ) (o : Result Valid PassError) → PassedIf f w true entry rows o → result_ok o ≡ None
+    → (None ≡ whole_if f w (length entry)) × (rows ≡ rows_whole f w (length entry) rows)
+refused_examined f w entry rows (Ok v) h e = cc
+refused_examined f w entry rows (Err (Faulty x)) h e = fault_examined f w entry rows _ h refl
+refused_examined f w entry rows (Err NoWindow) h e = nothing_examined f w entry rows _ h refl

@@ -4,16 +4,14 @@ ghost use Rattle.read_test20.specs.Inside.Fill.{Repeats, AreFill};
 
 // Whether each symbol from the fourth on equals the one three before it. No early exit, so that the loop takes many at a time.
 pub(crate) fn repeats(symbols: &[u16], from: usize, to: usize) -> bool
-    requires from_le_to { from ≤ to }
+    requires from_bound { from + 3 ≤ to }
     requires to_in_bounds { to ≤ length symbols.now }
     ensures sound { result ≡ true → Repeats symbols.now from to }
     ensures kept { Repeats symbols.now from to → result ≡ true }
 {
     let mut other = 0;
-    let mut i = from;
-    while i + 3 < to {
-        other = other | (symbols[i + 3] ^ symbols[i]);
-        i += 1;
+    for (s, before) in symbols[from + 3..to].iter().zip(&symbols[from..]) {
+        other |= *s ^ *before;
     }
     other == 0
 }

@@ -67,15 +67,12 @@ pub(crate) fn first_wrong(
     ensures { result ≡ place20 p symbols.now }
 {
     let mut m = mask;
-    let mut i = from;
-    while i < symbols.len() {
+    for i in from..symbols.len() {
         let e = decoder::table::entry(t, symbols[i]);
-        if holds(p, i, m, e) {
-            m = decoder::mask::after_by(m, e);
-            i += 1;
-        } else {
+        if !holds(p, i, m, e) {
             return i;
         }
+        m = decoder::mask::after_by(m, e);
     }
-    i
+    symbols.len()
 }

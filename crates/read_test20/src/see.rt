@@ -15,14 +15,14 @@ pub(crate) struct Seen {
 }
 
 // What is gathered after some symbols.
-#[derive(Drop)]
+#[derive(Clone, Copy)]
 pub(crate) struct Kept {
     pub(crate) good: u32,
     pub(crate) flips: u32,
 }
 
 // The words of three symbols, and what is gathered after them.
-#[derive(Drop)]
+#[derive(Clone, Copy)]
 pub(crate) struct Three {
     pub(crate) good: u32,
     pub(crate) flips: u32,
@@ -103,14 +103,12 @@ pub(crate) fn see_run(t: &[u16; 1024], symbols: &[u16], from: usize, to: usize, 
     ensures { GatherInv symbols.now from to result.good result.flips }
 {
     let mut k = Kept { good: 65535, flips };
-    let mut i = from;
-    while i < to {
+    for i in from..to {
         let x = see(t, symbols[i], k.good, k.flips);
         k = Kept {
             good: x.good,
             flips: x.flips,
         };
-        i += 1;
     }
     k
 }

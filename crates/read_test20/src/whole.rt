@@ -1,6 +1,6 @@
 // A window whose symbols are all valid (document 01, refusal 20): its rows, the CRC of each stream, its disparities, and whether its fill is
 // right. Otherwise the place of the first symbol that is not.
-ghost use Rattle.std.specs.Prelude.{◌≡◌, true, false, ◌+◌, ◌-◌, ◌*◌, ◌%◌, ◌≤◌, length};
+ghost use Rattle.std.specs.Prelude.{◌≡◌, true, ◌+◌, ◌-◌, ◌*◌, ◌%◌, ◌≤◌, IfSome, IsSome, length};
 ghost use Rattle.decoder.specs.Inside.Decoder.{decoding_table};
 ghost use Rattle.decoder.specs.Inside.Mask.{mask_of, of_mask};
 ghost use Rattle.span.specs.Format.{shape_of, samples_in};
@@ -8,14 +8,12 @@ ghost use Rattle.span.specs.Inside.Layout.{eav_symbol, ancillary_symbol};
 ghost use Rattle.window.specs.Scan.{start_of, running_at};
 ghost use Rattle.window.specs.Inside.Fill.{fill_right};
 ghost use Rattle.window.specs.Inside.Given.{Given};
-ghost use Rattle.read_test20.specs.declared.whole.Outcome.TheVariants.{Faulty};
 ghost use Rattle.read_test20.specs.Inside.Fill.{AreFill};
 ghost use Rattle.read_test20.specs.Inside.Run.{RunInv, ScanInv, place20};
 ghost use Rattle.read_test20.specs.Inside.See.{TenBits, AreBytes, mask_by};
-ghost use Rattle.read_test20.specs.Inside.Whole.{Twice, AllHold, PassedWindow, PassedIf, taken_if, rows_if, whole_in, whole_if, rows_whole, Begun, EavHolds, Tied, RunTo, Ending};
+ghost use Rattle.read_test20.specs.Inside.Whole.{Twice, AllHold, PassedWindow, PassedIf, taken_if, rows_if, whole_if, rows_whole, Begun, EavHolds, Tied, FillSeen, Ending};
 
 use crcc::sums::Sums;
-use row_crc::sums::Summed;
 use span::format::{Format, Shape};
 use symbol::disparity::Disparity;
 
@@ -31,27 +29,16 @@ pub struct Valid {
     pub sums: Sums,
 }
 
-#[derive(Drop)]
-pub enum Taken {
-    // All symbols are valid, and the rows have the picture.
-    Whole(Valid),
-    // The first symbol that is not; the rows are all zero.
+#[derive(Clone, Copy, Debug, PartialEq, Eq)]
+pub enum TakeError {
+    // The first symbol that is not valid; the rows are all zero.
     Invalid(usize),
     // Not a window of a known format, or not rows of its length: nothing was examined, and the rows are as they were.
     NotExamined,
 }
 
-// The same for who asks only whether all symbols are valid and the fill is right.
-#[derive(Drop)]
-pub enum Examined {
-    // So it is, and the rows have the picture.
-    Whole(Valid),
-    // It is not so, or nothing was examined; the rows may hold anything.
-    Refused,
-}
-
-// How far test 20 is known to hold.
-#[derive(Drop)]
+// How far test 20 is known to hold, where it does not hold at every symbol.
+#[derive(Clone, Copy, Debug, PartialEq, Eq)]
 pub(crate) struct Reached {
     // At every symbol before this one.
     pub(crate) place: usize,
@@ -59,10 +46,9 @@ pub(crate) struct Reached {
     pub(crate) mask: u16,
 }
 
-// What the single pass finds.
-#[derive(Drop)]
-pub(crate) enum Outcome {
-    Whole(Valid),
+// Why the single pass tells nothing of a window whose symbols are all valid.
+#[derive(Clone, Copy, Debug, PartialEq, Eq)]
+pub(crate) enum PassError {
     Faulty(Reached),
     NotExamined,
 }
@@ -73,10 +59,8 @@ fn are_ten_bits(symbols: &[u16]) -> bool
     ensures kept { TenBits symbols.now → result ≡ true }
 {
     let mut all = 0;
-    let mut i = 0;
-    while i < symbols.len() {
-        all = all | symbols[i];
-        i += 1;
+    for s in symbols {
+        all |= *s;
     }
     all < 1024
 }
@@ -91,24 +75,17 @@ fn disparity_by(flips: u32) -> Disparity
     Disparity::Positive
 }
 
-// K28.5 twice: what is gathered after it; 0 if anything else is there.
-fn after_sav(symbols: &[u16]) -> u32
+// What is gathered after K28.5 twice, if that is there.
+fn after_sav(symbols: &[u16]) -> Option<u32>
     requires { 2 ≤ length symbols.now }
-    ensures sound { (result ≡ 0 → ⊥) → Begun symbols.now result }
-    ensures kept { Twice symbols.now 261 0 → result ≡ 0 → ⊥ }
+    ensures sound { IfSome result (λ flips. Begun symbols.now flips) }
+    ensures kept { Twice symbols.now 261 0 → IsSome result }
 {
-    if symbols[0] == 0x17C {
-        if symbols[1] == 0x283 {
-            return 4096;
-        }
-        return 0;
+    match (symbols[0], symbols[1]) {
+        (0x17C, 0x283) => Some(4096),
+        (0x283, 0x17C) => Some(2048),
+        _ => None,
     }
-    if symbols[0] == 0x283 {
-        if symbols[1] == 0x17C {
-            return 2048;
-        }
-    }
-    0
 }
 
 // Whether K29.7 is at a place and at the next, at the running disparity that `flips` records, which it does not flip.
@@ -129,10 +106,9 @@ fn is_eav(symbols: &[u16], at: usize, flips: u32) -> bool
     false
 }
 
-// What comes after the picture: whether its symbols are valid, whether the fill is right, and what is gathered after it.
-#[derive(Drop)]
+// What comes after the picture, where its symbols are valid: whether the fill is right, and what is gathered after it.
+#[derive(Clone, Copy)]
 struct Ended {
-    whole: bool,
     filled: bool,
     flips: u32,
 }
@@ -145,85 +121,70 @@ fn see_fill(
     to: usize,
     flips: u32,
     haste: bool,
-) -> Ended
+) -> Option<Ended>
     requires t_value { t.now ≡ decoding_table }
     requires ten_bits { TenBits symbols.now }
     requires from_bound { from + 3 ≤ to }
     requires to_in_bounds { to ≤ length symbols.now }
     requires from_value { (to - from) % 3 ≡ 0 }
     requires tied { Tied symbols.now from flips }
-    ensures whole { result.whole ≡ true → RunTo symbols.now from to result.flips }
-    ensures fill { result.filled ≡ true → AreFill symbols.now from to flips }
-    ensures filled { AreFill symbols.now from to flips → result.filled ≡ true }
-    ensures kept { AreBytes symbols.now from to → (haste ≡ true → AreFill symbols.now from to flips) → result.whole ≡ true }
+    ensures seen { IfSome result (λ e. FillSeen symbols.now from to flips e) }
+    ensures kept { AreBytes symbols.now from to → (haste ≡ true → AreFill symbols.now from to flips) → IsSome result }
 {
     if crate::fill::are_fill(symbols, from, to, flips) {
-        return Ended {
-            whole: true,
+        return Some(Ended {
             filled: true,
             flips,
-        };
+        });
     }
     if haste {
-        return Ended {
-            whole: false,
-            filled: false,
-            flips,
-        };
+        return None;
     }
-    let k = crate::see::see_run(t, symbols, from, to, flips);
-    Ended {
-        whole: crate::see::passes(k.good),
+    let rest = crate::see::see_run(t, symbols, from, to, flips);
+    if !crate::see::passes(rest.good) {
+        return None;
+    }
+    Some(Ended {
         filled: false,
-        flips: k.flips,
-    }
-}
-
-fn unended() -> Ended
-    ensures { result.whole ≡ false }
-{
-    Ended {
-        whole: false,
-        filled: false,
-        flips: 0,
-    }
+        flips: rest.flips,
+    })
 }
 
 // The ancillary area, and then the fill. In haste a wrong fill counts as invalid, and is not examined.
-fn tail_of(t: &[u16; 1024], p: Shape, symbols: &[u16], flips: u32, haste: bool) -> Ended
+fn tail_of(t: &[u16; 1024], p: Shape, symbols: &[u16], flips: u32, haste: bool) -> Option<Ended>
     requires given { Given p t.now symbols.now }
     requires ten_bits { TenBits symbols.now }
     requires tied { Tied symbols.now (ancillary_symbol * p.stream_pairs) flips }
-    ensures whole { result.whole ≡ true → RunInv symbols.now 0 255 (ancillary_symbol * p.stream_pairs) (length symbols.now) (mask_by result.flips) }
-    ensures filled { result.whole ≡ true → result.filled ≡ fill_right p symbols.now }
-    ensures kept { AreBytes symbols.now (ancillary_symbol * p.stream_pairs) (length symbols.now) → (haste ≡ true → fill_right p symbols.now ≡ true) → result.whole ≡ true }
+    ensures whole { IfSome result (λ e. RunInv symbols.now 0 255 (ancillary_symbol * p.stream_pairs) (length symbols.now) (mask_by e.flips)) }
+    ensures filled { IfSome result (λ e. e.filled ≡ fill_right p symbols.now) }
+    ensures kept { AreBytes symbols.now (ancillary_symbol * p.stream_pairs) (length symbols.now) → (haste ≡ true → fill_right p symbols.now ≡ true) → IsSome result }
 {
     let from = span::layout::ANCILLARY_SYMBOL * p.stream_pairs;
     let fill = symbols.len() - 3 * p.fill_pairs;
     let area = crate::area::see_area(t, symbols, from, fill, flips);
     if !crate::see::passes(area.good) {
-        return unended();
+        return None;
     }
     see_fill(t, symbols, fill, symbols.len(), area.flips, haste)
 }
 
 // The EAV, the line number and the CRCC, and what follows them.
-fn end_of(t: &[u16; 1024], p: Shape, symbols: &[u16], flips: u32, haste: bool) -> Ended
+fn end_of(t: &[u16; 1024], p: Shape, symbols: &[u16], flips: u32, haste: bool) -> Option<Ended>
     requires given { Given p t.now symbols.now }
     requires ten_bits { TenBits symbols.now }
     requires tied { Tied symbols.now (eav_symbol * p.stream_pairs) flips }
-    ensures whole { result.whole ≡ true → Ending p symbols.now flips result.flips }
-    ensures filled { result.whole ≡ true → result.filled ≡ fill_right p symbols.now }
-    ensures kept { AllHold p symbols.now → (haste ≡ true → fill_right p symbols.now ≡ true) → result.whole ≡ true }
+    ensures whole { IfSome result (λ e. Ending p symbols.now flips e.flips) }
+    ensures filled { IfSome result (λ e. e.filled ≡ fill_right p symbols.now) }
+    ensures kept { AllHold p symbols.now → (haste ≡ true → fill_right p symbols.now ≡ true) → IsSome result }
 {
     let eav = span::layout::EAV_SYMBOL * p.stream_pairs;
     let after = eav + 24 * p.stream_pairs;
     if !is_eav(symbols, eav, flips) {
-        return unended();
+        return None;
     }
     let k = crate::see::see_run(t, symbols, eav + 2, after, flips);
     if !crate::see::passes(k.good) {
-        return unended();
+        return None;
     }
     tail_of(t, p, symbols, k.flips, haste)
 }
@@ -236,38 +197,43 @@ fn mask_by(flips: u32) -> u16
 }
 
 // A fault before which nothing is known.
-fn fault_from_start(symbols: &[u16]) -> Outcome
-    ensures { result ≡ Faulty (record { place = 0; mask = mask_of (start_of symbols.now) }) }
+fn fault_from_start(symbols: &[u16]) -> Reached
+    ensures { result ≡ record { place = 0; mask = mask_of (start_of symbols.now) } }
 {
-    Outcome::Faulty(Reached {
+    Reached {
         place: 0,
         mask: decoder::mask::mask_of(crate::place::start_of(symbols)),
-    })
+    }
 }
 
 // A fault, given that the first `words` picture words of each stream are valid and `flips` has been gathered after them.
-fn fault_after(p: Shape, words: usize, flips: u32) -> Outcome
+fn fault_after(p: Shape, words: usize, flips: u32) -> Reached
     requires stream_pairs_bound { p.stream_pairs ≤ 2 }
     requires words_bound { words ≤ 1920 }
-    ensures { result ≡ Faulty (record { place = 12 * p.stream_pairs + 3 * p.stream_pairs * words; mask = mask_by flips }) }
+    ensures { result ≡ record { place = 12 * p.stream_pairs + 3 * p.stream_pairs * words; mask = mask_by flips } }
 {
-    Outcome::Faulty(Reached {
+    Reached {
         place: span::layout::PICTURE_SYMBOL * p.stream_pairs + 3 * p.stream_pairs * words,
         mask: mask_by(flips),
-    })
+    }
 }
 
 // The pass over a window of a known format whose symbols have ten bits; in haste a wrong fill is a fault.
-fn pass_window(t: &[u16; 1024], p: Shape, symbols: &[u16], haste: bool, rows: &mut [u16]) -> Outcome
+fn pass_window(
+    t: &[u16; 1024],
+    p: Shape,
+    symbols: &[u16],
+    haste: bool,
+    rows: &mut [u16],
+) -> Result<Valid, Reached>
     requires given { Given p t.now symbols.now }
     requires ten_bits { TenBits symbols.now }
     requires rows_len { length rows.old ≡ samples_in p }
     ensures { PassedWindow p symbols.now haste rows.new result }
 {
-    let first = after_sav(symbols);
-    if first == 0 {
-        return fault_from_start(symbols);
-    }
+    let Some(first) = after_sav(symbols) else {
+        return Err(fault_from_start(symbols));
+    };
     let head = crate::see::see_run(
         t,
         symbols,
@@ -276,41 +242,37 @@ fn pass_window(t: &[u16; 1024], p: Shape, symbols: &[u16], haste: bool, rows: &m
         first,
     );
     if !crate::see::passes(head.good) {
-        return fault_from_start(symbols);
+        return Err(fault_from_start(symbols));
     }
     let v = crate::picture::take_picture(t, p.stream_pairs, symbols, head.flips, rows);
     if !crate::see::passes(v.good) {
-        return fault_after(p, v.words, v.flips);
+        return Err(fault_after(p, v.words, v.flips));
     }
-    let e = end_of(t, p, symbols, v.flips, haste);
-    if !e.whole {
-        return fault_after(p, v.words, v.flips);
-    }
-    // Only for a valid window: nothing else pays for the CRCs.
-    match row_crc::sums::sums_of_rows(rows) {
-        Summed::Rows(sums) => Outcome::Whole(Valid {
-            filled: e.filled,
-            before: disparity_by(first),
-            after: disparity_by(e.flips),
-            sums,
-        }),
-        // Not met: the rows have their format's length.
-        Summed::OtherLength => Outcome::NotExamined,
-    }
+    let Some(e) = end_of(t, p, symbols, v.flips, haste) else {
+        return Err(fault_after(p, v.words, v.flips));
+    };
+    // Only for a valid window: nothing else pays for the CRCs. The rows have their format's length, so they have sums.
+    let sums = row_crc::sums::sums_of_rows(rows).unwrap();
+    Ok(Valid {
+        filled: e.filled,
+        before: disparity_by(first),
+        after: disparity_by(e.flips),
+        sums,
+    })
 }
 
 // The pass over a window with rows of its format's length; anything else is not examined. The table is copied here, once for each window.
-fn pass(f: Format, symbols: &[u16], haste: bool, rows: &mut [u16]) -> Outcome
+fn pass(f: Format, symbols: &[u16], haste: bool, rows: &mut [u16]) -> Result<Valid, PassError>
     ensures { PassedIf f symbols.now haste rows.old rows.new result }
 {
     if !span::fit::is_ready(f, symbols.len(), rows.len()) {
-        return Outcome::NotExamined;
+        return Err(PassError::NotExamined);
     }
     if !are_ten_bits(symbols) {
-        return fault_from_start(symbols);
+        return Err(PassError::Faulty(fault_from_start(symbols)));
     }
     let t = decoder::table::decoding_table();
-    pass_window(&t, span::format::shape_of(f), symbols, haste, rows)
+    pass_window(&t, span::format::shape_of(f), symbols, haste, rows).map_err(PassError::Faulty)
 }
 
 // The place of a fault, searched for from where test 20 is known to hold.
@@ -323,38 +285,25 @@ fn fault_at(f: Format, symbols: &[u16], x: Reached) -> usize
 }
 
 // A window with rows of its format's length, and the place of its fault if it has one.
-pub fn take(f: Format, symbols: &[u16], rows: &mut [u16]) -> Taken
+pub fn take(f: Format, symbols: &[u16], rows: &mut [u16]) -> Result<Valid, TakeError>
     ensures taken { result ≡ taken_if f symbols.now rows.old }
     ensures rows { rows.new ≡ rows_if f symbols.now rows.old }
 {
     match pass(f, symbols, false, rows) {
-        Outcome::Whole(v) => Taken::Whole(v),
-        Outcome::Faulty(x) => {
-            ground::fill::fill(rows, 0);
-            Taken::Invalid(fault_at(f, symbols, x))
+        Ok(v) => Ok(v),
+        Err(PassError::Faulty(x)) => {
+            rows.fill(0);
+            Err(TakeError::Invalid(fault_at(f, symbols, x)))
         },
-        Outcome::NotExamined => Taken::NotExamined,
+        Err(PassError::NotExamined) => Err(TakeError::NotExamined),
     }
 }
 
-// Whether all symbols are valid and the fill is right, without the place of a fault, and with the rows left as they then are.
-pub fn examine(f: Format, symbols: &[u16], rows: &mut [u16]) -> Examined
-    ensures answer { whole_in result ≡ whole_if f symbols.now (length rows.old) }
+// What is known of a window whose symbols are all valid and whose fill is right; its rows then have the picture, and else hold anything.
+pub fn examine(f: Format, symbols: &[u16], rows: &mut [u16]) -> Option<Valid>
+    ensures answer { result ≡ whole_if f symbols.now (length rows.old) }
     ensures rows { rows.new ≡ rows_whole f symbols.now (length rows.old) rows.new }
 {
-    match pass(f, symbols, true, rows) {
-        Outcome::Whole(v) => {
-            let filled = v.filled;
-            if filled {
-                return Examined::Whole(v);
-            }
-            return Examined::Refused;
-        },
-        Outcome::Faulty(_) => {
-            return Examined::Refused;
-        },
-        Outcome::NotExamined => {
-            return Examined::Refused;
-        },
-    }
+    let v = pass(f, symbols, true, rows).ok()?;
+    v.filled.then_some(v)
 }

@@ -1,6 +1,7 @@
 -- What is a window, what is given with one, and what the calls answer of it.
 -- Assumes nothing.
-use mathlib.Core.Path.{◌≡◌, sym, ap, ◌∙◌}
+use Rattle.std.specs.Prelude.{Option as Answered}
+use mathlib.Core.Path.{◌≡◌, refl, sym, ap, ◌∙◌}
 use mathlib.Core.Bool.{true, false}
 use mathlib.Core.List.{List}
 use mathlib.Core.Option.{Option, some, get_or}
@@ -28,9 +29,10 @@ use Rattle.window.specs.Scan.{byte_of, symbol_at}
 use Rattle.window.specs.Tests.{named, next_line, line_read, repair_count, repairs_at}
 use Rattle.window.specs.Words.{word_at}
 use Rattle.window.specs.Inside.Given.{Given}
-use Rattle.read_test21_26.specs.declared.call.Lowest.{Lowest}
-use Rattle.read_test21_26.specs.Inside.Call.{is_window, service_of, wrong25, wrong26, lowest_of}
-use Rattle.read_test21_26.specs.Inside.Holds.{holds_of, holds_at, wrong_in}
+use Rattle.read_test21_26.specs.declared.service.Test.TheVariants.{Timing, Line, V, Crcc, Sample, Fill}
+use Rattle.read_test21_26.specs.declared.service.Test.{Test}
+use Rattle.read_test21_26.specs.Inside.Call.{is_window, service_of, wrong25, wrong26, place_of}
+use Rattle.read_test21_26.specs.Inside.Holds.{holds_of, holds_at, wrong_in, lowest_of}
 
 module _ (f : Format) (n : ℕ) where
   pub known : is_known f ≡ true → {symbols : ℕ} → symbols ≡ symbols_in (shape_of f) → eqb n symbols ≡ is_window f n
@@ -68,15 +70,15 @@ module _ (p : Shape) (w : List ℕ) where
       rw (eb, er, ← line)
 
 -- by the shape in hand
-module _ (f : Format) (w : List ℕ) {p : Shape} (e : p ≡ shape_of f) (c : Sums) {r : Lowest} where
-  pub is_place_25 : r ≡ lowest_of (wrong_in (holds_at 25 f p w c) (picture_start * streams p) (eav_start * streams p)) → r ≡ lowest_of (wrong25 f w)
+module _ (f : Format) (w : List ℕ) {p : Shape} (e : p ≡ shape_of f) (c : Sums) {r : Answered ℕ} where
+  pub is_place_25 : r ≡ lowest_of (wrong_in (holds_at Sample f p w c) (picture_start * streams p) (eav_start * streams p)) → r ≡ lowest_of (wrong25 f w)
   unfolding wrong25 holds_of
-  is_place_25 is = is ∙ ap (λ (q : Shape). lowest_of (wrong_in (holds_at 25 f q w c) (picture_start * streams q) (eav_start * streams q))) e
+  is_place_25 is = is ∙ ap (λ (q : Shape). lowest_of (wrong_in (holds_at Sample f q w c) (picture_start * streams q) (eav_start * streams q))) e
 
   pub is_place_26 :
       r
       ≡ lowest_of
-      (wrong_in (holds_at 26 f p w c) (streams p * (ancillary_start + p.ancillary)) (streams p * (ancillary_start + p.ancillary) + 2 * p.fill_pairs))
+      (wrong_in (holds_at Fill f p w c) (streams p * (ancillary_start + p.ancillary)) (streams p * (ancillary_start + p.ancillary) + 2 * p.fill_pairs))
       → r ≡ lowest_of (wrong26 f w)
   unfolding wrong26 holds_of
   is_place_26 is =
@@ -84,5 +86,13 @@ module _ (f : Format) (w : List ℕ) {p : Shape} (e : p ≡ shape_of f) (c : Sum
       ∙ ap
       (λ (q : Shape).
       lowest_of
-      (wrong_in (holds_at 26 f q w c) (streams q * (ancillary_start + q.ancillary)) (streams q * (ancillary_start + q.ancillary) + 2 * q.fill_pairs)))
+      (wrong_in (holds_at Fill f q w c) (streams q * (ancillary_start + q.ancillary)) (streams q * (ancillary_start + q.ancillary) + 2 * q.fill_pairs)))
       e
+
+pub other_place : (test : Test) (f : Format) (w : List ℕ) → (test ≡ Sample → ⊥) → place_of test f w ≡ wrong26 f w
+other_place Timing f w n = refl
+other_place Line f w n = refl
+other_place V f w n = refl
+other_place Crcc f w n = refl
+other_place Sample f w n = absurd (n refl)
+other_place Fill f w n = refl

@@ -1,7 +1,6 @@
 pub mod Allowing
 pub mod Calls
 pub mod InTurn
-pub mod Numbers
 pub mod Reading
 pub mod Regions
 pub mod Repairing

@@ -1,5 +1,6 @@
 -- The words of a window as the code reads them.
 -- Assumes nothing.
+use Rattle.std.specs.Prelude.{Result, Ok, Err, is_ok}
 use mathlib.Core.Path.{◌≡◌, refl, sym, ap, ◌∙◌}
 use mathlib.Core.List.{List}
 use mathlib.Core.Option.{Option, none, some, get_or}
@@ -7,6 +8,7 @@ use Prim.Native.Nat.{ℕ, zero, suc, ◌+◌, ◌*◌, ◌/◌, ◌%◌, ◌≤�
 use native.Mathlib.Omega.{arith}
 use borrow.Author.Tests.{lt-ltb, eq-eqb, ne_eqb}
 use Rattle.ground.specs.Answer.{Answer, refused, given}
+use Rattle.ground.specs.Search.{is_some}
 use Rattle.ground.specs.Written.{upto, table}
 use Rattle.line.specs.declared.stream.StreamLine.{StreamLine}
 use Rattle.line.specs.Stream.{line_before}
@@ -16,8 +18,8 @@ use Rattle.span.specs.Layout.{eav_start, line_start, eav_xyz}
 use Rattle.packing.specs.declared.bytes.TwoWords.{TwoWords}
 use Rattle.packing.specs.Bytes.{unpacked}
 use Rattle.crcc.specs.Crcc.{crc, crc_word, crcc_words}
-use Rattle.word.specs.declared.line_number.Named.{Named}
-use Rattle.word.specs.declared.line_number.Named.TheVariants.{Line, Above4095, Nameless}
+use Rattle.word.specs.declared.line_number.NameError.{NameError}
+use Rattle.word.specs.declared.line_number.NameError.TheVariants.{Above4095, Nameless}
 use Rattle.word.specs.LineNumber.{line_of, named_of, paper_named}
 use Rattle.window.specs.Tests.{word_of, named, next_line, line_read}
 use Rattle.word.specs.Received.{repaired}
@@ -79,18 +81,23 @@ module _ (a b : ℕ) (small : a < 4096) (smaller : b < 4096) where
   named_is none e = simp (lt-ltb a 4096 small, lt-ltb b 4096 smaller, e)
   named_is (some m) e = simp (lt-ltb a 4096 small, lt-ltb b 4096 smaller, e)
 
-  pub line_told : (r : Named) → paper_named r ≡ named_of a b → line_in r ≡ line_of a b
+  pub line_told : (r : Result StreamLine NameError) → paper_named r ≡ named_of a b → line_in r ≡ line_of a b
   line_told r q = go (line_of a b) refl r q
     where
-      go : (o : Option ℕ) → line_of a b ≡ o → (r : Named) → paper_named r ≡ named_of a b → line_in r ≡ line_of a b
-      go none e (Line l) q = let z : ◌≡◌ {A = ℕ} 0 1 = cc (q ∙ named_is none e) in absurd (omega arith)
-      go none e Above4095 q = sym e
-      go none e Nameless q = sym e
-      go (some m) e (Line l) q =
+      go : (o : Option ℕ) → line_of a b ≡ o → (r : Result StreamLine NameError) → paper_named r ≡ named_of a b → line_in r ≡ line_of a b
+      go none e (Ok l) q = let z : ◌≡◌ {A = ℕ} 0 1 = cc (q ∙ named_is none e) in absurd (omega arith)
+      go none e (Err Above4095) q = sym e
+      go none e (Err Nameless) q = sym e
+      go (some m) e (Ok l) q =
           let same : l ≡ record { 0 = m } = cc (q ∙ named_is (some m) e) in
           ap {B = Option ℕ} (λ (x : StreamLine). some x.0) same ∙ sym e
-      go (some m) e Above4095 q = let z : ◌≡◌ {A = ℕ} 0 1 = cc (q ∙ named_is (some m) e) in absurd (omega arith)
-      go (some m) e Nameless q = let z : ◌≡◌ {A = ℕ} 0 1 = cc (q ∙ named_is (some m) e) in absurd (omega arith)
+      go (some m) e (Err Above4095) q = let z : ◌≡◌ {A = ℕ} 0 1 = cc (q ∙ named_is (some m) e) in absurd (omega arith)
+      go (some m) e (Err Nameless) q = let z : ◌≡◌ {A = ℕ} 0 1 = cc (q ∙ named_is (some m) e) in absurd (omega arith)
+
+-- a line is named where the answer is one
+pub named_ok : (r : Result StreamLine NameError) → is_ok r ≡ is_some (line_in r)
+named_ok (Ok l) = refl
+named_ok (Err e) = refl
 
 -- the two words of stream 1
 module _ (p : Shape) (w : List ℕ) {a b : ℕ} (first : a ≡ word_at p w (line_start * streams p)) (second : b ≡ word_at p w ((line_start + 1) * streams p)) where
@@ -101,7 +108,7 @@ module _ (p : Shape) (w : List ℕ) {a b : ℕ} (first : a ≡ word_at p w (line
       rw (first, second, e, q)
 
 -- the line named, and the line before it, which is the line read
-module _ (s : ℕ) (word : ℕ → ℕ) (next : Named) (e : line_in next ≡ named s word) where
+module _ (s : ℕ) (word : ℕ → ℕ) (next : Result StreamLine NameError) (e : line_in next ≡ named s word) where
   pub next_line_lem : get_or (line_in next) 0 ≡ next_line s word
   unfolding next_line
   next_line_lem = ap (λ (o : Option ℕ). get_or o 0) e

@@ -12,9 +12,9 @@ use Rattle.ground.specs.Search.{first_below}
 use Rattle.ground.proofs.Cases.{on_test}
 use Rattle.ground.proofs.Searches.{Lowest, Nowhere}
 use Rattle.window.specs.Read.{placed}
-use Rattle.read_test21_26.specs.declared.service.Verdict.{Verdict}
+use Rattle.read_test21_26.specs.declared.service.Test.{Test}
 use Rattle.read_test21_26.specs.Inside.Holds.{wrong_in}
-use Rattle.read_test21_26.specs.Inside.Verdict.{verdict_of}
+use Rattle.read_test21_26.specs.Inside.Verdict.{Verdict, verdict_of}
 use Rattle.read_test21_26.proofs.Searching.{wrong, hit_in, miss_in, is_hit_in, is_miss_in}
 
 -- ---- places
@@ -25,10 +25,10 @@ module _ (holds : ℕ → Bool) where
   longer {a} {b} {c} x y j h l =
       on_test (ltb j b) (λ t. x.never j h (ltb-true j b t)) (λ t. y j (ltb-false j b t) l)
 
-  module _ (number : ℕ) where
+  module _ (kind : Test) where
     -- a run, and else the rest
     abbrev sought : ℕ → ℕ → Verdict → Verdict
-    sought a b rest = verdict_of number (wrong_in holds a b) rest
+    sought a b rest = verdict_of kind (wrong_in holds a b) rest
 
     -- one in which it holds
     pass : (rest : Verdict) {a b : ℕ} → a ≤ b → ((j : ℕ) → a ≤ j → j < b → holds j ≡ true) → sought a b rest ≡ rest
@@ -68,19 +68,19 @@ module _ (s : ℕ) (some-stream : 1 ≤ s) where
   pub before_word : {b k : ℕ} → k < s * b → k / s < b
   before_word {b} {k} h = (div-lt_iff_lt-mul some-stream).1 (omega arith)
 
-  module _ (holds : ℕ → ℕ → Bool) (n number : ℕ) (rest : Verdict) where
+  module _ (holds : ℕ → ℕ → Bool) (n : ℕ) (kind : Test) (rest : Verdict) where
     abbrev test : ℕ → Bool
     test k = placed s holds k
 
     -- in words from a to before b, and else the rest
     abbrev found : ℕ → ℕ → Verdict → Verdict
-    found a b rest = verdict_of number (wrong_in test (s * a) (s * b)) rest
+    found a b rest = verdict_of kind (wrong_in test (s * a) (s * b)) rest
 
     -- among all places
     abbrev all : Verdict
-    all = verdict_of number (first_below n (λ k. not (test k))) rest
+    all = verdict_of kind (first_below n (λ k. not (test k))) rest
 
-    all_places : all ≡ sought test number 0 n rest
+    all_places : all ≡ sought test kind 0 n rest
     unfolding first_below wrong_in
     all_places = let z : n - 0 ≡ n = omega arith in rw z
 
@@ -88,9 +88,9 @@ module _ (s : ℕ) (some-stream : 1 ≤ s) where
       pub in_one_run : s * b ≤ n → ((j t : ℕ) → (a ≤ j → b ≤ j) → holds j t ≡ true) → all ≡ found a b rest
       in_one_run e outside =
           all_places
-          ∙ past test number rest (omega arith) (mul-le-mul_left s p) e
+          ∙ past test kind rest (omega arith) (mul-le-mul_left s p) e
           (λ k h l. right k (λ m. absurd (omega (arith, before_word l))))
-          ∙ ap (found a b) (pass test number rest e (λ k h l. right k (λ m. from_word h)))
+          ∙ ap (found a b) (pass test kind rest e (λ k h l. right k (λ m. from_word h)))
         where
           right : (k : ℕ) → (a ≤ k / s → b ≤ k / s) → test k ≡ true
           right k = outside (k / s) (k % s)
@@ -99,11 +99,11 @@ module _ (s : ℕ) (some-stream : 1 ≤ s) where
           → ((j t : ℕ) → (a ≤ j → b ≤ j) → (c ≤ j → d ≤ j) → holds j t ≡ true) → all ≡ found a b (found c d rest)
       in_two_runs {c} {d} q r e outside =
           all_places
-          ∙ past test number rest (omega arith) (mul-le-mul_left s p) (omega (arith, bc, cd))
+          ∙ past test kind rest (omega arith) (mul-le-mul_left s p) (omega (arith, bc, cd))
           (λ k h l. right k (λ m. absurd (omega (arith, before_word l))) (λ m. absurd (omega (arith, before_word l))))
           ∙ ap (found a b)
-          (past test number rest bc cd e (λ k h l. right k (λ m. from_word h) (λ m. absurd (omega (arith, before_word l))))
-          ∙ ap (found c d) (pass test number rest e (λ k h l. right k (λ m. omega (arith, from_word h)) (λ m. from_word h))))
+          (past test kind rest bc cd e (λ k h l. right k (λ m. from_word h) (λ m. absurd (omega (arith, before_word l))))
+          ∙ ap (found c d) (pass test kind rest e (λ k h l. right k (λ m. omega (arith, from_word h)) (λ m. from_word h))))
         where
           bc : s * b ≤ s * c
           bc = mul-le-mul_left s q

@@ -1,5 +1,6 @@
 -- The search for the lowest place at which a test is wrong: what it tells, what it is told by, and the run that makes it.
 -- Assumes nothing.
+use Rattle.std.specs.Prelude.{Some, None}
 use mathlib.Core.Path.{◌≡◌, refl, ap}
 use mathlib.Core.Bool.{Bool, true, false, not}
 use mathlib.Core.Logic.{◌⊎◌, ⊎_elim}
@@ -8,7 +9,7 @@ use Prim.Native.Nat.{ℕ, ◌+◌, ◌-◌, ◌≤◌, ◌<◌}
 use native.Mathlib.Nat.{eq-or-lt_of_le}
 use native.Mathlib.Omega.{arith}
 use Rattle.ground.proofs.Searches.{Lowest, Nowhere, hit_from, miss_from, is_hit_from, is_miss_from}
-use Rattle.read_test21_26.specs.Inside.Holds.{wrong_in, first_wrong}
+use Rattle.read_test21_26.specs.Inside.Holds.{wrong_in, lowest_of}
 
 module _ (holds : ℕ → Bool) where
   abbrev pub wrong : ℕ → Bool
@@ -50,27 +51,20 @@ module _ (holds : ℕ → Bool) where
       sooner j l = eq-or-lt_of_le (let b : j ≤ k = omega arith in b)
 
   -- it stops at the first place at which it does not hold
-  pub stops : {from k : ℕ} (to : ℕ) → Held from k → k < to → holds k ≡ false → first_wrong holds from to ≡ k
+  pub stops : {from k : ℕ} (to : ℕ) → Held from k → k < to → holds k ≡ false → lowest_of (wrong_in holds from to) ≡ Some k
   stops {from} {k} to g h t =
       let up : from ≤ to = omega (arith, g.come) in
       rw (is_hit_in up (record { from = g.come; below = h; holds = ap not t; least = λ j p q. ap not (g.held j p q) }))
 
   -- or comes to the end
-  pub ends : {from to : ℕ} → Held from to → first_wrong holds from to ≡ to
+  pub ends : {from to : ℕ} → Held from to → lowest_of (wrong_in holds from to) ≡ None
   ends g = rw (is_miss_in g.come (record { never = λ j p q. ap not (g.held j p q) }))
 
-  -- ---- a place before the end is where it is wrong, and the end itself says that it is so nowhere
-  module _ (from to : ℕ) {place : ℕ} (e : place ≡ first_wrong holds from to) where
-    pub found : place < to → wrong_in holds from to ≡ some place
-    found l = go (wrong_in holds from to) refl
-      where
-        go : (o : Option ℕ) → wrong_in holds from to ≡ o → wrong_in holds from to ≡ some place
-        go none q = let z : place ≡ to = rw q at e in absurd (omega arith)
-        go (some k) q = let z : place ≡ k = rw q at e in rw z q
+-- ---- what an answer tells
+pub some_told : (o : Option ℕ) {k : ℕ} → Some k ≡ lowest_of o → o ≡ some k
+some_told none e = cc
+some_told (some m) e = cc
 
-    pub not_found : from ≤ to → to ≤ place → wrong_in holds from to ≡ none
-    not_found up l = go (wrong_in holds from to) refl
-      where
-        go : (o : Option ℕ) → wrong_in holds from to ≡ o → wrong_in holds from to ≡ none
-        go none q = q
-        go (some k) q = let z : place ≡ k = rw q at e in absurd (omega (arith, (hit_in up q).below))
+pub none_told : (o : Option ℕ) → None ≡ lowest_of o → o ≡ none
+none_told none e = refl
+none_told (some m) e = cc

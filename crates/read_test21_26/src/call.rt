@@ -1,21 +1,21 @@
 // What other crates ask about a window. Of anything that is not a window of a known format the answer says so.
-ghost use Rattle.std.specs.Prelude.{◌≡◌, true, ◌*◌, ◌≤◌, length};
+ghost use Rattle.std.specs.Prelude.{◌≡◌, true, length};
 ghost use Rattle.ground.specs.Search.{is_some};
 ghost use Rattle.span.specs.Format.{streams, pairs_in};
 ghost use Rattle.window.specs.Tests.{named};
 ghost use Rattle.window.specs.Words.{word_at};
 ghost use Rattle.window.specs.Inside.Given.{Given};
-ghost use Rattle.read_test21_26.specs.declared.call.Judged.TheVariants.{Serves};
-ghost use Rattle.read_test21_26.specs.Inside.Call.{is_window, service_of, judged_of, service_if, lowest_of, lowest_if};
-ghost use Rattle.read_test21_26.specs.Inside.Holds.{LineKnown, holds_at, wrong_in};
+ghost use Rattle.read_test21_26.specs.declared.call.JudgeError.TheVariants.{Fails};
+ghost use Rattle.read_test21_26.specs.Inside.Call.{is_window, service_of, judged_of, service_if, lowest_if};
+ghost use Rattle.read_test21_26.specs.Inside.Holds.{LineKnown};
 
-use crate::service::{Fault, Verdict};
+use crate::service::{Fault, Test};
 use crcc::sums::Sums;
 use line::stream::StreamLine;
 use span::content::ContentBytes;
 use span::format::{Format, Shape};
 use window::delivery::Repairs;
-use word::line_number::Named;
+use word::line_number::NameError;
 
 // Whether this many symbols make a window of a known format.
 fn is_window(f: Format, symbols: usize) -> bool
@@ -37,132 +37,115 @@ pub struct Service {
     pub repairs: Repairs,
 }
 
-#[derive(Drop)]
-pub enum Judged {
-    Serves(Service),
+#[derive(Clone, Copy, Debug, PartialEq, Eq)]
+pub enum JudgeError {
     // The first of tests 21 to 24 that does not hold.
-    Refused(Fault),
+    Fails(Fault),
     // Not a window of a known format.
     NoWindow,
 }
 
-// A window for which tests 21 to 24 hold.
-fn served(t: &[u16; 1024], p: Shape, symbols: &[u16], next: Named) -> Judged
+impl From<Fault> for JudgeError {
+    ghost from_gives = { λ x e. e ≡ Fails x };
+
+    fn from(x: Fault) -> JudgeError {
+        JudgeError::Fails(x)
+    }
+}
+
+// A window for which tests 21 to 24 hold: by test 22, a line is named.
+fn served(
+    t: &[u16; 1024],
+    p: Shape,
+    symbols: &[u16],
+    next: Result<StreamLine, NameError>,
+) -> Service
     requires line_known { LineKnown p t.now symbols.now next }
     requires symbols_value { is_some (named (streams p) (word_at p symbols.now)) ≡ true }
-    ensures { result ≡ Serves (service_of p symbols.now) }
+    ensures { result ≡ service_of p symbols.now }
 {
-    match next {
-        Named::Line(l) => {
-            let content = crate::words::content_in(t, p, symbols);
-            Judged::Serves(Service {
-                line: line::stream::line_before(l),
-                content,
-                repairs: crate::repairs::repairs_in(t, p, symbols),
-            })
-        }
-        // Neither is met: test 22 holds, so a line is named.
-        Named::Above4095 => Judged::NoWindow,
-        Named::Nameless => Judged::NoWindow,
+    let after = next.unwrap();
+    Service {
+        line: line::stream::line_before(after),
+        content: crate::words::content_in(t, p, symbols),
+        repairs: crate::repairs::repairs_in(t, p, symbols),
     }
 }
 
 // A window.
-fn judge_window(f: Format, t: &[u16; 1024], p: Shape, symbols: &[u16], c: Sums) -> Judged
+fn judge_window(
+    f: Format,
+    t: &[u16; 1024],
+    p: Shape,
+    symbols: &[u16],
+    c: Sums,
+) -> Result<Service, JudgeError>
     requires { Given p t.now symbols.now }
     ensures { result ≡ judged_of p symbols.now c }
 {
     let next = crate::holds::next_line(t, p, symbols);
-    match crate::service::judge_words(f, t, p, symbols, next, c) {
-        Verdict::AllHold => served(t, p, symbols, next),
-        Verdict::Fails(fault) => Judged::Refused(fault),
-    }
+    crate::service::judge_words(f, t, p, symbols, next, c)?;
+    Ok(served(t, p, symbols, next))
 }
 
 // Tests 21 to 24, given the sums that the picture words of the streams leave. The table is copied once, here.
-pub fn service_of(f: Format, symbols: &[u16], c: Sums) -> Judged
+pub fn service_of(f: Format, symbols: &[u16], c: Sums) -> Result<Service, JudgeError>
     ensures { result ≡ service_if f symbols.now c }
 {
     if is_window(f, symbols.len()) {
         let t = decoder::table::decoding_table();
         return judge_window(f, &t, span::format::shape_of(f), symbols, c);
     }
-    Judged::NoWindow
+    Err(JudgeError::NoWindow)
 }
 
-#[derive(Drop)]
-pub enum Lowest {
-    Place(usize),
-    // The test holds at every place.
-    NoneWrong,
-    // Not a window of a known format.
-    NoWindow,
-}
+// Not a window of a known format.
+#[derive(Clone, Copy, Debug, PartialEq, Eq)]
+pub struct NoWindow;
 
-// The lowest place from one to another at which a test does not hold.
-fn lowest_in(
-    number: u8,
-    f: Format,
-    t: &[u16; 1024],
-    p: Shape,
-    symbols: &[u16],
-    next: Named,
-    c: Sums,
-    from: usize,
-    to: usize,
-) -> Lowest
-    requires line_known { LineKnown p t.now symbols.now next }
-    requires from_le_to { from ≤ to }
-    requires to_bound { to ≤ 2 * pairs_in p }
-    ensures { result ≡ lowest_of (wrong_in (holds_at number f p symbols.now c) from to) }
+// The lowest place of a word that may not be a sample's, or, where another test than that is asked for, of a fill word that is not 100. The
+// sums count for neither.
+pub fn lowest_place(test: Test, f: Format, symbols: &[u16]) -> Result<Option<usize>, NoWindow>
+    ensures { result ≡ lowest_if test f symbols.now }
 {
-    let place = crate::holds::first_wrong(number, f, t, p, symbols, next, c, from, to);
-    if place < to {
-        return Lowest::Place(place);
+    if !is_window(f, symbols.len()) {
+        return Err(NoWindow);
     }
-    Lowest::NoneWrong
-}
-
-// The lowest place of a word that may not be a sample's (25), or of a fill word that is not 100 (26). The sums count for neither test.
-pub fn lowest_place(number: u8, f: Format, symbols: &[u16]) -> Lowest
-    ensures { result ≡ lowest_if number f symbols.now }
-{
-    if is_window(f, symbols.len()) {
-        let t = decoder::table::decoding_table();
-        let p = span::format::shape_of(f);
-        let s = 2 * p.stream_pairs;
-        let next = crate::holds::next_line(&t, p, symbols);
-        let c = Sums {
-            first: 0,
-            second: 0,
-            third: 0,
-            fourth: 0,
-        };
-        if number == 25 {
-            return lowest_in(
-                25,
-                f,
-                &t,
-                p,
-                symbols,
-                next,
-                c,
-                span::layout::PICTURE * s,
-                span::layout::EAV * s,
-            );
-        }
-        let from = s * (span::layout::ANCILLARY + p.ancillary);
-        return lowest_in(
-            26,
+    let t = decoder::table::decoding_table();
+    let p = span::format::shape_of(f);
+    let s = 2 * p.stream_pairs;
+    let next = crate::holds::next_line(&t, p, symbols);
+    let c = Sums {
+        first: 0,
+        second: 0,
+        third: 0,
+        fourth: 0,
+    };
+    match test {
+        Test::Sample => Ok(crate::holds::first_wrong(
+            Test::Sample,
             f,
             &t,
             p,
             symbols,
             next,
             c,
-            from,
-            from + 2 * p.fill_pairs,
-        );
+            span::layout::PICTURE * s,
+            span::layout::EAV * s,
+        )),
+        _ => {
+            let from = s * (span::layout::ANCILLARY + p.ancillary);
+            Ok(crate::holds::first_wrong(
+                Test::Fill,
+                f,
+                &t,
+                p,
+                symbols,
+                next,
+                c,
+                from,
+                from + 2 * p.fill_pairs,
+            ))
+        }
     }
-    Lowest::NoWindow
 }

@@ -9,16 +9,18 @@ ghost use Rattle.window.specs.Read.{placed};
 ghost use Rattle.window.specs.Tests.{named, holds21, holds22, holds23};
 ghost use Rattle.window.specs.Words.{word_at};
 ghost use Rattle.window.specs.Inside.Given.{Given};
-ghost use Rattle.read_test21_26.specs.Inside.Holds.{line_in, LineKnown, holds24_by, holds_at, first_wrong, crcc_received};
+ghost use Rattle.read_test21_26.specs.Inside.Holds.{line_in, LineKnown, holds24_by, holds_at, wrong_in, lowest_of, crcc_received};
 
+use crate::service::Test;
 use crcc::crcc::CrccWords;
 use crcc::sums::Sums;
+use line::stream::StreamLine;
 use span::format::{Format, Shape};
-use word::line_number::Named;
+use word::line_number::NameError;
 
 // The line that LN0 and LN1 of stream 1 name, if they name one. This and `read_line_words` rule out the fault that lost a recital: both
 // words are from one stream and one span, and name a line only if both are what is sent for it.
-pub(crate) fn next_line(t: &[u16; 1024], p: Shape, symbols: &[u16]) -> Named
+pub(crate) fn next_line(t: &[u16; 1024], p: Shape, symbols: &[u16]) -> Result<StreamLine, NameError>
     requires { Given p t.now symbols.now }
     ensures { line_in result ≡ named (streams p) (word_at p symbols.now) }
 {
@@ -28,36 +30,23 @@ pub(crate) fn next_line(t: &[u16; 1024], p: Shape, symbols: &[u16]) -> Named
     word::line_number::read_line_words(ln0, ln1)
 }
 
-// Whether a line is named.
-fn names_line(next: Named) -> bool
-    ensures { result ≡ is_some (line_in next) }
-{
-    match next {
-        Named::Line(_) => true,
-        Named::Above4095 => false,
-        Named::Nameless => false,
-    }
-}
-
 // V of the line that is named. If none is, test 22 has failed before V is checked, and V is 1.
-fn v_named(next: Named) -> bool
+fn v_named(next: Result<StreamLine, NameError>) -> bool
     ensures { result ≡ v_of (get_or (line_in next) 0) }
 {
     match next {
-        Named::Line(l) => line::stream::v_of(l),
-        Named::Above4095 => true,
-        Named::Nameless => true,
+        Ok(l) => line::stream::v_of(l),
+        Err(_) => true,
     }
 }
 
 // The same of the line before it.
-fn v_before(next: Named) -> bool
+fn v_before(next: Result<StreamLine, NameError>) -> bool
     ensures { result ≡ v_of (line_before (get_or (line_in next) 0)) }
 {
     match next {
-        Named::Line(l) => line::stream::v_of(line::stream::line_before(l)),
-        Named::Above4095 => true,
-        Named::Nameless => true,
+        Ok(l) => line::stream::v_of(line::stream::line_before(l)),
+        Err(_) => true,
     }
 }
 
@@ -81,7 +70,13 @@ fn timing_holds(t: &[u16; 1024], p: Shape, symbols: &[u16], k: usize) -> bool
 }
 
 // 22: a line number word.
-fn line_holds(t: &[u16; 1024], p: Shape, symbols: &[u16], next: Named, k: usize) -> bool
+fn line_holds(
+    t: &[u16; 1024],
+    p: Shape,
+    symbols: &[u16],
+    next: Result<StreamLine, NameError>,
+    k: usize,
+) -> bool
     requires given { Given p t.now symbols.now }
     requires k_bound { k < 2 * pairs_in p }
     requires next_value { line_in next ≡ named (streams p) (word_at p symbols.now) }
@@ -90,7 +85,7 @@ fn line_holds(t: &[u16; 1024], p: Shape, symbols: &[u16], next: Named, k: usize)
     let s = 2 * p.stream_pairs;
     let j = k / s;
     if k == span::layout::LINE_NUMBER * s {
-        return names_line(next);
+        return next.is_ok();
     }
     if span::layout::LINE_NUMBER <= j {
         if j < span::layout::CRCC {
@@ -102,7 +97,13 @@ fn line_holds(t: &[u16; 1024], p: Shape, symbols: &[u16], next: Named, k: usize)
 }
 
 // 23: V.
-fn v_holds(t: &[u16; 1024], p: Shape, symbols: &[u16], next: Named, k: usize) -> bool
+fn v_holds(
+    t: &[u16; 1024],
+    p: Shape,
+    symbols: &[u16],
+    next: Result<StreamLine, NameError>,
+    k: usize,
+) -> bool
     requires given { Given p t.now symbols.now }
     requires k_bound { k < 2 * pairs_in p }
     requires next_value { line_in next ≡ named (streams p) (word_at p symbols.now) }
@@ -143,16 +144,12 @@ fn crcc_after(t: &[u16; 1024], p: Shape, symbols: &[u16], i: usize, c: u32) -> C
 fn sum_of(c: Sums, i: usize) -> u32
     ensures { result ≡ sum_in c i }
 {
-    if i == 0 {
-        return c.first;
+    match i {
+        0 => c.first,
+        1 => c.second,
+        2 => c.third,
+        _ => c.fourth,
     }
-    if i == 1 {
-        return c.second;
-    }
-    if i == 2 {
-        return c.third;
-    }
-    c.fourth
 }
 
 // 24: a CRCC word.
@@ -178,62 +175,53 @@ fn crcc_holds(t: &[u16; 1024], p: Shape, symbols: &[u16], c: Sums, k: usize) -> 
 
 // Whether a test holds at place k.
 fn holds(
-    number: u8,
+    test: Test,
     f: Format,
     t: &[u16; 1024],
     p: Shape,
     symbols: &[u16],
-    next: Named,
+    next: Result<StreamLine, NameError>,
     c: Sums,
     k: usize,
 ) -> bool
     requires line_known { LineKnown p t.now symbols.now next }
     requires k_bound { k < 2 * pairs_in p }
-    ensures { result ≡ holds_at number f p symbols.now c k }
+    ensures { result ≡ holds_at test f p symbols.now c k }
 {
-    if number == 21 {
-        return timing_holds(t, p, symbols, k);
+    match test {
+        Test::Timing => timing_holds(t, p, symbols, k),
+        Test::Line => line_holds(t, p, symbols, next, k),
+        Test::V => v_holds(t, p, symbols, next, k),
+        Test::Crcc => crcc_holds(t, p, symbols, c, k),
+        Test::Sample => packing::sample::allowed_word(
+            span::format::depth_of(f),
+            crate::words::word_at(t, p, symbols, k),
+        ),
+        Test::Fill => crate::words::word_at(t, p, symbols, k) == span::blanking::fill_word(),
     }
-    if number == 22 {
-        return line_holds(t, p, symbols, next, k);
-    }
-    if number == 23 {
-        return v_holds(t, p, symbols, next, k);
-    }
-    if number == 24 {
-        return crcc_holds(t, p, symbols, c, k);
-    }
-    let w = crate::words::word_at(t, p, symbols, k);
-    if number == 25 {
-        return packing::sample::allowed_word(span::format::depth_of(f), w);
-    }
-    w == span::blanking::fill_word()
 }
 
-// The lowest place from one to another at which it does not hold; the end of the range if it holds at every one.
+// The lowest place from one to another at which a test does not hold, if there is one.
 pub(crate) fn first_wrong(
-    number: u8,
+    test: Test,
     f: Format,
     t: &[u16; 1024],
     p: Shape,
     symbols: &[u16],
-    next: Named,
+    next: Result<StreamLine, NameError>,
     c: Sums,
     from: usize,
     to: usize,
-) -> usize
+) -> Option<usize>
     requires line_known { LineKnown p t.now symbols.now next }
     requires from_le_to { from ≤ to }
     requires to_bound { to ≤ 2 * pairs_in p }
-    ensures { result ≡ first_wrong (holds_at number f p symbols.now c) from to }
+    ensures { result ≡ lowest_of (wrong_in (holds_at test f p symbols.now c) from to) }
 {
-    let mut k = from;
-    while k < to {
-        if holds(number, f, t, p, symbols, next, c, k) {
-            k += 1;
-        } else {
-            return k;
+    for k in from..to {
+        if !holds(test, f, t, p, symbols, next, c, k) {
+            return Some(k);
         }
     }
-    to
+    None
 }

@@ -1,28 +1,16 @@
 // Test 25: whether every word of a picture may be a sample's.
 ghost use Rattle.std.specs.Prelude.{◌≡◌, ◌+◌, ◌<◌};
-ghost use Rattle.read_test21_26.specs.Inside.Picture.{all_allowed, wrong_flag};
-
-// 1 for a word that may not be a sample's.
-fn wrong_word(depth: u8, w: u16) -> u16
-    ensures { result ≡ wrong_flag depth w }
-{
-    if packing::sample::allowed_word(depth, w) {
-        return 0;
-    }
-    1
-}
+ghost use Rattle.read_test21_26.specs.Inside.Picture.{all_allowed};
 
 // Whether all may. The loop has one exit, so that it takes many at a time.
 fn each_allowed(depth: u8, rows: &[u16]) -> bool
     ensures { result ≡ all_allowed depth rows.now }
 {
-    let mut found = 0;
-    let mut i = 0;
-    while i < rows.len() {
-        found = found | wrong_word(depth, rows[i]);
-        i += 1;
+    let mut all = true;
+    for w in rows {
+        all &= packing::sample::allowed_word(depth, *w);
     }
-    found == 0
+    all
 }
 
 // The same, with a depth that is a constant in either call, so that no iteration tests it.

@@ -1,61 +1,55 @@
 // Tests 21 to 24 in their order, each over the whole span.
-ghost use Rattle.std.specs.Prelude.{◌≡◌, ◌*◌, ◌≤◌};
+ghost use Rattle.std.specs.Prelude.{◌≡◌, ◌*◌, ◌≤◌, Ok};
 ghost use Rattle.span.specs.Format.{streams};
 ghost use Rattle.span.specs.Layout.{ancillary_start};
 ghost use Rattle.read_test21_26.specs.Inside.Holds.{LineKnown, holds_at, wrong_in};
-ghost use Rattle.read_test21_26.specs.Inside.Verdict.{is_failed, verdict_of, first_row, service_tests};
-ghost use Rattle.read_test21_26.specs.declared.service.Verdict.TheVariants.{AllHold};
+ghost use Rattle.read_test21_26.specs.Inside.Verdict.{verdict_of, first_row, service_tests};
 
 use crcc::sums::Sums;
+use line::stream::StreamLine;
 use span::format::{Format, Shape};
-use word::line_number::Named;
+use word::line_number::NameError;
 
-// A test that does not hold, by its number, and its lowest place.
-#[derive(Clone, Copy)]
+// What each test of a window's words is about, in the order of their numbers, 21 to 26 (document 01).
+#[derive(Clone, Copy, Debug, PartialEq, Eq)]
+pub enum Test {
+    Timing,
+    Line,
+    V,
+    Crcc,
+    Sample,
+    Fill,
+}
+
+// A test that does not hold, and its lowest place.
+#[derive(Clone, Copy, Debug, PartialEq, Eq)]
 pub struct Fault {
-    pub number: u8,
+    pub test: Test,
     pub place: usize,
-}
-
-#[derive(Clone, Copy)]
-pub enum Verdict {
-    AllHold,
-    Fails(Fault),
-}
-
-// Whether a test does not hold.
-fn failed(v: Verdict) -> bool
-    ensures { result ≡ is_failed v }
-{
-    match v {
-        Verdict::AllHold => false,
-        Verdict::Fails(_) => true,
-    }
 }
 
 // One test, over a range of words of all streams.
 fn judge_one(
-    number: u8,
+    test: Test,
     f: Format,
     t: &[u16; 1024],
     p: Shape,
     symbols: &[u16],
-    next: Named,
+    next: Result<StreamLine, NameError>,
     c: Sums,
     from: usize,
     to: usize,
-) -> Verdict
+) -> Result<(), Fault>
     requires line_known { LineKnown p t.now symbols.now next }
     requires from_le_to { from ≤ to }
     requires to_le_ancillary_start { to ≤ ancillary_start }
-    ensures { result ≡ verdict_of number (wrong_in (holds_at number f p symbols.now c) (streams p * from) (streams p * to)) AllHold }
+    ensures { result ≡ verdict_of test (wrong_in (holds_at test f p symbols.now c) (streams p * from) (streams p * to)) (Ok tt) }
 {
     let s = 2 * p.stream_pairs;
-    let place = crate::holds::first_wrong(number, f, t, p, symbols, next, c, s * from, s * to);
-    if place < s * to {
-        return Verdict::Fails(Fault { number, place });
+    match crate::holds::first_wrong(test, f, t, p, symbols, next, c, s * from, s * to) {
+        Some(place) => Err(Fault { test, place }),
+        None => Ok(()),
     }
-    Verdict::AllHold
 }
 
 // Tests 21 to 24.
@@ -64,81 +58,18 @@ pub(crate) fn judge_words(
     t: &[u16; 1024],
     p: Shape,
     symbols: &[u16],
-    next: Named,
+    next: Result<StreamLine, NameError>,
     c: Sums,
-) -> Verdict
+) -> Result<(), Fault>
     requires { LineKnown p t.now symbols.now next }
     ensures { result ≡ first_row (service_tests p symbols.now c) }
 {
-    let sav = judge_one(21, f, t, p, symbols, next, c, 0, span::layout::PICTURE);
-    if failed(sav) {
-        return sav;
-    }
-    let eav = judge_one(
-        21,
-        f,
-        t,
-        p,
-        symbols,
-        next,
-        c,
-        span::layout::EAV,
-        span::layout::LINE_NUMBER,
-    );
-    if failed(eav) {
-        return eav;
-    }
-    let line = judge_one(
-        22,
-        f,
-        t,
-        p,
-        symbols,
-        next,
-        c,
-        span::layout::LINE_NUMBER,
-        span::layout::CRCC,
-    );
-    if failed(line) {
-        return line;
-    }
-    let v = judge_one(
-        23,
-        f,
-        t,
-        p,
-        symbols,
-        next,
-        c,
-        span::layout::SAV_XYZ,
-        span::layout::PICTURE,
-    );
-    if failed(v) {
-        return v;
-    }
-    let next_v = judge_one(
-        23,
-        f,
-        t,
-        p,
-        symbols,
-        next,
-        c,
-        span::layout::EAV_XYZ,
-        span::layout::LINE_NUMBER,
-    );
-    if failed(next_v) {
-        return next_v;
-    }
-    judge_one(
-        24,
-        f,
-        t,
-        p,
-        symbols,
-        next,
-        c,
-        span::layout::CRCC,
-        span::layout::ANCILLARY,
-    )
+    use span::layout::{ANCILLARY, CRCC, EAV, EAV_XYZ, LINE_NUMBER, PICTURE, SAV_XYZ};
+
+    judge_one(Test::Timing, f, t, p, symbols, next, c, 0, PICTURE)?;
+    judge_one(Test::Timing, f, t, p, symbols, next, c, EAV, LINE_NUMBER)?;
+    judge_one(Test::Line, f, t, p, symbols, next, c, LINE_NUMBER, CRCC)?;
+    judge_one(Test::V, f, t, p, symbols, next, c, SAV_XYZ, PICTURE)?;
+    judge_one(Test::V, f, t, p, symbols, next, c, EAV_XYZ, LINE_NUMBER)?;
+    judge_one(Test::Crcc, f, t, p, symbols, next, c, CRCC, ANCILLARY)
 }

@@ -11,10 +11,9 @@ use lib.ListN.{length}
 use lib.Dec.{eqb}
 use lib.Seq.{sets, length-take-le}
 use borrow.Author.Tests.{eq-eqb, ne_eqb}
+use Rattle.std.specs.Prelude.{Option as Answered, Some, None}
 use Rattle.io.specs.Counts.{IsPrefixLen}
 use Rattle.ground.proofs.Putting.{Put, then, put_length, put_as}
-use Rattle.line.specs.declared.picture.Carries.{Carries}
-use Rattle.line.specs.declared.picture.Carries.TheVariants.{Line, Nothing}
 use Rattle.line.specs.declared.picture.PictureLine.{PictureLine}
 use Rattle.line.specs.Picture.{number_carried}
 use Rattle.picture.specs.Division.{h as below}
@@ -101,8 +100,8 @@ blanking_put o at room {u} {end} f =
 
 -- what a stream line carries: the calls say which it is
 module _ (n : ℕ) (o u : List ℕ) (at end : ℕ) where
-  pub carries_lines : (first second : Carries) → number_carried first ≡ picture_line_on n 1 → number_carried second ≡ picture_line_on n 3
-      → {a b : PictureLine} → first ≡ Line a → second ≡ Line b
+  pub carries_lines : (first second : Answered PictureLine) → number_carried first ≡ picture_line_on n 1 → number_carried second ≡ picture_line_on n 3
+      → {a b : PictureLine} → first ≡ Some a → second ≡ Some b
       → Within 33 o u at end (lines_text a.0 b.0)
       → Within 33 o u at end (carried_text n)
   carries_lines first second e f p q w =
@@ -116,14 +115,14 @@ module _ (n : ℕ) (o u : List ℕ) (at end : ℕ) where
   blank_room : Blank → Within 33 o u at end blanking_text
   blank_room w = (w.0, (omega (arith, w.0), w.1))
 
-  pub carries_no_first : (first : Carries) → number_carried first ≡ picture_line_on n 1 → first ≡ Nothing → Blank
+  pub carries_no_first : (first : Answered PictureLine) → number_carried first ≡ picture_line_on n 1 → first ≡ None → Blank
       → Within 33 o u at end (carried_text n)
   carries_no_first first e p w =
       let one : none ≡ picture_line_on n 1 = sym (ap number_carried p) ∙ e in
       subst (λ (t : List ℕ). Within 33 o u at end t) (ap (λ (x : Option ℕ). carried_by x (picture_line_on n 3)) one) (blank_room w)
 
-  pub carries_no_second : (first second : Carries) → number_carried first ≡ picture_line_on n 1 → number_carried second ≡ picture_line_on n 3
-      → {a : PictureLine} → first ≡ Line a → second ≡ Nothing → Blank → Within 33 o u at end (carried_text n)
+  pub carries_no_second : (first second : Answered PictureLine) → number_carried first ≡ picture_line_on n 1 → number_carried second ≡ picture_line_on n 3
+      → {a : PictureLine} → first ≡ Some a → second ≡ None → Blank → Within 33 o u at end (carried_text n)
   carries_no_second first second e f p q w =
       let one : some _ ≡ picture_line_on n 1 = sym (ap number_carried p) ∙ e in
       let other : none ≡ picture_line_on n 3 = sym (ap number_carried q) ∙ f in

@@ -6,7 +6,6 @@ ghost use Rattle.reception.specs.Link.{link};
 ghost use Rattle.reception.specs.Receiving.{joined_row, brings, flag, put_one, heard_from, shown_from, receivable, flags_received, rows_received};
 
 use line::stream::StreamLine;
-use recording::answer::NextSpan;
 use window::delivery::Delivery;
 
 // Two streams of a span joined into a row of the picture, at a place.
@@ -20,7 +19,8 @@ fn put_row(rows: &[u16], t: usize, picture: &mut [u16], at: usize)
     let second = first + 1920;
     let end = second + 1920;
     let past = at + 3840;
-    dividing::join::join(
+    // The lengths are those of a row and its images: nothing is refused.
+    let _ = dividing::join::join(
         &rows[first..second],
         &rows[second..end],
         &mut picture[at..past],
@@ -73,18 +73,14 @@ fn receive_all(
 {
     let f = crate::link::link();
     let mut place = 0;
-    while place < symbols.len() {
+    loop {
         let next = finding::next::next_span(f, symbols, place, rows);
-        let answer = next.answer;
-        match answer {
-            NextSpan::Delivered(s) => {
-                put_span(first, s.delivery, rows, heard, picture);
-                place = next.after;
-            }
-            _ => {
-                return;
-            }
-        }
+        // None of these calls is refused.
+        let Some(s) = next.answer.unwrap_or(None) else {
+            return;
+        };
+        put_span(first, s.delivery, rows, heard, picture);
+        place = next.after;
     }
 }
 
@@ -113,8 +109,8 @@ pub fn receive(first: StreamLine, symbols: &[u16], heard: &mut [u16], picture: &
 {
     if is_ready(first, symbols.len(), heard.len(), picture.len()) {
         let mut rows = [0u16; 7680];
-        ground::fill::fill(heard, 0);
-        ground::fill::fill(picture, 0);
+        heard.fill(0);
+        picture.fill(0);
         receive_all(first, symbols, &mut rows, heard, picture);
         return true;
     }

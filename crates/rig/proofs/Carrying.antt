@@ -7,30 +7,31 @@ use Prim.Native.Nat.{ℕ, ◌<◌}
 use native.Mathlib.Omega.{arith}
 use lib.Dec.{eqb, ltb}
 use borrow.Author.Tests.{lt-ltb, le-ltb, eq-eqb, ne_eqb, eqb-true}
+use Rattle.std.specs.Prelude.{Result, Ok, Err}
 use Rattle.ground.specs.Answer.{Answer, refused, given, unless_refused}
 use Rattle.ground.specs.Inside.Answer.{Injective}
 use Rattle.ground.proofs.Answers.{told_again, when_refused, when_given}
 use Rattle.ground.proofs.Cases.{on_test}
 use Rattle.symbol.specs.declared.disparity.Disparity.{Disparity}
-use Rattle.rig.specs.declared.carry.Carried.{Carried}
-use Rattle.rig.specs.declared.carry.Carried.TheVariants.{After, NoPiece, WrongOutput}
+use Rattle.rig.specs.declared.carry.CarryError.{CarryError}
+use Rattle.rig.specs.declared.carry.CarryError.TheVariants.{NoPiece, WrongOutput}
 use Rattle.rig.specs.Frame.{line_of_piece}
 use Rattle.rig.specs.Piece.{paper_carried, carry_of}
 use Rattle.rig.specs.Sending.{after_from}
 
 -- ---- the answers are told apart by their numbers
 
-abbrev carried_again : Answer Disparity → Carried
-carried_again (refused number place) = cond (eqb number 2) NoPiece WrongOutput
-carried_again (given d) = After d
+abbrev carried_again : Answer Disparity → Result Disparity CarryError
+carried_again (refused number place) = Err (cond (eqb number 2) NoPiece WrongOutput)
+carried_again (given d) = Ok d
 
 pub carried_one_to_one : Injective paper_carried
 carried_one_to_one = told_again carried_again again
   where
-    again : (r : Carried) → carried_again (paper_carried r) ≡ r
-    again (After d) = refl
-    again NoPiece = refl
-    again WrongOutput = refl
+    again : (r : Result Disparity CarryError) → carried_again (paper_carried r) ≡ r
+    again (Ok d) = refl
+    again (Err NoPiece) = refl
+    again (Err WrongOutput) = refl
 
 -- ---- the refusals in the order tried
 

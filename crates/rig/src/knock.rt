@@ -26,11 +26,9 @@ pub(crate) fn strike(k: Knock, from: usize, symbols: &mut [u16])
     requires { from + length symbols.old ≤ 21384000 }
     ensures { symbols.new ≡ knocked k from symbols.old }
 {
-    let mut i = 0;
-    while i < symbols.len() {
+    for (i, symbol) in symbols.iter_mut().enumerate() {
         if is_struck(k, (from + i) as u64) {
-            symbols[i] = 0;
+            *symbol = 0;
         }
-        i += 1;
     }
 }

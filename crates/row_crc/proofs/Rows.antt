@@ -1,6 +1,6 @@
 -- The rows of two streams and of four, cut out of a picture's rows.
 -- Assumes nothing.
-use Rattle.std.specs.Prelude.{Some, None}
+use Rattle.std.specs.Prelude.{Some, None, IsSome, is_some}
 use mathlib.Core.Path.{◌≡◌, refl, ap, ◌∙◌}
 use mathlib.Core.List.{List}
 use Prim.Native.Nat.{ℕ, ◌+◌, ◌*◌, ◌≤◌}
@@ -53,6 +53,9 @@ module _ (rows : List ℕ) (pairs : ℕ) (some : 1 ≤ pairs) (few : pairs ≤ 2
       (λ t.
       let four : length rows ≡ 7680 = omega (arith, eqb-false (length rows) 3840 t) in
       rw (t, eq-eqb (length rows) 7680 four))
+
+  pub some_sums : length rows ≡ 3840 * pairs → IsSome (summed_of rows)
+  some_sums long = ap is_some (has_sums long)
 
   pub are_sums : {c : Sums} → summed_of rows ≡ Some c → length rows ≡ 3840 * pairs → c ≡ sums_in rows
   are_sums e long = let h = has_sums long in cc

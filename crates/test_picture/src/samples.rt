@@ -7,8 +7,8 @@ ghost use Rattle.span.specs.Format.{is_known, shape_of, samples_in};
 ghost use Rattle.test_picture.specs.Putting.{paper_put, samples_answer, samples_put};
 ghost use Rattle.test_picture.specs.TestPicture.{code_step, row_in_steps, test_samples};
 
-use crate::answer::Put;
-use line::picture::{Carries, PictureLine};
+use crate::answer::PutError;
+use line::picture::PictureLine;
 use line::stream::StreamLine;
 use span::format::Format;
 
@@ -40,7 +40,8 @@ fn put_images(
     ensures { samples.new ≡ sets samples.old at (divided 0 1920 (row_in_steps step line.0) ++ divided 1 1920 (row_in_steps step line.0)) }
 {
     crate::row::put_codes(line, step, row);
-    dividing::split::split(row, first, second);
+    // The lengths are those of a row and its images: nothing is refused.
+    let _ = dividing::split::split(row, first, second);
     crate::copy::copy_to(first, samples, at);
     crate::copy::copy_to(second, samples, at + 1920);
 }
@@ -63,14 +64,12 @@ fn put_picture(
 {
     let step = step_of(f);
     let rows = span::format::shape_of(f).stream_pairs;
-    let mut i = 0;
-    while i < rows {
+    for i in 0..rows {
         // images 2i + 1 and 2i + 2 are those of one line
-        let Carries::Line(line) = picture::place::picture_line_on(l, (2 * i + 1) as u8) else {
+        let Some(line) = picture::place::picture_line_on(l, (2 * i + 1) as u8) else {
             return;
         };
         put_images(line, step, row, first, second, samples, 3840 * i);
-        i += 1;
     }
 }
 
@@ -95,7 +94,8 @@ fn put_chosen(
     ensures { samples.new ≡ test_samples f l.0 }
 {
     put_picture(f, l, row, first, second, shown);
-    span::blanking::fill_blanking(f, blanking);
+    // The format is known, and the row as long as it asks: nothing is refused.
+    let _ = span::blanking::fill_blanking(f, blanking);
     let chosen = picture::choice::row_on(l, shown, blanking);
     crate::copy::copy_to(chosen, samples, 0);
 }
@@ -125,19 +125,19 @@ fn put_line(f: Format, l: StreamLine, samples: &mut [u16])
 }
 
 // The samples of a stream line, stream by stream.
-pub fn put_samples(f: Format, l: StreamLine, samples: &mut [u16]) -> Put
+pub fn put_samples(f: Format, l: StreamLine, samples: &mut [u16]) -> Result<(), PutError>
     ensures answer { paper_put result ≡ samples_answer f l.0 samples.old }
     ensures samples { samples.new ≡ samples_put f l.0 samples.old }
 {
     if !span::format::is_known(f) {
-        return Put::UnknownFormat;
+        return Err(PutError::UnknownFormat);
     }
     if !line::stream::is_line(l) {
-        return Put::NoLine;
+        return Err(PutError::NoLine);
     }
     if samples.len() != span::length::span_lengths(f).samples {
-        return Put::WrongOutput;
+        return Err(PutError::WrongOutput);
     }
     put_line(f, l, samples);
-    Put::Done
+    Ok(())
 }

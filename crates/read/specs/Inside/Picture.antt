@@ -1,6 +1,6 @@
 -- The tests of a window that the reader's private functions make.
 -- Assumes nothing.
-use Rattle.std.specs.Prelude.{ℕ, Bool, true, cond, List, eqb, take, drop}
+use Rattle.std.specs.Prelude.{ℕ, Bool, true, cond, List, take, drop}
 use Rattle.std.proofs.Math.Option.{Option}
 use Rattle.ground.specs.Answer.{Row}
 use Rattle.line.specs.Stream.{is_active}
@@ -8,7 +8,8 @@ use Rattle.span.specs.declared.format.Format.{Format}
 use Rattle.span.specs.Format.{shape_of}
 use Rattle.window.specs.Read.{word_tests}
 use Rattle.window.specs.Words.{word_at}
-use Rattle.read_test21_26.specs.Inside.Call.{wrong25, wrong26}
+use Rattle.read_test21_26.specs.declared.service.Test.{Test}
+use Rattle.read_test21_26.specs.Inside.Call.{place_of}
 use Rattle.read_test21_26.specs.Inside.Picture.{all_allowed}
 
 -- tests 21 to 24, and tests 25 and 26
@@ -19,8 +20,8 @@ abbrev pub picture_tests : Format → List ℕ → List Row
 picture_tests f w = drop 4 (word_tests f (word_at (shape_of f) w))
 
 -- where the second two do not hold, at the lowest place
-abbrev pub wrong_place : ℕ → Format → List ℕ → Option ℕ
-wrong_place number f w = cond (eqb number 25) (wrong25 f w) (wrong26 f w)
+abbrev pub wrong_place : Test → Format → List ℕ → Option ℕ
+wrong_place test f w = place_of test f w
 
 -- line n may carry this picture
 abbrev pub right_picture : Format → ℕ → List ℕ → Bool

@@ -3,7 +3,7 @@
 use Rattle.std.specs.Prelude.{◌≡◌, ℕ, ◌+◌, ◌*◌, ◌≤◌, List, set}
 use Rattle.std.proofs.lemmas.List.Edits.{sets}
 use Rattle.packing.specs.declared.bytes.TwoWords.{TwoWords}
-use Rattle.read_test20.specs.declared.picture.Passed.{Passed}
+use Rattle.read_test20.specs.declared.see.Kept.{Kept}
 use Rattle.ground.specs.Written.{table}
 use Rattle.span.specs.declared.format.Shape.{Shape}
 use Rattle.span.specs.Layout.{picture_start}
@@ -21,7 +21,7 @@ abbrev pub put_pair : TwoWords → ℕ → List ℕ → List ℕ
 put_pair x at rows = set (set rows at x.a) (1920 + at) x.b
 
 -- what is gathered after word j of two streams, and the rows then
-abbrev pub place_two : List ℕ → ℕ → Passed → Passed
+abbrev pub place_two : List ℕ → ℕ → Kept → Kept
 place_two w j v =
     let x = seen_three w (12 + 3 * j) v.good v.flips in
     record { good = x.good; flips = x.flips }
@@ -30,7 +30,7 @@ abbrev pub rows_two : List ℕ → ℕ → List ℕ → List ℕ
 rows_two w j rows = put_pair (plain_pair w (12 + 3 * j)) j rows
 
 -- the same for four streams
-abbrev pub place_four : List ℕ → ℕ → Passed → Passed
+abbrev pub place_four : List ℕ → ℕ → Kept → Kept
 place_four w j v =
     let x = seen_six w (24 + 6 * j) v.good v.flips in
     record { good = x.good; flips = x.flips }
@@ -50,7 +50,7 @@ PutPairs pairs w u low old j rows =
     TwoRowsInv (λ i. (pair_in pairs w u i).a) (λ i. (pair_in pairs w u i).b) 1920 low (low + 1920) old j rows
 
 -- the first j words of all streams have been put into a buffer: those of two streams, and then those of the other two if there are four
-pub record RowsInv (pairs : ℕ) (w old : List ℕ) (j : ℕ) (v : Passed) (rows : List ℕ) : Type 0 where
+pub record RowsInv (pairs : ℕ) (w old : List ℕ) (j : ℕ) (v : Kept) (rows : List ℕ) : Type 0 where
   pub clean : GatherInv w (12 * pairs) (12 * pairs + 3 * pairs * j) v.good v.flips
   pub low_rows : List ℕ
   pub low : PutPairs pairs w 0 0 old j low_rows

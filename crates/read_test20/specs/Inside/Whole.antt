@@ -1,7 +1,6 @@
 -- What each part of the single pass establishes about a window, and what the whole pass does.
 -- Assumes nothing.
-use Rattle.std.specs.Prelude.{◌≡◌, ℕ, ◌+◌, ◌*◌, ◌<◌, Bool, true, false, cond, ◌&&◌, List, eqb, length, replicate}
-use Rattle.std.proofs.Math.Option.{Option, none, some}
+use Rattle.std.specs.Prelude.{◌≡◌, ℕ, ◌+◌, ◌*◌, ◌<◌, Bool, true, false, cond, ◌&&◌, Option, Some, None, Result, Ok, Err, List, eqb, length, replicate}
 use Rattle.decoder.specs.Inside.Mask.{mask_of, of_mask}
 use Rattle.span.specs.declared.format.Format.{Format}
 use Rattle.span.specs.declared.format.Shape.{Shape}
@@ -13,13 +12,14 @@ use Rattle.window.specs.Tests.{rows as rows_of}
 use Rattle.window.specs.Words.{word_at}
 use Rattle.window.specs.Inside.Columns.{sums_of}
 use Rattle.window.specs.Inside.Fill.{fill_right}
-use Rattle.read_test20.specs.declared.whole.Examined.{Examined}
-use Rattle.read_test20.specs.declared.whole.Examined.TheVariants.{Whole as AllRight, Refused}
-use Rattle.read_test20.specs.declared.whole.Outcome.{Outcome}
-use Rattle.read_test20.specs.declared.whole.Outcome.TheVariants.{Whole as AllValid, Faulty, NotExamined as NoWindow}
-use Rattle.read_test20.specs.declared.whole.Taken.{Taken}
-use Rattle.read_test20.specs.declared.whole.Taken.TheVariants.{Whole, Invalid, NotExamined}
+use Rattle.read_test20.specs.declared.whole.Ended.{Ended}
+use Rattle.read_test20.specs.declared.whole.PassError.{PassError}
+use Rattle.read_test20.specs.declared.whole.PassError.TheVariants.{Faulty, NotExamined as NoWindow}
+use Rattle.read_test20.specs.declared.whole.Reached.{Reached}
+use Rattle.read_test20.specs.declared.whole.TakeError.{TakeError}
+use Rattle.read_test20.specs.declared.whole.TakeError.TheVariants.{Invalid, NotExamined}
 use Rattle.read_test20.specs.declared.whole.Valid.{Valid}
+use Rattle.read_test20.specs.Inside.Fill.{AreFill}
 use Rattle.read_test20.specs.Inside.Run.{suits, RunInv, ScanInv, place20}
 use Rattle.read_test20.specs.Inside.See.{mask_by}
 
@@ -37,42 +37,37 @@ abbrev pub valid_of : Shape → List ℕ → Valid
 valid_of p w = record { filled = fill_right p w; before = start_of w; after = running_at w (length w); sums = sums_of p w }
 
 -- what the pass over a window finds, and the rows after it; in haste a wrong fill is a fault
-abbrev pub PassedWindow : Shape → List ℕ → Bool → List ℕ → Outcome → Type 0
-PassedWindow p w haste rows (AllValid v) = (place20 p w ≡ length w) × (v ≡ valid_of p w) × (rows ≡ rows_of (streams p) (word_at p w))
-PassedWindow p w haste rows (Faulty x) = (AllHold p w → (haste ≡ true → fill_right p w ≡ true) → ⊥) × ScanInv p w x.place x.mask
-PassedWindow p w haste rows NoWindow = ⊥
+abbrev pub PassedWindow : Shape → List ℕ → Bool → List ℕ → Result Valid Reached → Type 0
+PassedWindow p w haste rows (Ok v) = (place20 p w ≡ length w) × (v ≡ valid_of p w) × (rows ≡ rows_of (streams p) (word_at p w))
+PassedWindow p w haste rows (Err x) = (AllHold p w → (haste ≡ true → fill_right p w ≡ true) → ⊥) × ScanInv p w x.place x.mask
 
 -- the same for any symbols and rows
-abbrev pub PassedIf : Format → List ℕ → Bool → List ℕ → List ℕ → Outcome → Type 0
-PassedIf f w haste entry rows (AllValid v) = (ready f (length w) (length entry) ≡ true) × PassedWindow (shape_of f) w haste rows (AllValid v)
-PassedIf f w haste entry rows (Faulty x) = (ready f (length w) (length entry) ≡ true) × PassedWindow (shape_of f) w haste rows (Faulty x)
-PassedIf f w haste entry rows NoWindow = (ready f (length w) (length entry) ≡ false) × (rows ≡ entry)
+abbrev pub PassedIf : Format → List ℕ → Bool → List ℕ → List ℕ → Result Valid PassError → Type 0
+PassedIf f w haste entry rows (Ok v) = (ready f (length w) (length entry) ≡ true) × PassedWindow (shape_of f) w haste rows (Ok v)
+PassedIf f w haste entry rows (Err (Faulty x)) = (ready f (length w) (length entry) ≡ true) × PassedWindow (shape_of f) w haste rows (Err x)
+PassedIf f w haste entry rows (Err NoWindow) = (ready f (length w) (length entry) ≡ false) × (rows ≡ entry)
 
 -- the answer for a window with rows of its length: this, or the lowest symbol at which test 20 does not hold
-abbrev pub taken_of : Shape → List ℕ → Taken
-taken_of p w = cond (eqb (place20 p w) (length w)) (Whole (valid_of p w)) (Invalid (place20 p w))
+abbrev pub taken_of : Shape → List ℕ → Result Valid TakeError
+taken_of p w = cond (eqb (place20 p w) (length w)) (Ok (valid_of p w)) (Err (Invalid (place20 p w)))
 
 -- and its rows: the picture words stream by stream, or zeros
 abbrev pub rows_taken : Shape → List ℕ → List ℕ → List ℕ
 rows_taken p w rows = cond (eqb (place20 p w) (length w)) (rows_of (streams p) (word_at p w)) (replicate (length rows) 0)
 
 -- the same for any symbols and rows
-abbrev pub taken_if : Format → List ℕ → List ℕ → Taken
-taken_if f w rows = cond (ready f (length w) (length rows)) (taken_of (shape_of f) w) NotExamined
+abbrev pub taken_if : Format → List ℕ → List ℕ → Result Valid TakeError
+taken_if f w rows = cond (ready f (length w) (length rows)) (taken_of (shape_of f) w) (Err NotExamined)
 
 abbrev pub rows_if : Format → List ℕ → List ℕ → List ℕ
 rows_if f w rows = cond (ready f (length w) (length rows)) (rows_taken (shape_of f) w rows) rows
 
 -- only whether all symbols are valid and the fill is right, and what is then known
-abbrev pub whole_in : Examined → Option Valid
-whole_in (AllRight v) = some v
-whole_in Refused = none
-
 abbrev pub is_all_valid : Format → List ℕ → ℕ → Bool
 is_all_valid f w room = ready f (length w) room && (eqb (place20 (shape_of f) w) (length w) && fill_right (shape_of f) w)
 
 abbrev pub whole_if : Format → List ℕ → ℕ → Option Valid
-whole_if f w room = cond (is_all_valid f w room) (some (valid_of (shape_of f) w)) none
+whole_if f w room = cond (is_all_valid f w room) (Some (valid_of (shape_of f) w)) None
 
 -- and the rows: the picture words of such a window, or anything
 abbrev pub rows_whole : Format → List ℕ → ℕ → List ℕ → List ℕ
@@ -97,6 +92,12 @@ pub record EavHolds (w : List ℕ) (at flips : ℕ) : Type 0 where
 pub record RunTo (w : List ℕ) (from to flips : ℕ) : Type 0 where
   pub fits : flips < 16384
   pub going : RunInv w 0 255 from to (mask_by flips)
+
+-- the fill, where its symbols are valid: what is gathered after it, and whether it is fill words
+pub record FillSeen (w : List ℕ) (from to flips : ℕ) (e : Ended) : Type 0 where
+  pub run : RunTo w from to e.flips
+  pub sound : e.filled ≡ true → AreFill w from to flips
+  pub kept : AreFill w from to flips → e.filled ≡ true
 
 -- everything after the picture
 pub record Ending (p : Shape) (w : List ℕ) (flips after : ℕ) : Type 0 where

@@ -1,7 +1,7 @@
 -- What the calls answer.
 -- Assumes nothing.
-use Rattle.std.specs.Prelude.{ℕ, ◌+◌, ◌*◌, Bool, cond, ◌&&◌, List, eqb, length}
-use Rattle.std.proofs.Math.Option.{Option, none, some}
+use Rattle.std.specs.Prelude.{ℕ, Option as Answered, Result, Ok, Err, ◌+◌, ◌*◌, Bool, cond, ◌&&◌, List, eqb, length}
+use Rattle.std.proofs.Math.Option.{Option}
 use Rattle.span.specs.declared.format.Format.{Format}
 use Rattle.span.specs.declared.format.Shape.{Shape}
 use Rattle.span.specs.Format.{is_known, shape_of, streams, symbols_in}
@@ -10,15 +10,14 @@ use Rattle.crcc.specs.declared.sums.Sums.{Sums}
 use Rattle.window.specs.Read.{placed, content_in, repairs_of}
 use Rattle.window.specs.Tests.{line_read, repair_count, repairs_at}
 use Rattle.window.specs.Words.{word_at}
-use Rattle.read_test21_26.specs.declared.call.Judged.{Judged}
-use Rattle.read_test21_26.specs.declared.call.Judged.TheVariants.{Serves, Refused, NoWindow}
-use Rattle.read_test21_26.specs.declared.call.Lowest.{Lowest}
-use Rattle.read_test21_26.specs.declared.call.Lowest.TheVariants.{Place, NoneWrong, NoWindow as NotWindow}
+use Rattle.read_test21_26.specs.declared.call.JudgeError.{JudgeError}
+use Rattle.read_test21_26.specs.declared.call.JudgeError.TheVariants.{Fails, NoWindow}
+use Rattle.read_test21_26.specs.declared.call.NoWindow.{NoWindow as NotWindow}
 use Rattle.read_test21_26.specs.declared.call.Service.{Service}
-use Rattle.read_test21_26.specs.declared.service.Verdict.{Verdict}
-use Rattle.read_test21_26.specs.declared.service.Verdict.TheVariants.{AllHold, Fails}
-use Rattle.read_test21_26.specs.Inside.Holds.{picture25, fill26, wrong_in}
-use Rattle.read_test21_26.specs.Inside.Verdict.{first_row, service_tests}
+use Rattle.read_test21_26.specs.declared.service.Test.{Test}
+use Rattle.read_test21_26.specs.declared.service.Test.TheVariants.{Timing, Line, V, Crcc, Sample, Fill}
+use Rattle.read_test21_26.specs.Inside.Holds.{picture25, fill26, wrong_in, lowest_of}
+use Rattle.read_test21_26.specs.Inside.Verdict.{Verdict, first_row, service_tests}
 
 abbrev pub is_window : Format → ℕ → Bool
 is_window f symbols = is_known f && eqb symbols (symbols_in (shape_of f))
@@ -33,15 +32,15 @@ service_of p w =
     }
 
 -- these if all tests hold, and else the one that does not
-abbrev pub judged_by : Verdict → Service → Judged
-judged_by AllHold service = Serves service
-judged_by (Fails x) service = Refused x
+abbrev pub judged_by : Verdict → Service → Result Service JudgeError
+judged_by (Ok done) service = Ok service
+judged_by (Err x) service = Err (Fails x)
 
-abbrev pub judged_of : Shape → List ℕ → Sums → Judged
+abbrev pub judged_of : Shape → List ℕ → Sums → Result Service JudgeError
 judged_of p w c = judged_by (first_row (service_tests p w c)) (service_of p w)
 
-abbrev pub service_if : Format → List ℕ → Sums → Judged
-service_if f w c = cond (is_window f (length w)) (judged_of (shape_of f) w c) NoWindow
+abbrev pub service_if : Format → List ℕ → Sums → Result Service JudgeError
+service_if f w c = cond (is_window f (length w)) (judged_of (shape_of f) w c) (Err NoWindow)
 
 -- the lowest place of test 25 among the picture words, and of test 26 among the fill, if there is one
 unfoldable pub wrong25 : Format → List ℕ → Option ℕ
@@ -55,9 +54,14 @@ wrong26 f w =
     let from = s * (ancillary_start + (shape_of f).ancillary) in
     wrong_in (placed s (fill26 s (word_at (shape_of f) w))) from (from + 2 * (shape_of f).fill_pairs)
 
-abbrev pub lowest_of : Option ℕ → Lowest
-lowest_of none = NoneWrong
-lowest_of (some k) = Place k
+-- of test 25, and of test 26 where any other is asked for
+abbrev pub place_of : Test → Format → List ℕ → Option ℕ
+place_of Sample f w = wrong25 f w
+place_of Timing f w = wrong26 f w
+place_of Line f w = wrong26 f w
+place_of V f w = wrong26 f w
+place_of Crcc f w = wrong26 f w
+place_of Fill f w = wrong26 f w
 
-abbrev pub lowest_if : ℕ → Format → List ℕ → Lowest
-lowest_if number f w = cond (is_window f (length w)) (lowest_of (cond (eqb number 25) (wrong25 f w) (wrong26 f w))) NotWindow
+abbrev pub lowest_if : Test → Format → List ℕ → Result (Answered ℕ) NotWindow
+lowest_if test f w = cond (is_window f (length w)) (Ok (lowest_of (place_of test f w))) (Err (record {}))

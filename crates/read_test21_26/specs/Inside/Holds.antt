@@ -1,7 +1,7 @@
 -- The tests by their numbers, at one place and over a run of places.
 -- Assumes nothing.
-use Rattle.std.specs.Prelude.{ℕ, ◌+◌, ◌-◌, ◌≡◌, Bool, true, not, cond, List, ◌∷◌, ◌++◌, eqb}
-use Rattle.std.proofs.Math.Option.{Option, none, some, get_or}
+use Rattle.std.specs.Prelude.{ℕ, Result, Ok, Err, Option as Answered, Some, None, ◌+◌, ◌-◌, ◌≡◌, Bool, true, not, cond, List, ◌∷◌, ◌++◌, eqb}
+use Rattle.std.proofs.Math.Option.{Option, none, some}
 use Rattle.ground.specs.Search.{first_from}
 use Rattle.span.specs.declared.format.Format.{Format}
 use Rattle.span.specs.declared.format.Shape.{Shape}
@@ -10,25 +10,26 @@ use Rattle.span.specs.Span.{fill_word}
 use Rattle.span.specs.Layout.{eav_start, line_start, crcc_start, eav_xyz}
 use Rattle.crcc.specs.declared.crcc.CrccWords.{CrccWords}
 use Rattle.crcc.specs.Crcc.{crc, crcc_words}
+use Rattle.line.specs.declared.stream.StreamLine.{StreamLine}
 use Rattle.packing.specs.Sample.{allowed_word}
 use Rattle.crcc.specs.declared.sums.Sums.{Sums}
 use Rattle.window.specs.Read.{placed}
 use Rattle.window.specs.Tests.{word_of, column, named, holds21, holds22, holds23}
-use Rattle.word.specs.declared.line_number.Named.{Named}
-use Rattle.word.specs.declared.line_number.Named.TheVariants.{Line, Above4095, Nameless}
+use Rattle.word.specs.declared.line_number.NameError.{NameError}
 use Rattle.word.specs.Received.{repaired}
 use Rattle.crcc.specs.Inside.Sums.{sum_in}
 use Rattle.window.specs.Words.{word_at}
 use Rattle.window.specs.Inside.Given.{Given}
+use Rattle.read_test21_26.specs.declared.service.Test.{Test}
+use Rattle.read_test21_26.specs.declared.service.Test.TheVariants.{Timing, Line as LineNumber, V, Crcc, Sample, Fill}
 
 -- the line that an answer of the line-number reader names, if any
-abbrev pub line_in : Named → Option ℕ
-line_in (Line l) = some l.0
-line_in Above4095 = none
-line_in Nameless = none
+abbrev pub line_in : Result StreamLine NameError → Option ℕ
+line_in (Ok l) = some l.0
+line_in (Err e) = none
 
 -- also known: the line that stream 1 names
-pub record LineKnown (p : Shape) (t w : List ℕ) (next : Named) : Type 0 where
+pub record LineKnown (p : Shape) (t w : List ℕ) (next : Result StreamLine NameError) : Type 0 where
   pub given : Given p t w
   pub line : line_in next ≡ named (streams p) (word_at p w)
 
@@ -53,24 +54,24 @@ holds24_by p w c j t =
     cond (eqb j crcc_start) (eqb word (crcc_received p w t (sum_in c t)).crcc0)
     (cond (eqb j (crcc_start + 1)) (eqb word (crcc_received p w t (sum_in c t)).crcc1) true)
 
--- the test with a number
-unfoldable pub holds_of : ℕ → Format → Shape → List ℕ → Sums → ℕ → ℕ → Bool
-holds_of number f p w c =
-    let s = streams p in
-    let word = word_at p w in
-    cond (eqb number 21) (holds21 s word)
-    (cond (eqb number 22) (holds22 s word)
-    (cond (eqb number 23) (holds23 s word)
-    (cond (eqb number 24) (holds24_by p w c) (cond (eqb number 25) (picture25 f s word) (fill26 s word)))))
+-- what each test asks of a word
+unfoldable pub holds_of : Test → Format → Shape → List ℕ → Sums → ℕ → ℕ → Bool
+holds_of Timing f p w c = holds21 (streams p) (word_at p w)
+holds_of LineNumber f p w c = holds22 (streams p) (word_at p w)
+holds_of V f p w c = holds23 (streams p) (word_at p w)
+holds_of Crcc f p w c = holds24_by p w c
+holds_of Sample f p w c = picture25 f (streams p) (word_at p w)
+holds_of Fill f p w c = fill26 (streams p) (word_at p w)
 
 -- at interleaved place k of a window
-abbrev pub holds_at : ℕ → Format → Shape → List ℕ → Sums → ℕ → Bool
-holds_at number f p w c = placed (streams p) (holds_of number f p w c)
+abbrev pub holds_at : Test → Format → Shape → List ℕ → Sums → ℕ → Bool
+holds_at test f p w c = placed (streams p) (holds_of test f p w c)
 
 -- the lowest place from one to another at which a test does not hold, if any
 unfoldable pub wrong_in : (ℕ → Bool) → ℕ → ℕ → Option ℕ
 wrong_in holds from to = first_from from (to - from) (λ k. not (holds k))
 
--- the same as a number: the end of the range if there is none
-abbrev pub first_wrong : (ℕ → Bool) → ℕ → ℕ → ℕ
-first_wrong holds from to = get_or (wrong_in holds from to) to
+-- it, as it is answered
+abbrev pub lowest_of : Option ℕ → Answered ℕ
+lowest_of none = None
+lowest_of (some k) = Some k

@@ -1,13 +1,9 @@
 -- Test 25 over the words of a picture.
 -- Assumes nothing.
-use Rattle.std.specs.Prelude.{ℕ, Bool, true, cond, ◌&&◌, List, [], ◌∷◌}
+use Rattle.std.specs.Prelude.{ℕ, Bool, true, ◌&&◌, List, [], ◌∷◌}
 use Rattle.packing.specs.Sample.{allowed_word}
 
 -- every word may be a sample's
 unfoldable pub all_allowed : ℕ → List ℕ → Bool
 all_allowed depth [] = true
 all_allowed depth (x ∷ xs) = allowed_word depth x && all_allowed depth xs
-
--- 1 for a word that may not
-abbrev pub wrong_flag : ℕ → ℕ → ℕ
-wrong_flag depth w = cond (allowed_word depth w) 0 1

@@ -1,6 +1,6 @@
 -- The verdict of a list of tests.
 -- Assumes nothing.
-use Rattle.std.specs.Prelude.{ℕ, ◌*◌, Bool, true, false, List, [], ◌∷◌}
+use Rattle.std.specs.Prelude.{ℕ, Result, Ok, Err, ◌*◌, Bool, true, false, List, [], ◌∷◌}
 use Rattle.std.proofs.Math.Option.{Option, none, some}
 use Rattle.ground.specs.Answer.{Row}
 use Rattle.span.specs.declared.format.Shape.{Shape}
@@ -9,22 +9,27 @@ use Rattle.crcc.specs.declared.sums.Sums.{Sums}
 use Rattle.window.specs.Read.{lowest, placed}
 use Rattle.window.specs.Tests.{holds21, holds22, holds23}
 use Rattle.window.specs.Words.{word_at}
-use Rattle.read_test21_26.specs.declared.service.Verdict.{Verdict}
-use Rattle.read_test21_26.specs.declared.service.Verdict.TheVariants.{AllHold, Fails}
+use Rattle.read_test21_26.specs.declared.service.Fault.{Fault}
+use Rattle.read_test21_26.specs.declared.service.Test.{Test}
 use Rattle.read_test21_26.specs.Inside.Holds.{holds24_by}
+use Rattle.read_test21_26.specs.Tests.{test_of}
 
-abbrev pub verdict_of : ℕ → Option ℕ → Verdict → Verdict
-verdict_of number none rest = rest
-verdict_of number (some k) rest = Fails (record { number = number; place = k })
+-- that all hold, or the first that does not
+abbrev pub Verdict : Type 0
+Verdict = Result (Unit {0}) Fault
+
+abbrev pub verdict_of : Test → Option ℕ → Verdict → Verdict
+verdict_of test none rest = rest
+verdict_of test (some k) rest = Err (record { test = test; place = k })
 
 abbrev pub is_failed : Verdict → Bool
-is_failed AllHold = false
-is_failed (Fails x) = true
+is_failed (Ok done) = false
+is_failed (Err x) = true
 
 -- the first row that does not hold
 abbrev pub first_row : List Row → Verdict
-first_row [] = AllHold
-first_row (r ∷ rs) = verdict_of r.number r.fails (first_row rs)
+first_row [] = Ok tt
+first_row (r ∷ rs) = verdict_of (test_of r.number) r.fails (first_row rs)
 
 -- tests 21 to 24, given the sums that the pictures of the streams leave
 abbrev pub service_tests : Shape → List ℕ → Sums → List Row

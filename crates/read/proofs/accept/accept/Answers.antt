@@ -4,8 +4,7 @@ use mathlib.Core.Path.{sym, ap, ◌∙◌}
 use lib.ListN.{length}
 use Rattle.window.specs.Read.{picture_of, read_of}
 use Rattle.window.proofs.Windows.{read_is}
-use Rattle.read_test20.specs.Inside.Whole.{whole_in}
-use Rattle.read.specs.Inside.Accept.{delivered_in}
+use Rattle.read.specs.Inside.Accept.{accepted_in, delivered_in}
 use Rattle.read.proofs.Accepted.{right, wrong, rows_right, rows_there, rows_any}
 use Rattle.read.proofs.accept.accept.Goals as goal
 
@@ -14,21 +13,21 @@ accept_words-requires c =
     let a = c.args in
     let w = a.symbols.now in
     let room = length a.rows.now in
-    let told = right a.f w room (sym (ap whole_in c.in-Whole.is) ∙ c.examine.ensures.answer) in
+    let told = right a.f w room (sym c.in_ok-v.was ∙ c.examine.ensures.answer) in
     record { window = told.is; symbols_value = told.all; v_value = told.valid; symbols_value_2 = told.filled; rows_value = rows_right a.f w room told.whole c.examine.ensures.rows }
 
-pub returns-in-Whole : goal.returns-in-Whole
-returns-in-Whole c =
+pub returns : goal.returns
+returns c =
     let a = c.args in
     let w = a.symbols.now in
     let room = length a.rows.now in
-    let told = right a.f w room (sym (ap whole_in c.in-Whole.is) ∙ c.examine.ensures.answer) in
+    let told = right a.f w room (sym c.in_ok-v.was ∙ c.examine.ensures.answer) in
     let read = read_is a.f w told.is room told.enough in record { answer = c.accept_words.ensures ∙ sym (ap delivered_in read); rows = rows_there (read_of a.f w room) (rows_right a.f w room told.whole c.examine.ensures.rows) }
 
-pub returns-in-Refused : goal.returns-in-Refused
-returns-in-Refused c =
+pub returns-in_err-v : goal.returns-in_err-v
+returns-in_err-v c =
     let a = c.args in
     let w = a.symbols.now in
     let room = length a.rows.now in
-    let refused = wrong a.f w room (sym (ap whole_in c.in-Refused.is) ∙ c.examine.ensures.answer) in
-    record { answer = refused; rows = rows_any (read_of a.f w room) (picture_of a.f w) refused }
+    let refused = wrong a.f w room (sym c.in_err-v.was ∙ c.examine.ensures.answer) in
+    record { answer = ap accepted_in c.from_residual.ensures ∙ refused; rows = rows_any (read_of a.f w room) (picture_of a.f w) refused }

@@ -26,7 +26,7 @@ read_window-requires c =
     let a = c.args in
     let w = a.symbols.now in
     let lengths = c.span_lengths-lengths.ensures in
-    let known = sym c.is_known.ensures ∙ c.if-is_known.true in
+    let known = sym c.is_known.ensures ∙ c.if-not-is_known.false in
     let n = ap (λ (l : SpanLengths). l.symbols) lengths in
     let long : length w ≡ symbols_in (shape_of a.f) = omega (arith, n, c.if-symbols-lengths.false) in
     let is : IsWindow a.f w = record { known = known; long = long } in
@@ -34,12 +34,12 @@ read_window-requires c =
     let few : c.span_lengths-lengths.result.samples ≤ 7680 = omega (arith, m, (small c.args.f refl).half) in
     record { window = is; rows_len = length-take-le _ _ few ∙ m }
 
-pub returns-then-is_known : goal.returns-then-is_known
-returns-then-is_known c =
+pub returns : goal.returns
+returns c =
     let a = c.args in
     let w = a.symbols.now in
     let lengths = c.span_lengths-lengths.ensures in
-    let known = sym c.is_known.ensures ∙ c.if-is_known.true in
+    let known = sym c.is_known.ensures ∙ c.if-not-is_known.false in
     let n = ap (λ (l : SpanLengths). l.symbols) lengths in
     let long : length w ≡ symbols_in (shape_of a.f) = omega (arith, n, c.if-symbols-lengths.false) in
     let is : IsWindow a.f w = record { known = known; long = long } in

@@ -10,12 +10,12 @@ use Rattle.read.proofs.Windows.{rows_read_lem}
 use Rattle.window.specs.Inside.Window.{IsWindow}
 use Rattle.read.proofs.read.read.Goals as goal
 
-pub returns-then-is_known : goal.returns-then-is_known
-returns-then-is_known c =
+pub returns : goal.returns
+returns c =
     let a = c.args in
     let w = a.symbols.now in
     let lengths = c.span_lengths-lengths.ensures in
-    let known = sym c.is_known.ensures ∙ c.if-is_known.true in
+    let known = sym c.is_known.ensures ∙ c.if-not-is_known.false in
     let n = ap (λ (l : SpanLengths). l.symbols) lengths in
     let long : length w ≡ symbols_in (shape_of a.f) = omega (arith, n, c.if-symbols-lengths.false) in
     let is : IsWindow a.f w = record { known = known; long = long } in

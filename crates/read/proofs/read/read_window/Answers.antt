@@ -1,23 +1,49 @@
--- `read::read::read_window` meets its contract: test 20 holds throughout, or it does not.
+-- `read::read::read_window` meets its contract.
 -- Assumes nothing.
-use mathlib.Core.Path.{refl, sym, ap, ◌∙◌}
-use Prim.Native.Nat.{ℕ}
-use native.Mathlib.Omega.{arith}
-use Rattle.ground.specs.Answer.{refused}
-use Rattle.window.specs.Read.{picture_of}
-use Rattle.read.proofs.Windows.{taken_is, whole_told, invalid_told, rows_whole_lem, rows_invalid, read_20, rows_zero}
+use mathlib.Core.Path.{sym, ap, ◌∙◌}
+use borrow.Author.Rules.{rules}
+use Rattle.read.specs.Call.{paper_read}
+use Rattle.read.proofs.Verdicts.{handed}
+use Rattle.read.proofs.Windows.{taken_is, taken_refused, taken_rows, whole_told, rows_whole_lem, read_rows, refused_rows}
 use Rattle.read.proofs.read.read_window.Goals as goal
 
-pub read_words-requires : goal.read_words-requires
-read_words-requires c =
+pub returns-in_err-v : goal.returns-in_err-v
+returns-in_err-v c =
     let a = c.args in
     let w = a.symbols.now in
-    let told = whole_told a.f w c.requires.window (sym c.in-Whole.is ∙ c.take.ensures.taken ∙ taken_is a.f w c.requires.window a.rows.now c.requires.rows_len) in
-    record { window = c.requires.window; symbols_value = told.0; v_value = told.1; rows_value = c.take.ensures.rows ∙ rows_whole_lem a.f w c.requires.window a.rows.now c.requires.rows_len told.0 }
+    let is = c.requires.window in
+    let taken = sym c.in_err-v.was ∙ c.take.ensures.taken ∙ taken_is a.f w is a.rows.now c.requires.rows_len in
+    record {
+      answer = ap paper_read (handed _ c.from_residual.ensures.1) ∙ taken_refused a.f w is _ taken;
+      rows = taken_rows a.f w is a.rows.now c.requires.rows_len _ taken c.take.ensures.rows;
+    }
 
-pub returns-in-Invalid : goal.returns-in-Invalid
-returns-in-Invalid c =
+pub read_words-read-requires : goal.read_words-read-requires
+read_words-read-requires c =
     let a = c.args in
     let w = a.symbols.now in
-    let told = invalid_told a.f w c.requires.window (sym c.in-Invalid.is ∙ c.take.ensures.taken ∙ taken_is a.f w c.requires.window a.rows.now c.requires.rows_len) in
-    let e = read_20 a.f w c.requires.window told.0 in record { answer = ap (λ (k : ℕ). refused 20 k) told.1 ∙ sym e; rows = rows_zero a.f w a.rows.now (picture_of a.f w) e _ (omega arith) refl (c.take.ensures.rows ∙ rows_invalid a.f w c.requires.window a.rows.now c.requires.rows_len told.0) }
+    let is = c.requires.window in
+    let told = whole_told a.f w is (sym c.in_ok-v.was ∙ c.take.ensures.taken ∙ taken_is a.f w is a.rows.now c.requires.rows_len) in
+    record { window = is; symbols_value = told.0; v_value = told.1; rows_value = c.take.ensures.rows ∙ rows_whole_lem a.f w is a.rows.now c.requires.rows_len told.0 }
+
+pub returns-then-is_err : goal.returns-then-is_err
+returns-then-is_err c =
+    let a = c.args in
+    let w = a.symbols.now in
+    let is = c.requires.window in
+    let told = whole_told a.f w is (sym c.in_ok-v.was ∙ c.take.ensures.taken ∙ taken_is a.f w is a.rows.now c.requires.rows_len) in
+    record {
+      answer = c.read_words-read.ensures;
+      rows = refused_rows a.f w is a.rows.now told.0 _ c.read_words-read.ensures (sym c.is_err.ensures.value ∙ c.if-is_err.true) _ (search rules) (c.fill.ensures.after (λ y e. e));
+    }
+
+pub returns-else-is_err : goal.returns-else-is_err
+returns-else-is_err c =
+    let a = c.args in
+    let w = a.symbols.now in
+    let is = c.requires.window in
+    let told = whole_told a.f w is (sym c.in_ok-v.was ∙ c.take.ensures.taken ∙ taken_is a.f w is a.rows.now c.requires.rows_len) in
+    record {
+      answer = c.read_words-read.ensures;
+      rows = read_rows a.f w is a.rows.now told.0 _ c.read_words-read.ensures (sym c.is_err.ensures.value ∙ c.if-is_err.false) (c.take.ensures.rows ∙ rows_whole_lem a.f w is a.rows.now c.requires.rows_len told.0);
+    }

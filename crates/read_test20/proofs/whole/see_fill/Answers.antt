@@ -14,4 +14,4 @@ returns-then-are_fill c =
     let w = a.symbols.now in
     let tied = c.requires.tied in
     let b = c.are_fill.ensures.sound c.if-are_fill.true in
-    let more : a.to ≡ a.from + 3 * ((a.to - a.from) / 3) = omega (arith, c.requires.from_bound, c.requires.from_value) in record { whole = λ _. record { fits = tied.fits; going = fill_going w _ a.flips _ b _ (begin w 0 255 a.from (mask_by a.flips) tied.bit) _ more }; fill = λ _. b; filled = λ _. refl; kept = λ _ _. refl }
+    let more : a.to ≡ a.from + 3 * ((a.to - a.from) / 3) = omega (arith, c.requires.from_bound, c.requires.from_value) in record { seen = record { run = record { fits = tied.fits; going = fill_going w _ a.flips _ b _ (begin w 0 255 a.from (mask_by a.flips) tied.bit) _ more }; sound = λ _. b; kept = λ _. refl }; kept = λ _ _. refl }

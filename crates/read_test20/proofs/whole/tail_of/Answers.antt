@@ -2,6 +2,8 @@
 -- Assumes nothing.
 use mathlib.Core.Path.{refl, sym, ◌∙◌}
 use native.Mathlib.Omega.{arith}
+use Rattle.std.proofs.lemmas.Option.{IfSome_then}
+use Rattle.read_test20.specs.Inside.Whole.{FillSeen}
 use Rattle.read_test20.proofs.Fills.{fill_right_lem, right_fill}
 use Rattle.read_test20.proofs.Gathering.{join}
 use Rattle.read_test20.proofs.Kept.{bytes_in, agree}
@@ -10,11 +12,14 @@ use Rattle.read_test20.proofs.whole.tail_of.Goals as goal
 pub returns : goal.returns
 returns c =
     let w = c.args.symbols.now in
+    let p = c.args.p in
+    let half = c.requires.given.half in
+    let long = c.requires.given.long in
     let going = c.see_area-area.ensures.clean (sym c.passes.ensures ∙ c.if-not-passes.false) in
     record {
-      whole = λ t. join w going (c.see_fill.ensures.whole t).going;
-      filled = λ t.
-          agree _ _ (λ b. fill_right_lem c.args.p w _ _ c.requires.given.half c.requires.given.long refl (c.see_fill.ensures.fill b))
-          (λ right. c.see_fill.ensures.filled (right_fill c.args.p w _ _ c.requires.given.half c.requires.given.long refl going.bit (c.see_fill.ensures.whole t).going.suited right));
-      kept = λ all right. c.see_fill.ensures.kept (bytes_in all (omega (arith, c.requires.given.long)) (omega arith)) (λ h. right_fill c.args.p w _ _ c.requires.given.half c.requires.given.long refl going.bit (bytes_in all (omega (arith, c.requires.given.long)) (omega arith)).each (right h));
+      whole = IfSome_then c.see_fill.result {P = FillSeen w _ _ _} c.see_fill.ensures.seen (λ e seen. join w going seen.run.going);
+      filled = IfSome_then c.see_fill.result {P = FillSeen w _ _ _} c.see_fill.ensures.seen (λ e seen.
+          agree _ _ (λ b. fill_right_lem p w _ _ half long refl (seen.sound b))
+          (λ right. seen.kept (right_fill p w _ _ half long refl going.bit seen.run.going.suited right)));
+      kept = λ all right. c.see_fill.ensures.kept (bytes_in all (omega (arith, long)) (omega arith)) (λ h. right_fill p w _ _ half long refl going.bit (bytes_in all (omega (arith, long)) (omega arith)).each (right h));
     }

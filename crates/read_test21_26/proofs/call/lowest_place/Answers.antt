@@ -1,27 +1,27 @@
 -- `read_test21_26::call::lowest_place` meets its contract.
 -- Assumes nothing.
-use mathlib.Core.Path.{◌≡◌, sym, ◌∙◌}
-use mathlib.Core.Bool.{true, false}
+use Rattle.std.specs.Prelude.{Ok}
+use mathlib.Core.Path.{◌≡◌, sym, ap, ◌∙◌}
+use mathlib.Core.Bool.{true}
 use native.Mathlib.Omega.{arith}
-use lib.Dec.{eqb}
 use lib.ListN.{length}
-use borrow.Author.Tests.{eq-eqb, ne_eqb}
 use Rattle.span.proofs.Formats.{small}
+use Rattle.read_test21_26.specs.declared.service.Test.TheVariants.{Sample}
 use Rattle.read_test21_26.specs.Inside.Call.{is_window}
-use Rattle.read_test21_26.proofs.Calls.{given, is_place_25, is_place_26}
+use Rattle.read_test21_26.proofs.Calls.{given, is_place_25, is_place_26, other_place}
 use Rattle.read_test21_26.proofs.call.lowest_place.Goals as goal
 
 pub next_line-next-requires : goal.next_line-next-requires
 next_line-next-requires c =
-    given _ (sym c.is_window.ensures ∙ c.if-is_window.true)
+    given _ (sym c.is_window.ensures ∙ c.if-not-is_window.false)
     c.shape_of-p.ensures c.decoding_table-t.ensures
 
-pub lowest_in-requires : goal.lowest_in-requires
-lowest_in-requires c =
+pub first_wrong-requires : goal.first_wrong-requires
+first_wrong-requires c =
     record {
       line_known = record {
         given =
-            given _ (sym c.is_window.ensures ∙ c.if-is_window.true)
+            given _ (sym c.is_window.ensures ∙ c.if-not-is_window.false)
             c.shape_of-p.ensures c.decoding_table-t.ensures;
         line = c.next_line-next.ensures;
       };
@@ -29,23 +29,23 @@ lowest_in-requires c =
       to_bound = omega arith;
     }
 
-pub returns-then-number-eq25 : goal.returns-then-number-eq25
-returns-then-number-eq25 c =
+pub returns-in-Sample : goal.returns-in-Sample
+returns-in-Sample c =
     let a = c.args in
     let w = a.symbols.now in
-    let is : is_window a.f (length w) ≡ true = sym c.is_window.ensures ∙ c.if-is_window.true in
-    let asked : eqb a.number 25 ≡ true = eq-eqb a.number 25 c.if-number-eq25.true in
-    rw (is, asked) (is_place_25 a.f w c.shape_of-p.ensures _ c.lowest_in.ensures)
+    let is : is_window a.f (length w) ≡ true = sym c.is_window.ensures ∙ c.if-not-is_window.false in
+    let asked : a.test ≡ Sample = c.in-Sample.is in
+    rw (is, asked) (ap Ok (is_place_25 a.f w c.shape_of-p.ensures _ c.first_wrong.ensures))
 
 pub overflow_add-from : goal.overflow_add-from
 overflow_add-from c = omega (arith, (small _ c.shape_of-p.ensures).ancillary)
 
-pub lowest_in-requires-then-is_window : goal.lowest_in-requires-then-is_window
-lowest_in-requires-then-is_window c =
+pub first_wrong-requires-in_default : goal.first_wrong-requires-in_default
+first_wrong-requires-in_default c =
     record {
       line_known = record {
         given =
-            given _ (sym c.is_window.ensures ∙ c.if-is_window.true)
+            given _ (sym c.is_window.ensures ∙ c.if-not-is_window.false)
             c.shape_of-p.ensures c.decoding_table-t.ensures;
         line = c.next_line-next.ensures;
       };
@@ -53,10 +53,9 @@ lowest_in-requires-then-is_window c =
       to_bound = omega arith;
     }
 
-pub returns-then-is_window : goal.returns-then-is_window
-returns-then-is_window c =
+pub returns-in_default : goal.returns-in_default
+returns-in_default c =
     let a = c.args in
     let w = a.symbols.now in
-    let is : is_window a.f (length w) ≡ true = sym c.is_window.ensures ∙ c.if-is_window.true in
-    let asked : eqb a.number 25 ≡ false = ne_eqb a.number 25 c.if-number-eq25.false in
-    rw (is, asked) (is_place_26 a.f w c.shape_of-p.ensures _ c.lowest_in-then-is_window.ensures)
+    let is : is_window a.f (length w) ≡ true = sym c.is_window.ensures ∙ c.if-not-is_window.false in
+    rw (is, other_place a.test a.f w c.in_default.not-Sample) (ap Ok (is_place_26 a.f w c.shape_of-p.ensures _ c.first_wrong-in_default.ensures))

@@ -1,8 +1,6 @@
 -- `read_test21_26::call::service_of` meets its contract.
 -- Assumes nothing.
 use mathlib.Core.Path.{sym, ◌∙◌}
-use mathlib.Core.Bool.{true}
-use Rattle.read_test21_26.specs.Inside.Call.{is_window}
 use Rattle.read_test21_26.proofs.Calls.{given}
 use Rattle.read_test21_26.proofs.call.service_of.Goals as goal
 

@@ -1,12 +1,8 @@
 -- `read_test21_26::holds::first_wrong` meets its contract: before k the test holds.
 -- Assumes nothing.
-use Prim.Native.Nat.{◌-◌, ◌≤◌}
 use Rattle.read_test21_26.specs.Inside.Holds.{holds_at}
 use Rattle.read_test21_26.proofs.Searching.{Held}
 use Rattle.read_test21_26.proofs.holds.first_wrong.Given as goal
 
 abbrev pub invariant-loop-k : goal.invariant-loop-k
-invariant-loop-k l = (l.k ≤ l.to) × Held (holds_at l.number l.f l.p l.symbols l.c) l.from l.k
-
-abbrev pub decreases-loop-k : goal.decreases-loop-k
-decreases-loop-k l = l.to - l.k
+invariant-loop-k l = Held (holds_at l.test l.f l.p l.symbols l.c) l.from l.k

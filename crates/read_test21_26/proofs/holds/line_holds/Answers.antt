@@ -8,7 +8,7 @@ use Rattle.ground.specs.Search.{is_some}
 use Rattle.span.specs.Format.{streams}
 use Rattle.span.specs.Layout.{line_start}
 use Rattle.window.specs.Words.{word_at}
-use Rattle.read_test21_26.proofs.Reading.{here, first_word, first_stream, not_first}
+use Rattle.read_test21_26.proofs.Reading.{here, named_ok, first_word, first_stream, not_first}
 use Rattle.read_test21_26.proofs.Tests.{first_22, other_22, else_22}
 use Rattle.read_test21_26.proofs.holds.line_holds.Goals as goal
 
@@ -17,7 +17,7 @@ returns-then-k-s c =
     let a = c.args in
     let some_streams : 1 ≤ streams a.p = omega (arith, c.requires.given.half) in
     let at = c.if-k-s.true in
-    c.names_line.ensures
+    c.is_ok.ensures.value ∙ named_ok a.next
     ∙ ap is_some c.requires.next_value
     ∙ sym (first_22 (streams a.p) (word_at a.p a.symbols.now) (a.k / streams a.p) (a.k % streams a.p) (first_word (streams a.p) some_streams a.k line_start at) (first_stream (streams a.p) some_streams a.k line_start at))
 

@@ -1,9 +1,11 @@
 -- `read_test21_26::holds::v_holds` meets its contract.
 -- Assumes nothing.
-use mathlib.Core.Path.{sym, ap, ap₂, ◌∙◌}
+use mathlib.Core.Path.{◌≡◌, sym, ap, ap₂, ◌∙◌}
 use Prim.Native.Nat.{ℕ, ◌/◌, ◌%◌}
+use native.Mathlib.Omega.{arith}
 use Rattle.line.specs.Stream.{v_of}
 use Rattle.span.specs.Format.{streams}
+use Rattle.span.specs.Layout.{eav_xyz}
 use Rattle.window.specs.Tests.{same}
 use Rattle.word.specs.Received.{v_in}
 use Rattle.window.specs.Words.{word_at}
@@ -29,9 +31,9 @@ returns-then-j-eq-EAV_XYZ c =
     let line = next_line_lem (streams a.p) (word_at a.p a.symbols.now) a.next c.requires.next_value in
     same_is v.result c.v_named.result
     ∙ ap₂ same (v.ensures ∙ ap (λ (x : ℕ). v_in x) word) (c.v_named.ensures ∙ ap (λ (n : ℕ). v_of n) line)
-    ∙ sym (eav_23 (streams a.p) (word_at a.p a.symbols.now) (a.k / streams a.p) (a.k % streams a.p) c.if-j-eq-EAV_XYZ.true)
+    ∙ sym (eav_23 (streams a.p) (word_at a.p a.symbols.now) (a.k / streams a.p) (a.k % streams a.p) (let at : a.k / streams a.p ≡ eav_xyz = omega arith in at))
 
 pub returns : goal.returns
 returns c =
     let a = c.args in
-    sym (else_23 (streams a.p) (word_at a.p a.symbols.now) (a.k / streams a.p) (a.k % streams a.p) c.if-j-eq-SAV_XYZ.false c.if-j-eq-EAV_XYZ.false)
+    sym (else_23 (streams a.p) (word_at a.p a.symbols.now) (a.k / streams a.p) (a.k % streams a.p) c.if-j-eq-SAV_XYZ.false (λ at. omega arith))

@@ -2,14 +2,9 @@
 -- Assumes nothing.
 use mathlib.Core.Path.{◌≡◌}
 use mathlib.Core.Bool.{◌&&◌}
-use Prim.Native.Nat.{◌-◌}
-use lib.Dec.{eqb}
-use lib.ListN.{length, drop}
+use lib.ListN.{drop}
 use Rattle.read_test21_26.specs.Inside.Picture.{all_allowed}
 use Rattle.read_test21_26.proofs.picture.each_allowed.Given as goal
 
-abbrev pub invariant-loop-i : goal.invariant-loop-i
-invariant-loop-i l = (eqb l.found 0 && all_allowed l.depth (drop l.i l.rows)) ≡ all_allowed l.depth l.rows
-
-abbrev pub decreases-loop-i : goal.decreases-loop-i
-decreases-loop-i l = length l.rows - l.i
+abbrev pub invariant-loop-w : goal.invariant-loop-w
+invariant-loop-w l = (l.all && all_allowed l.depth (drop l.w-index l.rows)) ≡ all_allowed l.depth l.rows

@@ -1,13 +1,9 @@
 -- `read_test21_26::repairs::each_bit` meets its contract: the counts of the streams so far, which are small.
 -- Assumes nothing.
 use mathlib.Core.Path.{◌≡◌}
-use Prim.Native.Nat.{◌-◌, ◌≤◌}
 use Rattle.span.specs.Format.{streams}
 use Rattle.read_test21_26.proofs.Repairing.{counts_of}
 use Rattle.read_test21_26.proofs.repairs.each_bit.Given as goal
 
 abbrev pub invariant-loop-i : goal.invariant-loop-i
-invariant-loop-i l = (l.s ≡ streams l.p) × (l.i ≤ l.s) × (l.counts ≡ counts_of l.p l.symbols l.i)
-
-abbrev pub decreases-loop-i : goal.decreases-loop-i
-decreases-loop-i l = l.s - l.i
+invariant-loop-i l = (l.s ≡ streams l.p) × (l.counts ≡ counts_of l.p l.symbols l.i)

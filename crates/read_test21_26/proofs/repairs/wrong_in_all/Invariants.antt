@@ -1,7 +1,7 @@
 -- `read_test21_26::repairs::wrong_in_all` meets its contract: the sum over the streams so far, which is small.
 -- Assumes nothing.
 use mathlib.Core.Path.{◌≡◌}
-use Prim.Native.Nat.{◌-◌, ◌*◌, ◌≤◌}
+use Prim.Native.Nat.{◌*◌, ◌≤◌}
 use Rattle.span.specs.Format.{streams}
 use Rattle.word.specs.Received.{wrong_bits}
 use Rattle.window.specs.Tests.{sum_of}
@@ -10,7 +10,4 @@ use Rattle.read_test21_26.proofs.repairs.wrong_in_all.Given as goal
 
 abbrev pub invariant-loop-i : goal.invariant-loop-i
 invariant-loop-i l =
-    (l.s ≡ streams l.p) × (l.i ≤ l.s) × (l.sum ≡ sum_of l.i (brought wrong_bits l.p l.symbols)) × (l.sum ≤ 24 * l.i)
-
-abbrev pub decreases-loop-i : goal.decreases-loop-i
-decreases-loop-i l = l.s - l.i
+    (l.s ≡ streams l.p) × (l.sum ≡ sum_of l.i (brought wrong_bits l.p l.symbols)) × (l.sum ≤ 24 * l.i)

