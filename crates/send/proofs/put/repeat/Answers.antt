@@ -13,9 +13,3 @@ loop-i-init c =
 
 pub loop-i-preserved : goal.loop-i-preserved
 loop-i-preserved c = (omega arith, one_repeated c.args.from c.loop-i.i c.args.out.now (omega arith) c.loop-i.invariant.1)
-
-pub returns : goal.returns
-returns c =
-    let a = c.args in
-    let count : c.loop-i.i - a.from ≡ a.to - a.from = omega arith in
-    c.loop-i.invariant.1 ∙ ap (λ (n : ℕ). repeated n a.from a.out.now) count
