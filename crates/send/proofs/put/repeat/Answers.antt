@@ -1,6 +1,6 @@
 -- `send::put::repeat` meets its contract: up to place i each symbol is the one 96 before it.
 -- Assumes nothing.
-use Rattle.std.proofs.Common.{◌≡◌, ℕ, ◌-◌, ap, ◌∙◌, arith}
+use Rattle.std.proofs.Common.{◌≡◌, ℕ, ◌-◌, ap, arith}
 use Rattle.send.specs.Inside.Put.{repeated}
 use Rattle.send.proofs.Runs.{one_repeated}
 use Rattle.send.proofs.put.repeat.Goals as goal

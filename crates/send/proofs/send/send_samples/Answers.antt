@@ -37,9 +37,6 @@ send_span-requires-clause-accepted c =
     let a = c.args in
     is_good a.d a.f (request a.l.0 a.content a.samples.now) (length a.symbols.now) c.requires.f_value c.requires.l_value c.requires.samples_len c.requires.symbols_len _ (found_by a.samples.now c.first_outside-wrong.ensures c.bounds_of-bounds.ensures) c.if-wrong-samples.false
 
-pub send_span-requires-clause-factor_value : goal.send_span-requires-clause-factor_value
-send_span-requires-clause-factor_value c = ap (λ (b : Bounds). b.factor) c.bounds_of-bounds.ensures
-
 pub returns : goal.returns
 returns c =
     let a = c.args in

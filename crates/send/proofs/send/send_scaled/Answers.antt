@@ -1,8 +1,7 @@
 -- `send::send::send_scaled` meets its contract: the words are the samples by the factor.
 -- Assumes nothing.
-use Rattle.std.proofs.Common.{◌∙◌}
 use Rattle.request.specs.Send.{request}
-use Rattle.send.proofs.Scaling.{length_words, are_words}
+use Rattle.send.proofs.Scaling.{are_words}
 use Rattle.send.proofs.Whole.{fits, span_put_lem}
 use Rattle.send.proofs.send.send_scaled.Goals as goal
 
@@ -18,12 +17,6 @@ send_words-requires-clause-are_words c =
     let n = request a.l.0 a.content a.samples.now in
     let e = c.scale.ensures in
     are_words a.factor a.samples.now e (fits a.f n c.requires.accepted a.factor c.requires.factor_value)
-
-pub send_words-requires-clause-words_len : goal.send_words-requires-clause-words_len
-send_words-requires-clause-words_len c =
-    let a = c.args in
-    let e = c.scale.ensures in
-    length_words a.factor a.samples.now e ∙ c.requires.accepted.samples
 
 pub returns : goal.returns
 returns c = let a = c.args in
