@@ -85,16 +85,7 @@ fn receive_all(
 fn is_ready(first: StreamLine, symbols: usize, heard: usize, picture: usize) -> bool
     ensures { result ≡ receivable first.0 symbols heard picture }
 {
-    if 1121 < line::stream::number_of(first) {
-        return false;
-    }
-    if 95040 < symbols {
-        return false;
-    }
-    if heard != 5 {
-        return false;
-    }
-    picture == 38400
+    line::stream::number_of(first) <= 1121 && symbols <= 95040 && heard == 5 && picture == 38400
 }
 
 // Takes the symbols of five lines as received, and the first line's number. Gives 1 for each line delivered, else 0; and ten rows of the

@@ -17,9 +17,10 @@ fn step_of(f: Format) -> u16
     ensures { result ≡ code_step f }
 {
     if span::format::depth_of(f) == 10 {
-        return 4;
+        4
+    } else {
+        1
     }
-    1
 }
 
 // A row of the picture, divided: the row of its first image and then that of its second, from a place on.

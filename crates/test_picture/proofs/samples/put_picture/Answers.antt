@@ -3,10 +3,9 @@
 use mathlib.Core.Path.{◌≡◌, refl, sym, ap, ap₂, ◌∙◌}
 use mathlib.Core.Bool.{Bool, true, false, cond, true≢false}
 use mathlib.Core.List.{List, ◌++◌}
-use Prim.Native.Nat.{ℕ, zero, suc, ◌+◌, ◌*◌, ◌-◌, ◌≤◌, ◌<◌}
+use Prim.Native.Nat.{ℕ, zero, suc, ◌*◌, ◌-◌, ◌≤◌, ◌<◌}
 use native.Mathlib.Omega.{arith}
 use borrow.Author.Rules.{rules}
-use lib.ListN.{length}
 use lib.Seq.{sets}
 use Rattle.ground.specs.Written.{upto}
 use Rattle.ground.proofs.Cases.{on_test}
@@ -17,7 +16,7 @@ use Rattle.span.specs.declared.format.Shape.{Shape}
 use Rattle.span.specs.Format.{shape_of, streams}
 use Rattle.span.proofs.Formats.{small}
 use Rattle.test_picture.specs.TestPicture.{code_step, row_in_steps, test_samples}
-use Rattle.test_picture.proofs.Images.{carried, none_carried, row_carried, all_carried, some_step, row_active, row_line, row_blanking, are_carried}
+use Rattle.test_picture.proofs.Images.{carried, none_carried, row_carried, all_carried, row_active, row_line, row_blanking, are_carried}
 use Rattle.test_picture.proofs.samples.put_picture.Goals as goal
 
 -- nothing was put where the line is not active
@@ -33,20 +32,9 @@ loop-i-init c =
     let a = c.args in
     (omega arith, refl, none_carried c.step_of-step.result (a.l.0 - 41) a.samples.now, λ h. absurd (omega arith))
 
-pub overflow_mul-i : goal.overflow_mul-i
-overflow_mul-i c =
-    omega (arith, (small c.args.f c.shape_of-rows.ensures).half)
-
-pub overflow_add-i : goal.overflow_add-i
-overflow_add-i c =
-    omega (arith, (small c.args.f c.shape_of-rows.ensures).half)
-
 pub overflow_cast-i : goal.overflow_cast-i
 overflow_cast-i c =
     omega (arith, (small c.args.f c.shape_of-rows.ensures).half)
-
-pub shape_of-samples-in_default : goal.shape_of-samples-in_default
-shape_of-samples-in_default c = c.loop-i.invariant.1
 
 pub returns-in_default : goal.returns-in_default
 returns-in_default c =
@@ -55,19 +43,6 @@ returns-in_default c =
     let few : v.i < 2 = omega (arith, (small c.args.f c.shape_of-rows.ensures).half) in
     let blank = row_blanking n v.i few c.picture_line_on.result c.picture_line_on.ensures c.in_default.is in
     unchanged n v.i c.step_of-step.result (n - 41) c.args.samples.now (test_samples c.args.f n) blank v.invariant.3 v.invariant.2
-
-pub overflow_mul-i-in-loop-i : goal.overflow_mul-i-in-loop-i
-overflow_mul-i-in-loop-i c =
-    omega (arith, (small c.args.f c.shape_of-rows.ensures).half)
-
-pub put_images-requires : goal.put_images-requires
-put_images-requires c =
-    let v = c.loop-i in
-    let f = c.args.f in
-    let rows : c.shape_of-rows.result.stream_pairs ≡ (shape_of f).stream_pairs = ap (λ (p : Shape). p.stream_pairs) c.shape_of-rows.ensures in
-    let less : v.i < c.shape_of-rows.result.stream_pairs = c.loop-i-test.true in
-    let long : length v.samples ≡ 1920 * streams (shape_of f) = v.invariant.1 ∙ c.requires.samples_len in
-    let room : 3840 * v.i + 3840 ≤ length v.samples = omega (arith, rows, less, long) in record { le_step = omega (arith, some_step f, c.step_of-step.ensures); at_in_bounds = room }
 
 pub loop-i-preserved : goal.loop-i-preserved
 loop-i-preserved c =
@@ -84,9 +59,6 @@ loop-i-preserved c =
       c.put_images.ensures ∙ ap₂ put v.invariant.2 is ∙ row_carried step (n - 41) o v.i,
       λ h. row_active n v.i few r c.picture_line_on.ensures c.in-Some.is,
     )
-
-pub shape_of-samples : goal.shape_of-samples
-shape_of-samples c = c.loop-i.invariant.1
 
 pub returns : goal.returns
 returns c =
