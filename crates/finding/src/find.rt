@@ -2,6 +2,7 @@
 ghost use Rattle.std.specs.Prelude.{◌≡◌};
 ghost use Rattle.recording.specs.Call.{paper_found, find_of};
 
+use crate::seek::Recording;
 use recording::answer::FindError;
 use span::format::Format;
 
@@ -18,9 +19,14 @@ pub fn find(f: Format, symbols: &[u16], start: usize) -> Result<Option<usize>, F
     if symbols.len() < start {
         return Err(FindError::WrongStart);
     }
-    let mut rows = [0u16; 7680];
-    let m = span::length::span_lengths(f).samples;
-    match crate::seek::seek(f, symbols, start, &mut rows[..m]) {
+    let lengths = span::length::span_lengths(f);
+    let r = Recording {
+        format: f,
+        symbols,
+        span: lengths.symbols,
+    };
+    let mut rows = [0; 7680];
+    match crate::seek::seek(r, start, &mut rows[..lengths.samples]) {
         Some(s) => Ok(Some(s.place)),
         None => Ok(None),
     }

@@ -6,6 +6,7 @@ ghost use Rattle.delivery.specs.Kept.{kept_from};
 ghost use Rattle.recording.specs.Call.{paper_next, spanned, next_of, end_or, after_next, words_or, rows_next};
 ghost use Rattle.recording.specs.Recording.{next_from};
 
+use crate::seek::Recording;
 use recording::answer::{Next, NextError};
 use span::format::Format;
 
@@ -26,20 +27,18 @@ fn kept(n: usize, long: usize, start: usize) -> usize
 
 // The next span of a recording, with rows and start already checked. It is read into the call's own rows, since the lent ones stay as they
 // were if there is none.
-fn next_from(f: Format, symbols: &[u16], start: usize, own: &mut [u16], rows: &mut [u16]) -> Next
-    requires f_value { is_known f ≡ true }
-    requires start_in_bounds { start ≤ length symbols.now }
-    requires own_len { length own.old ≡ samples_in (shape_of f) }
-    requires rows_len { length rows.old ≡ samples_in (shape_of f) }
-    ensures answer { paper_next result.answer ≡ given (spanned (next_from f symbols.now start)) }
-    ensures after { result.after ≡ end_or (symbols_in (shape_of f)) (length symbols.now) start (given (spanned (next_from f symbols.now start))) }
-    ensures rows { rows.new ≡ words_or rows.old (next_from f symbols.now start) }
+fn next_from(r: Recording, start: usize, own: &mut [u16], rows: &mut [u16]) -> Next
+    requires start_in_bounds { start ≤ length r.symbols.now }
+    requires own_len { length own.old ≡ samples_in (shape_of r.format) }
+    requires rows_len { length rows.old ≡ samples_in (shape_of r.format) }
+    ensures answer { paper_next result.answer ≡ given (spanned (next_from r.entry.format r.entry.symbols.now start)) }
+    ensures after { result.after ≡ end_or (symbols_in (shape_of r.entry.format)) (length r.entry.symbols.now) start (given (spanned (next_from r.entry.format r.entry.symbols.now start))) }
+    ensures rows { rows.new ≡ words_or rows.old (next_from r.entry.format r.entry.symbols.now start) }
 {
-    let n = span::length::span_lengths(f).symbols;
-    match crate::seek::seek(f, symbols, start, own) {
+    match crate::seek::seek(r, start, own) {
         Some(s) => {
             rows.copy_from_slice(own);
-            let after = s.place + n;
+            let after = s.place + r.span;
             Next {
                 answer: Ok(Some(s)),
                 after,
@@ -47,7 +46,7 @@ fn next_from(f: Format, symbols: &[u16], start: usize, own: &mut [u16], rows: &m
         }
         None => Next {
             answer: Ok(None),
-            after: kept(n, symbols.len(), start),
+            after: kept(r.span, r.symbols.len(), start),
         },
     }
 }
@@ -74,13 +73,19 @@ pub fn next_span(f: Format, symbols: &[u16], start: usize, rows: &mut [u16]) -> 
     if recording::limit::limit() < symbols.len() {
         return refused_at(NextError::WrongInput, start);
     }
-    if rows.len() != span::length::span_lengths(f).samples {
+    let lengths = span::length::span_lengths(f);
+    if rows.len() != lengths.samples {
         return refused_at(NextError::WrongOutput, start);
     }
     if symbols.len() < start {
         return refused_at(NextError::WrongStart, start);
     }
-    let mut own = [0u16; 7680];
+    let r = Recording {
+        format: f,
+        symbols,
+        span: lengths.symbols,
+    };
+    let mut own = [0; 7680];
     let m = rows.len();
-    next_from(f, symbols, start, &mut own[..m], rows)
+    next_from(r, start, &mut own[..m], rows)
 }

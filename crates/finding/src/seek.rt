@@ -10,20 +10,28 @@ ghost use Rattle.finding.specs.Inside.Seek.{read_at};
 use recording::answer::Spanned;
 use span::format::Format;
 
+// A recording of a known format, and how many symbols its spans have.
+#[derive(Clone, Copy)]
+pub(crate) struct Recording<'a> {
+    pub(crate) format: Format,
+    pub(crate) symbols: &'a [u16],
+    pub(crate) span: usize,
+    pub(crate) ghost known: { is_known format ≡ true },
+    pub(crate) ghost span_value: { span ≡ symbols_in (shape_of format) },
+}
+
 // The span at a place, if one is read there. Its picture is left in the search's own rows; if there is none, they may hold anything. The
 // reader is asked only where K28.5 stands twice.
-fn span_at(f: Format, symbols: &[u16], i: usize, n: usize, rows: &mut [u16]) -> Option<Spanned>
-    requires f_value { is_known f ≡ true }
-    requires n_value { n ≡ symbols_in (shape_of f) }
-    requires n_in_bounds { i + n ≤ length symbols.now }
-    requires rows_len { length rows.old ≡ samples_in (shape_of f) }
-    ensures answer { told result ≡ spanned (read_at f symbols.now i) }
-    ensures rows { rows.new ≡ words_or rows.new (read_at f symbols.now i) }
+fn span_at(r: Recording, i: usize, rows: &mut [u16]) -> Option<Spanned>
+    requires in_bounds { i + r.span ≤ length r.symbols.now }
+    requires rows_len { length rows.old ≡ samples_in (shape_of r.format) }
+    ensures answer { told result ≡ spanned (read_at r.entry.format r.entry.symbols.now i) }
+    ensures rows { rows.new ≡ words_or rows.new (read_at r.entry.format r.entry.symbols.now i) }
 {
-    if !crate::look::begins(symbols, i) {
+    if !crate::look::begins(r.symbols, i) {
         return None;
     }
-    match read::accept::accept(f, &symbols[i..i + n], rows) {
+    match read::accept::accept(r.format, &r.symbols[i..i + r.span], rows) {
         Some(delivery) => Some(Spanned { place: i, delivery }),
         None => None,
     }
@@ -33,30 +41,22 @@ fn span_at(f: Format, symbols: &[u16], i: usize, n: usize, rows: &mut [u16]) -> 
 // place `seen`. The rest of the window is looked over from its end. Where K28.5 stands in it, no span begins before the place before the
 // last, and what follows is seen; where none does, the window is read if it begins with two, and no other begins in it. So each symbol is
 // looked at once, and read at most once.
-fn seek_on(
-    f: Format,
-    symbols: &[u16],
-    from: usize,
-    seen: usize,
-    rows: &mut [u16],
-) -> Option<Spanned>
-    requires f_value { is_known f ≡ true }
-    requires from_in_bounds { from ≤ length symbols.now }
+fn seek_on(r: Recording, from: usize, seen: usize, rows: &mut [u16]) -> Option<Spanned>
+    requires from_in_bounds { from ≤ length r.symbols.now }
     requires from_bound { from + 2 ≤ seen }
-    requires seen_bound { seen ≤ from + symbols_in (shape_of f) }
-    requires clear { Clear symbols.now (from + 2) seen }
-    requires rows_len { length rows.old ≡ samples_in (shape_of f) }
-    ensures answer { told result ≡ spanned (next_from f symbols.now from) }
-    ensures rows { rows.new ≡ words_or rows.new (next_from f symbols.now from) }
+    requires seen_bound { seen ≤ from + r.span }
+    requires clear { Clear r.symbols.now (from + 2) seen }
+    requires rows_len { length rows.old ≡ samples_in (shape_of r.format) }
+    ensures answer { told result ≡ spanned (next_from r.entry.format r.entry.symbols.now from) }
+    ensures rows { rows.new ≡ words_or rows.new (next_from r.entry.format r.entry.symbols.now from) }
 {
-    let n = span::length::span_lengths(f).symbols;
     let mut i = from;
     let mut clear = seen;
-    while n <= symbols.len() - i {
-        let end = i + n;
-        let k = crate::look::after_last(symbols, clear, end);
+    while r.span <= r.symbols.len() - i {
+        let end = i + r.span;
+        let k = crate::look::after_last(r.symbols, clear, end);
         if k == clear {
-            if let Some(s) = span_at(f, symbols, i, n, rows) {
+            if let Some(s) = span_at(r, i, rows) {
                 return Some(s);
             }
             i = end;
@@ -71,24 +71,22 @@ fn seek_on(
 
 // The first span at or after a start. The start itself is read at once: in a recording of spans one after another, the next one begins
 // where the one before it ends.
-pub(crate) fn seek(f: Format, symbols: &[u16], start: usize, rows: &mut [u16]) -> Option<Spanned>
-    requires f_value { is_known f ≡ true }
-    requires start_in_bounds { start ≤ length symbols.now }
-    requires rows_len { length rows.old ≡ samples_in (shape_of f) }
-    ensures answer { told result ≡ spanned (next_from f symbols.now start) }
-    ensures rows { rows.new ≡ words_or rows.new (next_from f symbols.now start) }
+pub(crate) fn seek(r: Recording, start: usize, rows: &mut [u16]) -> Option<Spanned>
+    requires start_in_bounds { start ≤ length r.symbols.now }
+    requires rows_len { length rows.old ≡ samples_in (shape_of r.format) }
+    ensures answer { told result ≡ spanned (next_from r.entry.format r.entry.symbols.now start) }
+    ensures rows { rows.new ≡ words_or rows.new (next_from r.entry.format r.entry.symbols.now start) }
 {
-    let n = span::length::span_lengths(f).symbols;
-    if symbols.len() - start < n {
+    if r.symbols.len() - start < r.span {
         return None;
     }
-    if let Some(s) = span_at(f, symbols, start, n, rows) {
+    if let Some(s) = span_at(r, start, rows) {
         return Some(s);
     }
-    let end = start + n;
-    let k = crate::look::after_last(symbols, start + 2, end);
+    let end = start + r.span;
+    let k = crate::look::after_last(r.symbols, start + 2, end);
     if k == start + 2 {
-        return seek_on(f, symbols, end, end + 2, rows);
+        return seek_on(r, end, end + 2, rows);
     }
-    seek_on(f, symbols, k - 2, end, rows)
+    seek_on(r, k - 2, end, rows)
 }

@@ -21,12 +21,12 @@ returns-then-limit-symbols c =
 
 pub slice_bounds-rows-end : goal.slice_bounds-rows-end
 slice_bounds-rows-end c =
-    let few : c.span_lengths-m.result.samples ≤ 7680 = omega (arith, ap (λ (l : SpanLengths). l.samples) c.span_lengths-m.ensures, (small c.args.f refl).half) in
+    let few : c.span_lengths-lengths.result.samples ≤ 7680 = omega (arith, ap (λ (l : SpanLengths). l.samples) c.span_lengths-lengths.ensures, (small c.args.f refl).half) in
     few
 
 pub slice_bounds-seek-end : goal.slice_bounds-seek-end
 slice_bounds-seek-end c =
-    let few : c.span_lengths-m.result.samples ≤ 7680 = omega (arith, ap (λ (l : SpanLengths). l.samples) c.span_lengths-m.ensures, (small c.args.f refl).half) in
+    let few : c.span_lengths-lengths.result.samples ≤ 7680 = omega (arith, ap (λ (l : SpanLengths). l.samples) c.span_lengths-lengths.ensures, (small c.args.f refl).half) in
     sym (length-take-le _ _ few)
 
 pub seek-requires : goal.seek-requires
@@ -36,8 +36,8 @@ seek-requires c =
     let known = sym c.is_known.ensures ∙ c.if-not-is_known.false in
     let short : length r ≤ limit = omega (arith, c.limit.ensures, c.if-limit-symbols.false) in
     let inside : a.start ≤ length r = omega (arith, c.if-symbols-start.false) in
-    let few : c.span_lengths-m.result.samples ≤ 7680 = omega (arith, ap (λ (l : SpanLengths). l.samples) c.span_lengths-m.ensures, (small c.args.f refl).half) in
-    record { f_value = known; start_in_bounds = inside; rows_len = length-take-le _ _ few ∙ ap (λ (l : SpanLengths). l.samples) c.span_lengths-m.ensures }
+    let few : c.span_lengths-lengths.result.samples ≤ 7680 = omega (arith, ap (λ (l : SpanLengths). l.samples) c.span_lengths-lengths.ensures, (small c.args.f refl).half) in
+    record { start_in_bounds = inside; rows_len = length-take-le _ _ few ∙ ap (λ (l : SpanLengths). l.samples) c.span_lengths-lengths.ensures }
 
 pub returns-in-Some : goal.returns-in-Some
 returns-in-Some c =

@@ -13,14 +13,14 @@ use Rattle.finding.proofs.next.next_span.Goals as goal
 pub slice_bounds-own-end : goal.slice_bounds-own-end
 slice_bounds-own-end c =
     let a = c.args in
-    let room : length a.rows.now ≡ samples_in (shape_of a.f) = omega (arith, ap (λ (l : SpanLengths). l.samples) c.span_lengths.ensures, c.if-rows-span_lengths.false) in
+    let room : length a.rows.now ≡ samples_in (shape_of a.f) = omega (arith, ap (λ (l : SpanLengths). l.samples) c.span_lengths-lengths.ensures, c.if-rows-lengths.false) in
     let few : length a.rows.now ≤ 7680 = omega (arith, room, (small a.f refl).half) in
     few
 
 pub slice_bounds-next_from-end : goal.slice_bounds-next_from-end
 slice_bounds-next_from-end c =
     let a = c.args in
-    let room : length a.rows.now ≡ samples_in (shape_of a.f) = omega (arith, ap (λ (l : SpanLengths). l.samples) c.span_lengths.ensures, c.if-rows-span_lengths.false) in
+    let room : length a.rows.now ≡ samples_in (shape_of a.f) = omega (arith, ap (λ (l : SpanLengths). l.samples) c.span_lengths-lengths.ensures, c.if-rows-lengths.false) in
     let few : length a.rows.now ≤ 7680 = omega (arith, room, (small a.f refl).half) in
     sym (length-take-le _ _ few)
 
@@ -29,7 +29,7 @@ next_from-requires c =
     let a = c.args in
     let r = a.symbols.now in
     let known = sym c.is_known.ensures ∙ c.if-not-is_known.false in
-    let room : length a.rows.now ≡ samples_in (shape_of a.f) = omega (arith, ap (λ (l : SpanLengths). l.samples) c.span_lengths.ensures, c.if-rows-span_lengths.false) in
+    let room : length a.rows.now ≡ samples_in (shape_of a.f) = omega (arith, ap (λ (l : SpanLengths). l.samples) c.span_lengths-lengths.ensures, c.if-rows-lengths.false) in
     let inside : a.start ≤ length r = omega (arith, c.if-symbols-start.false) in
     let few : length a.rows.now ≤ 7680 = omega (arith, room, (small a.f refl).half) in
-    record { f_value = known; start_in_bounds = inside; own_len = length-take-le _ _ few ∙ room; rows_len = room }
+    record { start_in_bounds = inside; own_len = length-take-le _ _ few ∙ room; rows_len = room }

@@ -10,12 +10,12 @@ use Rattle.finding.proofs.seek.seek_on.Given as goal
 
 abbrev pub invariant-loop-i : goal.invariant-loop-i
 invariant-loop-i l =
-    Sofar l.f l.symbols l.from l.i
-    × (l.i ≤ length l.symbols)
+    Sofar l.r.format l.r.symbols.now l.from l.i
+    × (l.i ≤ length l.r.symbols.now)
     × (l.i + 2 ≤ l.clear)
-    × (l.clear ≤ l.i + symbols_in (shape_of l.f))
-    × Clear l.symbols (l.i + 2) l.clear
-    × (length l.rows ≡ samples_in (shape_of l.f))
+    × (l.clear ≤ l.i + symbols_in (shape_of l.r.format))
+    × Clear l.r.symbols.now (l.i + 2) l.clear
+    × (length l.rows ≡ samples_in (shape_of l.r.format))
 
 abbrev pub decreases-loop-i : goal.decreases-loop-i
-decreases-loop-i l = length l.symbols - l.i
+decreases-loop-i l = length l.r.symbols.now - l.i
