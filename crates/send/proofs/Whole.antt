@@ -19,7 +19,7 @@ use Rattle.span.specs.Content.{Content, content_of}
 use Rattle.span.specs.declared.content.ContentBytes.{ContentBytes}
 use Rattle.span.specs.declared.format.Format.{Format}
 use Rattle.span.specs.declared.format.Shape.{Shape}
-use Rattle.span.specs.Format.{is_known, shape_of, samples_in, symbols_in}
+use Rattle.span.specs.Format.{is_known, shape_of, symbols_in}
 use Rattle.span.specs.Encoding.{symbols_from, after_run}
 use Rattle.span.specs.Numbers.{IsFormat}
 use Rattle.span.specs.Sample.{allowed, sample_word, blank_word}
@@ -176,9 +176,6 @@ module _ (f : Format) (a : Request) (good : Accepted f a) (factor : ℕ) (is : f
 module _ (f : Format) {p : Shape} (is : p ≡ shape_of f) where
   pub streams_there : is_known f ≡ true → 1 ≤ p.stream_pairs
   streams_there known = rw is (known_has_streams f known)
-
-  pub words_there : {n : ℕ} → n ≡ samples_in (shape_of f) → n ≡ 3840 * p.stream_pairs
-  words_there e = rw is (omega arith)
 
   pub as_asked : (d : Disparity) (n : ℕ) (named : Content) (ws : List ℕ) {o e b : ℕ} {c : ContentBytes} {before after : List ℕ} → o ≡ offset_of d
       → c ≡ content_of f named → b ≡ blank_word f → PutChars o (whole_chars p b ws n c) 0 before e after

@@ -1,6 +1,5 @@
 -- `send::send::send_span` meets its contract: samples by the factor 1 are words as they are.
 -- Assumes nothing.
--- no format has more samples
 use Rattle.std.proofs.Common.{◌≡◌, ℕ, ◌≤◌, sym, refl, arith, length-take-le}
 use Rattle.span.specs.declared.format.Format.{Format}
 use Rattle.span.specs.Format.{shape_of, samples_in}
@@ -10,6 +9,7 @@ use Rattle.send.proofs.Scaling.{as_they_are, are_words}
 use Rattle.send.proofs.Whole.{fits, span_put_lem}
 use Rattle.send.proofs.send.send_span.Goals as goal
 
+-- no format has more samples
 few : (f : Format) {n : ℕ} → n ≡ samples_in (shape_of f) → n ≤ 7680
 few f e = omega (arith, e, (small f refl).half)
 
