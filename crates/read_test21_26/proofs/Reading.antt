@@ -24,7 +24,8 @@ use Rattle.window.specs.Words.{fixed_byte, byte_at, pair_at, word_at}
 use Rattle.window.proofs.Bytes.{word_below}
 use Rattle.window.proofs.Encoded.{fixed_two, fixed_four}
 use Rattle.window.proofs.Placing.{four, word_of_place, stream_of_place, place_again}
-use Rattle.read_test21_26.specs.Inside.Holds.{line_in, crcc_received}
+use Rattle.read_test21_26.specs.Inside.Line.{line_in}
+use Rattle.read_test21_26.specs.Inside.Holds.{crcc_received}
 
 -- ---- bytes
 

@@ -4,18 +4,17 @@ ghost use Rattle.ground.specs.Search.{is_some};
 ghost use Rattle.span.specs.Format.{streams, pairs_in};
 ghost use Rattle.window.specs.Tests.{named};
 ghost use Rattle.window.specs.Words.{word_at};
-ghost use Rattle.window.specs.Inside.Given.{Given};
 ghost use Rattle.read_test21_26.specs.declared.call.JudgeError.TheVariants.{Fails};
 ghost use Rattle.read_test21_26.specs.Inside.Call.{is_window, service_of, judged_of, service_if, lowest_if};
-ghost use Rattle.read_test21_26.specs.Inside.Holds.{LineKnown};
 
+use crate::given::{Tested, Window};
+use crate::holds::first_wrong;
 use crate::service::{Fault, Test};
 use crcc::sums::Sums;
 use line::stream::StreamLine;
 use span::content::ContentBytes;
-use span::format::{Format, Shape};
+use span::format::Format;
 use window::delivery::Repairs;
-use word::line_number::NameError;
 
 // Whether this many symbols make a window of a known format.
 fn is_window(f: Format, symbols: usize) -> bool
@@ -54,38 +53,31 @@ impl From<Fault> for JudgeError {
 }
 
 // A window for which tests 21 to 24 hold: by test 22, a line is named.
-fn served(
-    t: &[u16; 1024],
-    p: Shape,
-    symbols: &[u16],
-    next: Result<StreamLine, NameError>,
-) -> Service
-    requires line_known { LineKnown p t.now symbols.now next }
-    requires symbols_value { is_some (named (streams p) (word_at p symbols.now)) ≡ true }
-    ensures { result ≡ service_of p symbols.now }
+fn served(x: Tested) -> Service
+    requires { is_some (named (streams x.window.shape) (word_at x.window.shape x.window.symbols.now)) ≡ true }
+    ensures { result ≡ service_of x.entry.window.shape x.entry.window.symbols.now }
 {
-    let after = next.unwrap();
+    let after = x.next.unwrap();
     Service {
         line: line::stream::line_before(after),
-        content: crate::words::content_in(t, p, symbols),
-        repairs: crate::repairs::repairs_in(t, p, symbols),
+        content: crate::words::content_in(x.window),
+        repairs: crate::repairs::repairs_in(x.window),
     }
 }
 
 // A window.
-fn judge_window(
-    f: Format,
-    t: &[u16; 1024],
-    p: Shape,
-    symbols: &[u16],
-    c: Sums,
-) -> Result<Service, JudgeError>
-    requires { Given p t.now symbols.now }
-    ensures { result ≡ judged_of p symbols.now c }
+fn judge_window(format: Format, window: Window, sums: Sums) -> Result<Service, JudgeError>
+    ensures { result ≡ judged_of window.entry.shape window.entry.symbols.now sums }
 {
-    let next = crate::holds::next_line(t, p, symbols);
-    crate::service::judge_words(f, t, p, symbols, next, c)?;
-    Ok(served(t, p, symbols, next))
+    let next = crate::holds::next_line(window);
+    let x = Tested {
+        format,
+        window,
+        next,
+        sums,
+    };
+    crate::service::judge_words(x)?;
+    Ok(served(x))
 }
 
 // Tests 21 to 24, given the sums that the picture words of the streams leave. The table is copied once, here.
@@ -94,7 +86,12 @@ pub fn service_of(f: Format, symbols: &[u16], c: Sums) -> Result<Service, JudgeE
 {
     if is_window(f, symbols.len()) {
         let t = decoder::table::decoding_table();
-        return judge_window(f, &t, span::format::shape_of(f), symbols, c);
+        let window = Window {
+            table: &t,
+            shape: span::format::shape_of(f),
+            symbols,
+        };
+        return judge_window(f, window, c);
     }
     Err(JudgeError::NoWindow)
 }
@@ -114,38 +111,30 @@ pub fn lowest_place(test: Test, f: Format, symbols: &[u16]) -> Result<Option<usi
     let t = decoder::table::decoding_table();
     let p = span::format::shape_of(f);
     let s = 2 * p.stream_pairs;
-    let next = crate::holds::next_line(&t, p, symbols);
-    let c = Sums {
-        first: 0,
-        second: 0,
-        third: 0,
-        fourth: 0,
+    let window = Window {
+        table: &t,
+        shape: p,
+        symbols,
+    };
+    let x = Tested {
+        format: f,
+        window,
+        next: crate::holds::next_line(window),
+        sums: Sums {
+            first: 0,
+            second: 0,
+            third: 0,
+            fourth: 0,
+        },
     };
     match test {
-        Test::Sample => Ok(crate::holds::first_wrong(
-            Test::Sample,
-            f,
-            &t,
-            p,
-            symbols,
-            next,
-            c,
-            span::layout::PICTURE * s,
-            span::layout::EAV * s,
-        )),
+        Test::Sample => {
+            let end = span::layout::EAV * s;
+            Ok(first_wrong(Test::Sample, x, span::layout::PICTURE * s, end))
+        }
         _ => {
             let from = s * (span::layout::ANCILLARY + p.ancillary);
-            Ok(crate::holds::first_wrong(
-                Test::Fill,
-                f,
-                &t,
-                p,
-                symbols,
-                next,
-                c,
-                from,
-                from + 2 * p.fill_pairs,
-            ))
+            Ok(first_wrong(Test::Fill, x, from, from + 2 * p.fill_pairs))
         }
     }
 }

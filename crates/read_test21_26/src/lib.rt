@@ -3,6 +3,7 @@
 #![tactic(auto)]
 
 pub mod call;
+mod given;
 mod holds;
 pub mod picture;
 mod repairs;

@@ -5,10 +5,9 @@ ghost use Rattle.span.specs.Format.{streams};
 ghost use Rattle.window.specs.Read.{each_bit, repairs_of};
 ghost use Rattle.window.specs.Tests.{repair_count, repairs_at};
 ghost use Rattle.window.specs.Words.{word_at};
-ghost use Rattle.window.specs.Inside.Given.{Given};
 ghost use Rattle.read_test21_26.specs.Inside.Repairs.{xyz_of, Room, with_bits};
 
-use span::format::Shape;
+use crate::given::Window;
 use window::delivery::Repairs;
 
 // The XYZ of SAV and EAV of a stream.
@@ -18,27 +17,25 @@ struct Xyz {
     eav: u16,
 }
 
-fn xyz_of(t: &[u16; 1024], p: Shape, symbols: &[u16], i: usize) -> Xyz
-    requires given { Given p t.now symbols.now }
-    requires i_bound { i < streams p }
-    ensures { result ≡ xyz_of p symbols.now i }
+fn xyz_of(w: Window, i: usize) -> Xyz
+    requires i_bound { i < streams w.shape }
+    ensures { result ≡ xyz_of w.entry.shape w.entry.symbols.now i }
 {
-    let s = 2 * p.stream_pairs;
+    let s = 2 * w.shape.stream_pairs;
     Xyz {
-        sav: crate::words::word_at(t, p, symbols, span::layout::SAV_XYZ * s + i),
-        eav: crate::words::word_at(t, p, symbols, span::layout::EAV_XYZ * s + i),
+        sav: crate::words::word_at(w, span::layout::SAV_XYZ * s + i),
+        eav: crate::words::word_at(w, span::layout::EAV_XYZ * s + i),
     }
 }
 
 // How many bits were wrong in all timing words.
-fn wrong_in_all(t: &[u16; 1024], p: Shape, symbols: &[u16]) -> u8
-    requires { Given p t.now symbols.now }
-    ensures { result ≡ repair_count (streams p) (word_at p symbols.now) }
+fn wrong_in_all(w: Window) -> u8
+    ensures { result ≡ repair_count (streams w.entry.shape) (word_at w.entry.shape w.entry.symbols.now) }
 {
-    let s = 2 * p.stream_pairs;
+    let s = 2 * w.shape.stream_pairs;
     let mut sum = 0;
     for i in 0..s {
-        let xyz = xyz_of(t, p, symbols, i);
+        let xyz = xyz_of(w, i);
         sum += word::received::wrong_bits(xyz.sav) + word::received::wrong_bits(xyz.eav);
     }
     sum
@@ -64,14 +61,13 @@ fn add_bits(counts: &mut [u8; 12], sav: u16, eav: u16)
 }
 
 // How often each bit was wrong.
-fn each_bit(t: &[u16; 1024], p: Shape, symbols: &[u16]) -> [u8; 12]
-    requires { Given p t.now symbols.now }
-    ensures { result ≡ each_bit (repairs_at (streams p) (word_at p symbols.now)) }
+fn each_bit(w: Window) -> [u8; 12]
+    ensures { result ≡ each_bit (repairs_at (streams w.entry.shape) (word_at w.entry.shape w.entry.symbols.now)) }
 {
-    let s = 2 * p.stream_pairs;
+    let s = 2 * w.shape.stream_pairs;
     let mut counts = [0; 12];
     for i in 0..s {
-        let xyz = xyz_of(t, p, symbols, i);
+        let xyz = xyz_of(w, i);
         let sav = word::received::wrong_mask(xyz.sav);
         let eav = word::received::wrong_mask(xyz.eav);
         add_bits(&mut counts, sav, eav);
@@ -80,17 +76,16 @@ fn each_bit(t: &[u16; 1024], p: Shape, symbols: &[u16]) -> [u8; 12]
 }
 
 // Both. Where nothing was wrong, as in most spans, no bit is looked for.
-pub(crate) fn repairs_in(t: &[u16; 1024], p: Shape, symbols: &[u16]) -> Repairs
-    requires { Given p t.now symbols.now }
-    ensures { result ≡ repairs_of (repair_count (streams p) (word_at p symbols.now)) (repairs_at (streams p) (word_at p symbols.now)) }
+pub(crate) fn repairs_in(w: Window) -> Repairs
+    ensures { result ≡ repairs_of (repair_count (streams w.entry.shape) (word_at w.entry.shape w.entry.symbols.now)) (repairs_at (streams w.entry.shape) (word_at w.entry.shape w.entry.symbols.now)) }
 {
-    let count = wrong_in_all(t, p, symbols);
+    let count = wrong_in_all(w);
     if count == 0 {
         return Repairs {
             count,
             of_bit: [0; 12],
         };
     }
-    let of_bit = each_bit(t, p, symbols);
+    let of_bit = each_bit(w);
     Repairs { count, of_bit }
 }

@@ -1,6 +1,6 @@
 -- The tests by their numbers, at one place and over a run of places.
 -- Assumes nothing.
-use Rattle.std.specs.Prelude.{ℕ, Result, Ok, Err, Option as Answered, Some, None, ◌+◌, ◌-◌, ◌≡◌, Bool, true, not, cond, List, ◌∷◌, ◌++◌, eqb}
+use Rattle.std.specs.Prelude.{ℕ, Option as Answered, Some, None, ◌+◌, ◌-◌, Bool, true, not, cond, List, ◌∷◌, ◌++◌, eqb}
 use Rattle.std.proofs.Math.Option.{Option, none, some}
 use Rattle.ground.specs.Search.{first_from}
 use Rattle.span.specs.declared.format.Format.{Format}
@@ -10,28 +10,15 @@ use Rattle.span.specs.Span.{fill_word}
 use Rattle.span.specs.Layout.{eav_start, line_start, crcc_start, eav_xyz}
 use Rattle.crcc.specs.declared.crcc.CrccWords.{CrccWords}
 use Rattle.crcc.specs.Crcc.{crc, crcc_words}
-use Rattle.line.specs.declared.stream.StreamLine.{StreamLine}
 use Rattle.packing.specs.Sample.{allowed_word}
 use Rattle.crcc.specs.declared.sums.Sums.{Sums}
 use Rattle.window.specs.Read.{placed}
-use Rattle.window.specs.Tests.{word_of, column, named, holds21, holds22, holds23}
-use Rattle.word.specs.declared.line_number.NameError.{NameError}
+use Rattle.window.specs.Tests.{word_of, column, holds21, holds22, holds23}
 use Rattle.word.specs.Received.{repaired}
 use Rattle.crcc.specs.Inside.Sums.{sum_in}
 use Rattle.window.specs.Words.{word_at}
-use Rattle.window.specs.Inside.Given.{Given}
 use Rattle.read_test21_26.specs.declared.service.Test.{Test}
 use Rattle.read_test21_26.specs.declared.service.Test.TheVariants.{Timing, Line as LineNumber, V, Crcc, Sample, Fill}
-
--- the line that an answer of the line-number reader names, if any
-abbrev pub line_in : Result StreamLine NameError → Option ℕ
-line_in (Ok l) = some l.0
-line_in (Err e) = none
-
--- also known: the line that stream 1 names
-pub record LineKnown (p : Shape) (t w : List ℕ) (next : Result StreamLine NameError) : Type 0 where
-  pub given : Given p t w
-  pub line : line_in next ≡ named (streams p) (word_at p w)
 
 -- test 25 or 26 of a word, where it applies
 abbrev pub picture25 : Format → ℕ → (ℕ → ℕ) → ℕ → ℕ → Bool

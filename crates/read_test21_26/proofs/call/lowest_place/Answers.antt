@@ -11,18 +11,11 @@ use Rattle.read_test21_26.specs.Inside.Call.{is_window}
 use Rattle.read_test21_26.proofs.Calls.{given, is_place_25, is_place_26, other_place}
 use Rattle.read_test21_26.proofs.call.lowest_place.Goals as goal
 
-pub next_line-next-requires : goal.next_line-next-requires
-next_line-next-requires c =
-    given _ (sym c.is_window.ensures ∙ c.if-not-is_window.false)
-    c.shape_of-p.ensures c.decoding_table-t.ensures
-
-pub first_wrong-requires-clause-line_known : goal.first_wrong-requires-clause-line_known
-first_wrong-requires-clause-line_known c =
+pub invariant_of-window : goal.invariant_of-window
+invariant_of-window c =
     record {
-      given =
-          given _ (sym c.is_window.ensures ∙ c.if-not-is_window.false)
+      given = given _ (sym c.is_window.ensures ∙ c.if-not-is_window.false)
           c.shape_of-p.ensures c.decoding_table-t.ensures;
-      line = c.next_line-next.ensures;
     }
 
 pub returns-in-Sample : goal.returns-in-Sample
@@ -38,16 +31,7 @@ overflow_add-from c = omega (arith, (small _ c.shape_of-p.ensures).ancillary)
 
 pub first_wrong-requires-in_default : goal.first_wrong-requires-in_default
 first_wrong-requires-in_default c =
-    record {
-      line_known = record {
-        given =
-            given _ (sym c.is_window.ensures ∙ c.if-not-is_window.false)
-            c.shape_of-p.ensures c.decoding_table-t.ensures;
-        line = c.next_line-next.ensures;
-      };
-      from_le_to = omega arith;
-      to_bound = omega arith;
-    }
+    record { from_le_to = omega arith; to_bound = omega arith }
 
 pub returns-in_default : goal.returns-in_default
 returns-in_default c =

@@ -4,5 +4,5 @@ use mathlib.Core.Path.{sym, ◌∙◌}
 use Rattle.read_test21_26.proofs.Calls.{given}
 use Rattle.read_test21_26.proofs.call.service_of.Goals as goal
 
-pub judge_window-requires : goal.judge_window-requires
-judge_window-requires c = given _ (sym c.is_window.ensures ∙ c.if-is_window.true) c.shape_of.ensures c.decoding_table-t.ensures
+pub invariant_of-window : goal.invariant_of-window
+invariant_of-window c = record { given = given _ (sym c.is_window.ensures ∙ c.if-is_window.true) c.shape_of.ensures c.decoding_table-t.ensures }

@@ -11,7 +11,7 @@ returns-then-not-holds c =
     let a = c.args in
     let v = c.loop-k in
     sym
-    (stops (holds_at a.test a.f a.p a.symbols.now a.c) a.to v.invariant (omega arith)
+    (stops (holds_at a.test a.x.format a.x.window.shape a.x.window.symbols.now a.x.sums) a.to v.invariant (omega arith)
     (sym c.holds.ensures ∙ c.if-not-holds.true))
 
 pub returns : goal.returns
@@ -19,4 +19,4 @@ returns c =
     let a = c.args in
     let v = c.loop-k in
     let end : v.k ≡ a.to = omega (arith, c.requires.from_le_to) in
-    sym (ends (holds_at a.test a.f a.p a.symbols.now a.c) (rw end at v.invariant))
+    sym (ends (holds_at a.test a.x.format a.x.window.shape a.x.window.symbols.now a.x.sums) (rw end at v.invariant))

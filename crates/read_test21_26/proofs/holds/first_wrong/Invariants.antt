@@ -5,4 +5,4 @@ use Rattle.read_test21_26.proofs.Searching.{Held}
 use Rattle.read_test21_26.proofs.holds.first_wrong.Given as goal
 
 abbrev pub invariant-loop-k : goal.invariant-loop-k
-invariant-loop-k l = Held (holds_at l.test l.f l.p l.symbols l.c) l.from l.k
+invariant-loop-k l = Held (holds_at l.test l.x.format l.x.window.shape l.x.window.symbols.now l.x.sums) l.from l.k

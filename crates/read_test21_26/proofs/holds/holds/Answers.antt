@@ -28,12 +28,12 @@ pub returns-in-Sample : goal.returns-in-Sample
 unfolding holds_of
 returns-in-Sample c =
     let a = c.args in
-    let word = here a.p a.symbols.now a.k c.requires.line_known.given.half c.word_at.ensures.word in
+    let word = here a.x.window.shape a.x.window.symbols.now a.k c.args.x.window.given.half c.word_at.ensures.word in
     rw c.in-Sample.is (c.allowed_word.ensures ∙ ap₂ (λ (d x : ℕ). allowed_word d x) c.depth_of.ensures word)
 
 pub returns-in-Fill : goal.returns-in-Fill
 unfolding holds_of
 returns-in-Fill c =
     let a = c.args in
-    let word = here a.p a.symbols.now a.k c.requires.line_known.given.half c.word_at-in-Fill.ensures.word in
+    let word = here a.x.window.shape a.x.window.symbols.now a.k c.args.x.window.given.half c.word_at-in-Fill.ensures.word in
     rw c.in-Fill.is (ap₂ eqb word c.fill_word.ensures)

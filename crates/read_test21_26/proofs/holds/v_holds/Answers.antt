@@ -17,23 +17,23 @@ pub returns-then-j-eq-SAV_XYZ : goal.returns-then-j-eq-SAV_XYZ
 returns-then-j-eq-SAV_XYZ c =
     let a = c.args in
     let v = c.v_in in
-    let word = here_below a.p a.symbols.now a.k c.requires.given.half c.word_at-w.ensures.word in
-    let line = line_read_lem (streams a.p) (word_at a.p a.symbols.now) a.next c.requires.next_value in
+    let word = here_below a.x.window.shape a.x.window.symbols.now a.k c.args.x.window.given.half c.word_at-w.ensures.word in
+    let line = line_read_lem (streams a.x.window.shape) (word_at a.x.window.shape a.x.window.symbols.now) a.x.next c.args.x.line_known in
     same_is v.result c.v_before.result
     ∙ ap₂ same (v.ensures ∙ ap (λ (x : ℕ). v_in x) word) (c.v_before.ensures ∙ ap (λ (n : ℕ). v_of n) line)
-    ∙ sym (sav_23 (streams a.p) (word_at a.p a.symbols.now) (a.k / streams a.p) (a.k % streams a.p) c.if-j-eq-SAV_XYZ.true)
+    ∙ sym (sav_23 (streams a.x.window.shape) (word_at a.x.window.shape a.x.window.symbols.now) (a.k / streams a.x.window.shape) (a.k % streams a.x.window.shape) c.if-j-eq-SAV_XYZ.true)
 
 pub returns-then-j-eq-EAV_XYZ : goal.returns-then-j-eq-EAV_XYZ
 returns-then-j-eq-EAV_XYZ c =
     let a = c.args in
     let v = c.v_in-then-j-eq-EAV_XYZ in
-    let word = here_below a.p a.symbols.now a.k c.requires.given.half c.word_at-w.ensures.word in
-    let line = next_line_lem (streams a.p) (word_at a.p a.symbols.now) a.next c.requires.next_value in
+    let word = here_below a.x.window.shape a.x.window.symbols.now a.k c.args.x.window.given.half c.word_at-w.ensures.word in
+    let line = next_line_lem (streams a.x.window.shape) (word_at a.x.window.shape a.x.window.symbols.now) a.x.next c.args.x.line_known in
     same_is v.result c.v_named.result
     ∙ ap₂ same (v.ensures ∙ ap (λ (x : ℕ). v_in x) word) (c.v_named.ensures ∙ ap (λ (n : ℕ). v_of n) line)
-    ∙ sym (eav_23 (streams a.p) (word_at a.p a.symbols.now) (a.k / streams a.p) (a.k % streams a.p) (let at : a.k / streams a.p ≡ eav_xyz = omega arith in at))
+    ∙ sym (eav_23 (streams a.x.window.shape) (word_at a.x.window.shape a.x.window.symbols.now) (a.k / streams a.x.window.shape) (a.k % streams a.x.window.shape) (let at : a.k / streams a.x.window.shape ≡ eav_xyz = omega arith in at))
 
 pub returns : goal.returns
 returns c =
     let a = c.args in
-    sym (else_23 (streams a.p) (word_at a.p a.symbols.now) (a.k / streams a.p) (a.k % streams a.p) c.if-j-eq-SAV_XYZ.false (λ at. omega arith))
+    sym (else_23 (streams a.x.window.shape) (word_at a.x.window.shape a.x.window.symbols.now) (a.k / streams a.x.window.shape) (a.k % streams a.x.window.shape) c.if-j-eq-SAV_XYZ.false (λ at. omega arith))

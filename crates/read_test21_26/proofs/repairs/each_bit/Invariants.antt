@@ -6,4 +6,4 @@ use Rattle.read_test21_26.proofs.Repairing.{counts_of}
 use Rattle.read_test21_26.proofs.repairs.each_bit.Given as goal
 
 abbrev pub invariant-loop-i : goal.invariant-loop-i
-invariant-loop-i l = (l.s ≡ streams l.p) × (l.counts ≡ counts_of l.p l.symbols l.i)
+invariant-loop-i l = (l.s ≡ streams l.w.shape) × (l.counts ≡ counts_of l.w.shape l.w.symbols.now l.i)

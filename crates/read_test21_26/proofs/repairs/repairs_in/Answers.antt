@@ -11,4 +11,4 @@ returns-then-count-eq0 c =
     let a = c.args in
     let zero : c.wrong_in_all-count.result ≡ 0 = omega arith in
     let none = sym c.wrong_in_all-count.ensures ∙ zero in
-    are_repairs a.p a.symbols.now c.wrong_in_all-count.ensures (replicate_table 12 0 ∙ none_wrong a.p a.symbols.now none)
+    are_repairs a.w.shape a.w.symbols.now c.wrong_in_all-count.ensures (replicate_table 12 0 ∙ none_wrong a.w.shape a.w.symbols.now none)

@@ -13,12 +13,12 @@ use Rattle.read_test21_26.proofs.repairs.wrong_in_all.Goals as goal
 pub loop-i-init : goal.loop-i-init
 loop-i-init c =
     let a = c.args in
-    (refl, none_summed wrong_bits a.p a.symbols.now, omega arith)
+    (refl, none_summed wrong_bits a.w.shape a.w.symbols.now, omega arith)
 
 pub loop-i-preserved : goal.loop-i-preserved
 loop-i-preserved c =
-    let p = c.args.p in
-    let w = c.args.symbols.now in
+    let p = c.args.w.shape in
+    let w = c.args.w.symbols.now in
     let v = c.loop-i in
     let xyz = c.xyz_of-xyz.ensures in
     let x = c.wrong_bits.ensures.count ∙ of_sav wrong_bits p w v.i xyz in
@@ -32,5 +32,5 @@ pub returns : goal.returns
 returns c =
     let a = c.args in
     let v = c.loop-i in
-    let end : v.i ≡ streams a.p = omega (arith, v.invariant.0, c.loop-i-test.false) in
-    v.invariant.1 ∙ ap (λ (n : ℕ). sum_of n (brought wrong_bits a.p a.symbols.now)) end ∙ all_summed a.p a.symbols.now
+    let end : v.i ≡ streams a.w.shape = omega (arith, v.invariant.0, c.loop-i-test.false) in
+    v.invariant.1 ∙ ap (λ (n : ℕ). sum_of n (brought wrong_bits a.w.shape a.w.symbols.now)) end ∙ all_summed a.w.shape a.w.symbols.now

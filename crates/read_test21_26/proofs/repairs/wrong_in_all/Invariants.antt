@@ -10,4 +10,4 @@ use Rattle.read_test21_26.proofs.repairs.wrong_in_all.Given as goal
 
 abbrev pub invariant-loop-i : goal.invariant-loop-i
 invariant-loop-i l =
-    (l.s ≡ streams l.p) × (l.sum ≡ sum_of l.i (brought wrong_bits l.p l.symbols)) × (l.sum ≤ 24 * l.i)
+    (l.s ≡ streams l.w.shape) × (l.sum ≡ sum_of l.i (brought wrong_bits l.w.shape l.w.symbols.now)) × (l.sum ≤ 24 * l.i)

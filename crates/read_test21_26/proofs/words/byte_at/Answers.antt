@@ -13,28 +13,28 @@ use Rattle.read_test21_26.proofs.words.byte_at.Goals as goal
 pub returns-then-i-lt4 : goal.returns-then-i-lt4
 returns-then-i-lt4 c =
     let a = c.args in
-    c.fixed_byte.ensures ∙ sym (byte_sav a.p a.symbols.now a.i c.if-i-lt4.true)
+    c.fixed_byte.ensures ∙ sym (byte_sav a.w.shape a.w.symbols.now a.i c.if-i-lt4.true)
 
 pub returns-then-i-eav : goal.returns-then-i-eav
 returns-then-i-eav c =
     let a = c.args in
     let h : 4 ≤ a.i = omega arith in
-    byte_is _ c.requires.given.table c.byte_of.ensures
-    ∙ sym (byte_else a.p a.symbols.now a.i h (λ l. omega arith))
+    byte_is _ c.args.w.given.table c.byte_of.ensures
+    ∙ sym (byte_else a.w.shape a.w.symbols.now a.i h (λ l. omega arith))
 
 pub returns-then-i-eav-2 : goal.returns-then-i-eav-2
 returns-then-i-eav-2 c =
     let a = c.args in
-    let i = a.i - eav_symbol * a.p.stream_pairs in
+    let i = a.i - eav_symbol * a.w.shape.stream_pairs in
     let h : i < 4 = omega arith in
-    let back : eav_at a.p + i ≡ a.i = omega arith in
+    let back : eav_at a.w.shape + i ≡ a.i = omega arith in
     c.fixed_byte-then-i-eav-2.ensures
-    ∙ sym (byte_eav a.p a.symbols.now c.requires.given.half i h)
-    ∙ ap (byte_at a.p a.symbols.now) back
+    ∙ sym (byte_eav a.w.shape a.w.symbols.now c.args.w.given.half i h)
+    ∙ ap (byte_at a.w.shape a.w.symbols.now) back
 
 pub returns : goal.returns
 returns c =
     let a = c.args in
     let h : 4 ≤ a.i = omega arith in
-    byte_is _ c.requires.given.table c.byte_of-2.ensures
-    ∙ sym (byte_else a.p a.symbols.now a.i h (λ l. omega arith))
+    byte_is _ c.args.w.given.table c.byte_of-2.ensures
+    ∙ sym (byte_else a.w.shape a.w.symbols.now a.i h (λ l. omega arith))

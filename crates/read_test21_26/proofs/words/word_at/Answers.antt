@@ -11,14 +11,14 @@ pub returns-then-k-eq0 : goal.returns-then-k-eq0
 returns-then-k-eq0 c =
     let a = c.args in
     let same =
-    word_even a.p a.symbols.now a.k c.byte_at.ensures c.byte_at-2.ensures c.byte_at-3.ensures
-    c.unpack-w.ensures (let even : a.k % 2 ≡ 0 = omega arith in even) in
-    record { word = same; small = rw same (word_below a.p a.symbols.now a.k) }
+    word_even a.w.shape a.w.symbols.now a.k c.byte_at.ensures c.byte_at-2.ensures c.byte_at-3.ensures
+    c.unpack-pair.ensures (let even : a.k % 2 ≡ 0 = omega arith in even) in
+    record { word = same; small = rw same (word_below a.w.shape a.w.symbols.now a.k) }
 
 pub returns : goal.returns
 returns c =
     let a = c.args in
     let same =
-    word_odd a.p a.symbols.now a.k c.byte_at.ensures c.byte_at-2.ensures c.byte_at-3.ensures
-    c.unpack-w.ensures (λ even. omega arith) in
-    record { word = same; small = rw same (word_below a.p a.symbols.now a.k) }
+    word_odd a.w.shape a.w.symbols.now a.k c.byte_at.ensures c.byte_at-2.ensures c.byte_at-3.ensures
+    c.unpack-pair.ensures (λ even. omega arith) in
+    record { word = same; small = rw same (word_below a.w.shape a.w.symbols.now a.k) }
