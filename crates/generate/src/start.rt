@@ -20,13 +20,10 @@ pub(crate) struct Start {
 fn all_of(p: Parameters) -> Left
     ensures { result ≡ all_of p }
 {
-    let format = p.format;
-    let line = p.first;
-    let disparity = symbol::disparity::before_fresh_signal();
     Left {
-        format,
-        line,
-        disparity,
+        format: p.format,
+        line: p.first,
+        disparity: symbol::disparity::before_fresh_signal(),
         count: p.count,
     }
 }
@@ -34,13 +31,10 @@ fn all_of(p: Parameters) -> Left
 fn nothing() -> Left
     ensures { result ≡ none }
 {
-    let format = span::format::plain_format(0, 0);
-    let line = line::stream::stream_line(0);
-    let disparity = symbol::disparity::before_fresh_signal();
     Left {
-        format,
-        line,
-        disparity,
+        format: span::format::plain_format(0, 0),
+        line: line::stream::stream_line(0),
+        disparity: symbol::disparity::before_fresh_signal(),
         count: 0,
     }
 }
@@ -55,8 +49,10 @@ pub(crate) fn put_start(input: &[u8], out: &mut [u8]) -> Start
     ensures written { out.new ≡ sets out.old 0 (file_start input.now) }
 {
     let Ok(p) = wanted_in(input) else {
-        let left = nothing();
-        return Start { end: 0, left };
+        return Start {
+            end: 0,
+            left: nothing(),
+        };
     };
     let end = put_text(&input[..2], out, 0);
     let left = all_of(p);

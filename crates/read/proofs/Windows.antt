@@ -11,7 +11,7 @@ use native.Mathlib.Nat.{eq-or-lt_of_le}
 use native.Mathlib.Omega.{arith}
 use lib.ListN.{length, replicate}
 use lib.Dec.{eqb}
-use borrow.Author.Tests.{eq-eqb, ne_eqb, eqb-true, eqb-false, lt-ltb, le-ltb}
+use borrow.Author.Tests.{eq-eqb, ne_eqb, eqb-true, eqb-false, le-ltb}
 use Rattle.ground.proofs.Cases.{on_test}
 use Rattle.ground.specs.Answer.{Answer, Row, refused}
 use Rattle.ground.specs.Search.{first_below}
@@ -24,21 +24,19 @@ use Rattle.span.proofs.Lengths.{known_has_streams}
 use Rattle.read_test21_26.specs.declared.call.Service.{Service}
 use Rattle.read_test21_26.specs.declared.call.JudgeError.{JudgeError}
 use Rattle.read_test21_26.specs.declared.service.Fault.{Fault}
-use Rattle.read_test21_26.specs.declared.service.Test.{Test}
 use Rattle.read_test20.specs.declared.whole.TakeError.{TakeError}
 use Rattle.read_test20.specs.declared.whole.TakeError.TheVariants.{Invalid, NotExamined}
 use Rattle.read_test20.specs.declared.whole.Valid.{Valid}
 use Rattle.window.specs.declared.delivery.Delivery.{Delivery}
 use Rattle.crcc.specs.declared.sums.Sums.{Sums}
-use Rattle.window.specs.Read.{word_tests, delivery_of, picture_of, read_span, read_of, rows_left, rows_read}
+use Rattle.window.specs.Read.{word_tests, delivery_of, picture_of, read_span, rows_left, rows_read}
 use Rattle.window.specs.Scan.{start_of, running_at, holds20}
 use Rattle.window.specs.Tests.{rows as rows_of}
 use Rattle.window.specs.Words.{word_at}
 use Rattle.window.specs.Inside.Columns.{sums_of}
 use Rattle.read_test20.specs.Inside.Run.{place20}
 use Rattle.read_test20.specs.Inside.Whole.{valid_of, taken_of, taken_if, rows_if}
-use Rattle.read_test21_26.specs.Inside.Call.{service_of, judged_by, service_if, lowest_if}
-use Rattle.read_test21_26.specs.Inside.Holds.{lowest_of}
+use Rattle.read_test21_26.specs.Inside.Call.{service_of, judged_by, service_if}
 use Rattle.read_test21_26.specs.Inside.Verdict.{Verdict, first_row}
 use Rattle.window.specs.Inside.Window.{IsWindow}
 use Rattle.window.proofs.Windows.{long, read_is}
@@ -48,7 +46,7 @@ use Rattle.read.specs.declared.answer.ReadError.{ReadError}
 use Rattle.read.specs.declared.answer.ReadError.TheVariants.{UnknownFormat, WrongInput, WrongOutput, WrongSymbol, Fails as Wrong}
 use Rattle.read.specs.Call.{paper_read}
 use Rattle.read.specs.Inside.Answer.{read_taken, read_judged}
-use Rattle.read.specs.Inside.Picture.{line_tests, picture_tests, wrong_place}
+use Rattle.read.specs.Inside.Picture.{line_tests, picture_tests}
 use Rattle.read.proofs.Summing.{sums_right}
 use Rattle.read.proofs.Verdicts.{answer_by, checked_by, then_by, then_by_lem, number_late, refused_told, never_none}
 
@@ -75,9 +73,6 @@ module _ (f : Format) (w : List ℕ) (is : IsWindow f w) where
       ∙ rw (sums, is.known, long)
       (ap (λ (rs : List Row). judged_by (first_row rs) (service_of p w))
       (sums_right p w (known_has_streams f is.known) (small f refl).half f refl))
-
-  pub lowest_is : (test : Test) → lowest_if test f w ≡ Ok (lowest_of (wrong_place test f w))
-  lowest_is test = rw (is.known, long)
 
   -- ---- test 20
   abbrev wrong20 : ℕ → Bool
@@ -231,11 +226,6 @@ delivery_is f w is {v} {service} valid served =
     let before : v.before ≡ start_of w = ap (λ (x : Valid). x.before) valid in
     let after : v.after ≡ running_at w (symbols_in (shape_of f)) = ap (λ (x : Valid). x.after) valid ∙ ap (running_at w) is.long in
     rw (before, after, served)
-
--- a call that is refused by a number below 20 leaves the rows as they were
-pub rows_kept : {number place : ℕ} (f : Format) (w entry : List ℕ) → read_of f w (length entry) ≡ refused number place → number < 20
-    → entry ≡ rows_read f w entry
-rows_kept {number} {place} f w entry e h = rw (e, lt-ltb number 20 h)
 
 -- a call that is not, reads the window
 module _ (f : Format) (w : List ℕ) (is : IsWindow f w) (entry : List ℕ) (room : length entry ≡ samples_in (shape_of f)) where

@@ -114,14 +114,6 @@ module _ (w : List ℕ) (from flips : ℕ) where
         }
 
   module _ (to : ℕ) (b : AreFill w from to flips) where
-    pub first_three : from + 3 ≤ to → AreFill w from (from + 3) flips
-    first_three h =
-        record {
-          first = λ q l. b.first q (omega arith);
-          second = λ q l. b.second q (omega arith);
-          third = λ q l. b.third q (omega arith);
-        }
-
     -- each equals the one three before it
     pub fill_repeats : Repeats w from to
     fill_repeats = record { again = λ i h l. go i h l }

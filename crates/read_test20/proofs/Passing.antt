@@ -19,7 +19,7 @@ use Rattle.window.specs.Inside.Fill.{fill_right}
 use Rattle.read_test20.specs.declared.whole.PassError.{PassError}
 use Rattle.read_test20.specs.declared.whole.PassError.TheVariants.{Faulty, NotExamined as NoWindow}
 use Rattle.read_test20.specs.declared.whole.Reached.{Reached}
-use Rattle.read_test20.specs.declared.whole.TakeError.TheVariants.{Invalid, NotExamined}
+use Rattle.read_test20.specs.declared.whole.TakeError.TheVariants.{Invalid}
 use Rattle.read_test20.specs.declared.whole.Valid.{Valid}
 use Rattle.read_test20.specs.Inside.Run.{ScanInv, place20}
 use Rattle.read_test20.specs.Inside.Whole.{AllHold, PassedWindow, PassedIf, taken_if, rows_if, is_all_valid, whole_if, rows_whole}
@@ -70,23 +70,11 @@ module _ (f : Format) (w entry rows : List ℕ) (o : Result Valid PassError) whe
     abbrev by : Result Valid PassError → Type 0
     by o = PassedIf f w false entry rows o
 
-    -- the first symbols are known to be valid
-    pub scanned : {x : Reached} → o ≡ Err (Faulty x) → ScanInv p w x.place x.mask
-    scanned e = (subst by e passed).1.1
-
-    pub whole_taken : {v : Valid} → o ≡ Ok v → (Ok v ≡ taken_if f w entry) × (rows ≡ rows_if f w entry)
-    whole_taken e =
-        let (fit, (all, valid, picture)) = subst by e passed in
-        (rw (fit, eq-eqb (place20 p w) (length w) all) (ap Ok valid), rw (fit, eq-eqb (place20 p w) (length w) all) picture)
-
     pub fault_taken : {x : Reached} {k : ℕ} {l : List ℕ} (n : ℕ) → o ≡ Err (Faulty x) → k ≡ place20 p w → l ≡ replicate n 0 → n ≡ length entry
         → (Err (Invalid k) ≡ taken_if f w entry) × (l ≡ rows_if f w entry)
     fault_taken n e place zero long =
         let (fit, (not-all, scan)) = subst by e passed in
         (rw (fit, some_wrong p w not-all) (ap (λ (k : ℕ). Err (Invalid k)) place), zero ∙ rw (fit, some_wrong p w not-all, long))
-
-    pub nothing_taken : o ≡ Err NoWindow → (Err NotExamined ≡ taken_if f w entry) × (rows ≡ rows_if f w entry)
-    nothing_taken e = let (unfit, same) = subst by e passed in (rw unfit, rw unfit same)
 
   -- without it, and in haste
   module _ (passed : PassedIf f w true entry rows o) where

@@ -7,7 +7,6 @@ use Prim.Native.Nat.{ℕ, ◌+◌, ◌*◌, ◌/◌, ◌%◌, ◌≤◌}
 use native.Mathlib.Nat.{mul-le-mul_left}
 use native.Mathlib.Omega.{arith}
 use lib.ListN.{length}
-use borrow.Author.Tests.{eq-eqb, ne_eqb}
 use Rattle.symbol.specs.declared.disparity.Disparity.{Disparity}
 use Rattle.symbol.specs.declared.disparity.Disparity.TheVariants.{Negative, Positive}
 use Rattle.symbol.specs.Code.{symbol_of, after_of}
@@ -85,13 +84,6 @@ module _ (w : List ℕ) where
         go : (d : Disparity) → running_at w at ≡ d → mask_by flips ≡ mask_of (running_at w at) → RunInv w 266 266 at (at + 2) (mask_by flips)
         go Negative r m = absurd (n (let z : mask_by flips ≡ 512 = m ∙ ap mask_of r in omega arith))
         go Positive r m = rw (m, r) (eav_at_lem Positive at r x y)
-
--- ---- the disparity at which something has been gathered
-pub by_negative : (flips : ℕ) → flips / 2048 % 4 ≡ 2 → Negative ≡ of_mask (mask_by flips)
-by_negative flips e = rw (eq-eqb (mask_by flips) 512 (omega arith)) refl
-
-pub by_positive : (flips : ℕ) → (flips / 2048 % 4 ≡ 2 → ⊥) → Positive ≡ of_mask (mask_by flips)
-by_positive flips n = rw (ne_eqb (mask_by flips) 512 (λ e. n (omega arith))) refl
 
 -- ---- all of it
 

@@ -3,11 +3,10 @@
 use Rattle.std.specs.Prelude.{Result, Ok, Err, is_ok}
 use mathlib.Core.Path.{◌≡◌, refl, sym, ap, ◌∙◌}
 use mathlib.Core.List.{List}
-use mathlib.Core.Option.{Option, none, some, get_or}
+use mathlib.Core.Option.{Option, get_or}
 use Prim.Native.Nat.{ℕ, zero, suc, ◌+◌, ◌*◌, ◌/◌, ◌%◌, ◌≤◌, ◌<◌}
 use native.Mathlib.Omega.{arith}
-use borrow.Author.Tests.{lt-ltb, eq-eqb, ne_eqb}
-use Rattle.ground.specs.Answer.{Answer, refused, given}
+use borrow.Author.Tests.{eq-eqb, ne_eqb}
 use Rattle.ground.specs.Search.{is_some}
 use Rattle.ground.specs.Written.{upto, table}
 use Rattle.line.specs.declared.stream.StreamLine.{StreamLine}
@@ -19,8 +18,6 @@ use Rattle.packing.specs.declared.bytes.TwoWords.{TwoWords}
 use Rattle.packing.specs.Bytes.{unpacked}
 use Rattle.crcc.specs.Crcc.{crc, crc_word, crcc_words}
 use Rattle.word.specs.declared.line_number.NameError.{NameError}
-use Rattle.word.specs.declared.line_number.NameError.TheVariants.{Above4095, Nameless}
-use Rattle.word.specs.LineNumber.{line_of, named_of, paper_named}
 use Rattle.window.specs.Tests.{word_of, named, next_line, line_read}
 use Rattle.word.specs.Received.{repaired}
 use Rattle.window.specs.Words.{fixed_byte, byte_at, pair_at, word_at}
@@ -72,40 +69,10 @@ module _ (p : Shape) (w : List ℕ) (k : ℕ) {x : ℕ} (some_streams : 1 ≤ p.
 
 -- ---- the line named
 
-module _ (a b : ℕ) (small : a < 4096) (smaller : b < 4096) where
-  abbrev by_line : Option ℕ → Answer StreamLine
-  by_line none = refused 22 0
-  by_line (some m) = given (record { 0 = m })
-
-  named_is : (o : Option ℕ) → line_of a b ≡ o → named_of a b ≡ by_line o
-  named_is none e = simp (lt-ltb a 4096 small, lt-ltb b 4096 smaller, e)
-  named_is (some m) e = simp (lt-ltb a 4096 small, lt-ltb b 4096 smaller, e)
-
-  pub line_told : (r : Result StreamLine NameError) → paper_named r ≡ named_of a b → line_in r ≡ line_of a b
-  line_told r q = go (line_of a b) refl r q
-    where
-      go : (o : Option ℕ) → line_of a b ≡ o → (r : Result StreamLine NameError) → paper_named r ≡ named_of a b → line_in r ≡ line_of a b
-      go none e (Ok l) q = let z : ◌≡◌ {A = ℕ} 0 1 = cc (q ∙ named_is none e) in absurd (omega arith)
-      go none e (Err Above4095) q = sym e
-      go none e (Err Nameless) q = sym e
-      go (some m) e (Ok l) q =
-          let same : l ≡ record { 0 = m } = cc (q ∙ named_is (some m) e) in
-          ap {B = Option ℕ} (λ (x : StreamLine). some x.0) same ∙ sym e
-      go (some m) e (Err Above4095) q = let z : ◌≡◌ {A = ℕ} 0 1 = cc (q ∙ named_is (some m) e) in absurd (omega arith)
-      go (some m) e (Err Nameless) q = let z : ◌≡◌ {A = ℕ} 0 1 = cc (q ∙ named_is (some m) e) in absurd (omega arith)
-
 -- a line is named where the answer is one
 pub named_ok : (r : Result StreamLine NameError) → is_ok r ≡ is_some (line_in r)
 named_ok (Ok l) = refl
 named_ok (Err e) = refl
-
--- the two words of stream 1
-module _ (p : Shape) (w : List ℕ) {a b : ℕ} (first : a ≡ word_at p w (line_start * streams p)) (second : b ≡ word_at p w ((line_start + 1) * streams p)) where
-  pub next_is : line_of a b ≡ named (streams p) (word_at p w)
-  next_is =
-      let e : line_start * streams p ≡ streams p * line_start + 0 = omega arith in
-      let q : (line_start + 1) * streams p ≡ streams p * (line_start + 1) + 0 = omega arith in
-      rw (first, second, e, q)
 
 -- the line named, and the line before it, which is the line read
 module _ (s : ℕ) (word : ℕ → ℕ) (next : Result StreamLine NameError) (e : line_in next ≡ named s word) where
@@ -133,10 +100,6 @@ module _ (p : Shape) (w : List ℕ) (i : ℕ) where
 -- ---- places
 
 module _ (s : ℕ) (some_streams : 1 ≤ s) (k : ℕ) where
-  -- word k / s stands at or before k
-  pub word_before : s * (k / s) ≤ k
-  word_before = omega (arith, place_again s some_streams k)
-
   -- the first word of a group of s
   pub first_word : (j : ℕ) → k ≡ j * s → k / s ≡ j
   first_word j e =

@@ -21,11 +21,6 @@ use Rattle.window.proofs.Sums.{parts_zero, same_bits, bits_add_up}
 use Rattle.read_test21_26.specs.declared.repairs.Xyz.{Xyz}
 use Rattle.read_test21_26.specs.Inside.Repairs.{xyz_of, wrong_mask, brought, Room, with_bits}
 
--- two words are those of a stream
-module _ (p : Shape) (w : List ℕ) (t : ℕ) {x y : ℕ} where
-  pub are_words : x ≡ word_at p w (streams p * sav_xyz + t) → y ≡ word_at p w (streams p * eav_xyz + t) → record { sav = x; eav = y } ≡ xyz_of p w t
-  are_words e q = rw (e, q)
-
 -- ---- one pair of masks more
 
 module _ {c d : List ℕ} {x y u v : ℕ} where

@@ -1,10 +1,10 @@
 -- The search for the lowest place at which a test is wrong: what it tells, what it is told by, and the run that makes it.
 -- Assumes nothing.
 use Rattle.std.specs.Prelude.{Some, None}
-use mathlib.Core.Path.{◌≡◌, refl, ap}
+use mathlib.Core.Path.{◌≡◌, ap}
 use mathlib.Core.Bool.{Bool, true, false, not}
 use mathlib.Core.Logic.{◌⊎◌, ⊎_elim}
-use mathlib.Core.Option.{Option, none, some}
+use mathlib.Core.Option.{none, some}
 use Prim.Native.Nat.{ℕ, ◌+◌, ◌-◌, ◌≤◌, ◌<◌}
 use native.Mathlib.Nat.{eq-or-lt_of_le}
 use native.Mathlib.Omega.{arith}
@@ -59,12 +59,3 @@ module _ (holds : ℕ → Bool) where
   -- or comes to the end
   pub ends : {from to : ℕ} → Held from to → lowest_of (wrong_in holds from to) ≡ None
   ends g = rw (is_miss_in g.come (record { never = λ j p q. ap not (g.held j p q) }))
-
--- ---- what an answer tells
-pub some_told : (o : Option ℕ) {k : ℕ} → Some k ≡ lowest_of o → o ≡ some k
-some_told none e = cc
-some_told (some m) e = cc
-
-pub none_told : (o : Option ℕ) → None ≡ lowest_of o → o ≡ none
-none_told none e = refl
-none_told (some m) e = cc

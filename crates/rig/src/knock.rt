@@ -15,10 +15,7 @@ fn is_struck(k: Knock, q: u64) -> bool
     ensures { result ≡ struck k q }
 {
     let begin = k.place as u64;
-    if q < begin {
-        return false;
-    }
-    q < begin + k.long as u64
+    begin <= q && q < begin + k.long as u64
 }
 
 // The symbols of a piece that begins at place `from` of the frame: those struck become 0.

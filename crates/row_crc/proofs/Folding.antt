@@ -2,12 +2,12 @@
 -- Assumes nothing.
 use mathlib.Core.Path.{◌≡◌, refl, sym, ap, ap₂, ◌∙◌}
 use mathlib.Core.Bool.{Bool, cond}
-use mathlib.Core.List.{List, [], ◌++◌, append-nil}
+use mathlib.Core.List.{List}
 use Prim.Native.Nat.{ℕ, ◌+◌, ◌-◌, ◌≤◌, ◌<◌}
 use native.Mathlib.Omega.{arith}
 use lib.Dec.{eqb, ltb}
-use lib.ListN.{length, get_or, set, take, replicate, length-replicate, get_or-replicate, get_or-eq_default}
-use lib.Seq.{take_all, get_or-set_same, get_or-set_other}
+use lib.ListN.{length, get_or, set, replicate, length-replicate, get_or-replicate, get_or-eq_default}
+use lib.Seq.{get_or-set_same, get_or-set_other}
 use borrow.Author.Tests.{eqb-true, eqb-false, eq-eqb, ne_eqb, ltb-true, ltb-false, lt-ltb, le-ltb}
 use Rattle.ground.specs.Written.{table}
 use Rattle.ground.specs.Xor.{◌⊕◌}
@@ -16,13 +16,9 @@ use Rattle.ground.proofs.Writing.{table_same}
 use Rattle.ground.proofs.Xors.{⊕_zero, zero_⊕, ⊕_self, ⊕_comm, ⊕_assoc, ⊕_middle}
 use Rattle.crcc.specs.Crcc.{crc, crc_word}
 use Rattle.crcc.proofs.Linear.{crc_next, crc_sum}
-use Rattle.row_crc.specs.declared.fold.Two.{Two}
 use Rattle.row_crc.specs.Inside.Fold.{with_moved, left, Empty, FoldInv}
 use Rattle.row_crc.specs.Inside.Sums.{words_in}
 use Rattle.row_crc.proofs.Moving.{zeros, only, moves, moves_nothing}
-
-pub two_same : {a b x y : ℕ} → a ≡ x → b ≡ y → ◌≡◌ {A = Two} (record { a = a; b = b }) (record { a = x; b = y })
-two_same p q = rw (p, q)
 
 -- ---- the room for what is moved
 
@@ -33,13 +29,6 @@ empty_room =
           on_test (ltb k 1984) (λ t. get_or-replicate 1984 k 0 0 (ltb-true k 1984 t))
           (λ t. get_or-eq_default (replicate 1984 0) 0 {n = k} (rw (length-replicate {A = ℕ} 1984 0) (ltb-false k 1984 t)));
     }
-
--- all of it, as the code lends it
-pub whole_room : (l : List ℕ) → length l ≡ 1984 → take 1984 (l ++ []) ≡ l
-whole_room l e = ap (take 1984) (append-nil l) ∙ take_all 1984 l (omega arith)
-
-pub room_long : (l : List ℕ) → length l ≡ 1984 → 1984 ≤ length (l ++ [])
-room_long l e = rw (append-nil l) (omega arith)
 
 -- ---- one word
 

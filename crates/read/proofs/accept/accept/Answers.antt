@@ -8,13 +8,13 @@ use Rattle.read.specs.Inside.Accept.{accepted_in, delivered_in}
 use Rattle.read.proofs.Accepted.{right, wrong, rows_right, rows_there, rows_any}
 use Rattle.read.proofs.accept.accept.Goals as goal
 
-pub accept_words-requires : goal.accept_words-requires
-accept_words-requires c =
+pub accept_words-requires-clause-rows_value : goal.accept_words-requires-clause-rows_value
+accept_words-requires-clause-rows_value c =
     let a = c.args in
     let w = a.symbols.now in
     let room = length a.rows.now in
     let told = right a.f w room (sym c.in_ok-v.was ∙ c.examine.ensures.answer) in
-    record { window = told.is; symbols_value = told.all; v_value = told.valid; symbols_value_2 = told.filled; rows_value = rows_right a.f w room told.whole c.examine.ensures.rows }
+    rows_right a.f w room told.whole c.examine.ensures.rows
 
 pub returns : goal.returns
 returns c =

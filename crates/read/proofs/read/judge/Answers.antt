@@ -21,18 +21,11 @@ slice_bounds-read_window-end c =
     let few : c.span_lengths-lengths.result.samples ≤ 7680 = omega (arith, m, (small c.args.f refl).half) in
     sym (length-take-le _ _ few)
 
-pub read_window-requires : goal.read_window-requires
-read_window-requires c =
-    let a = c.args in
-    let w = a.symbols.now in
-    let lengths = c.span_lengths-lengths.ensures in
-    let known = sym c.is_known.ensures ∙ c.if-not-is_known.false in
-    let n = ap (λ (l : SpanLengths). l.symbols) lengths in
-    let long : length w ≡ symbols_in (shape_of a.f) = omega (arith, n, c.if-symbols-lengths.false) in
-    let is : IsWindow a.f w = record { known = known; long = long } in
+pub read_window-requires-clause-rows_len : goal.read_window-requires-clause-rows_len
+read_window-requires-clause-rows_len c =
     let m = ap (λ (l : SpanLengths). l.samples) c.span_lengths-lengths.ensures in
     let few : c.span_lengths-lengths.result.samples ≤ 7680 = omega (arith, m, (small c.args.f refl).half) in
-    record { window = is; rows_len = length-take-le _ _ few ∙ m }
+    length-take-le _ _ few ∙ m
 
 pub returns : goal.returns
 returns c =

@@ -18,32 +18,27 @@ returns-in_err-v c =
       rows = taken_rows a.f w is a.rows.now c.requires.rows_len _ taken c.take.ensures.rows;
     }
 
-pub read_words-read-requires : goal.read_words-read-requires
-read_words-read-requires c =
+pub read_words-read-requires-clause-rows_value : goal.read_words-read-requires-clause-rows_value
+read_words-read-requires-clause-rows_value c =
     let a = c.args in
     let w = a.symbols.now in
     let is = c.requires.window in
     let told = whole_told a.f w is (sym c.in_ok-v.was ∙ c.take.ensures.taken ∙ taken_is a.f w is a.rows.now c.requires.rows_len) in
-    record { window = is; symbols_value = told.0; v_value = told.1; rows_value = c.take.ensures.rows ∙ rows_whole_lem a.f w is a.rows.now c.requires.rows_len told.0 }
+    c.take.ensures.rows ∙ rows_whole_lem a.f w is a.rows.now c.requires.rows_len told.0
 
-pub returns-then-is_err : goal.returns-then-is_err
-returns-then-is_err c =
+pub returns-then-is_err-clause-rows : goal.returns-then-is_err-clause-rows
+returns-then-is_err-clause-rows c =
     let a = c.args in
     let w = a.symbols.now in
     let is = c.requires.window in
     let told = whole_told a.f w is (sym c.in_ok-v.was ∙ c.take.ensures.taken ∙ taken_is a.f w is a.rows.now c.requires.rows_len) in
-    record {
-      answer = c.read_words-read.ensures;
-      rows = refused_rows a.f w is a.rows.now told.0 _ c.read_words-read.ensures (sym c.is_err.ensures.value ∙ c.if-is_err.true) _ (search rules) (c.fill.ensures.after (λ y e. e));
-    }
+    refused_rows a.f w is a.rows.now told.0 _ c.read_words-read.ensures (sym c.is_err.ensures.value ∙ c.if-is_err.true) _ (search rules) (c.fill.ensures.after (λ y e. e))
 
-pub returns-else-is_err : goal.returns-else-is_err
-returns-else-is_err c =
+pub returns-else-is_err-clause-rows : goal.returns-else-is_err-clause-rows
+returns-else-is_err-clause-rows c =
     let a = c.args in
     let w = a.symbols.now in
     let is = c.requires.window in
     let told = whole_told a.f w is (sym c.in_ok-v.was ∙ c.take.ensures.taken ∙ taken_is a.f w is a.rows.now c.requires.rows_len) in
-    record {
-      answer = c.read_words-read.ensures;
-      rows = read_rows a.f w is a.rows.now told.0 _ c.read_words-read.ensures (sym c.is_err.ensures.value ∙ c.if-is_err.false) (c.take.ensures.rows ∙ rows_whole_lem a.f w is a.rows.now c.requires.rows_len told.0);
-    }
+    read_rows a.f w is a.rows.now told.0 _ c.read_words-read.ensures (sym c.is_err.ensures.value ∙ c.if-is_err.false)
+    (c.take.ensures.rows ∙ rows_whole_lem a.f w is a.rows.now c.requires.rows_len told.0)

@@ -4,6 +4,6 @@ use mathlib.Core.Path.{sym, ◌∙◌}
 use Rattle.read_test21_26.proofs.InTurn.{some_named}
 use Rattle.read_test21_26.proofs.call.judge_window.Goals as goal
 
-pub served-requires : goal.served-requires
-served-requires c =
-    let a = c.args in record { line_known = record { given = c.requires; line = c.next_line-next.ensures }; symbols_value = some_named a.p a.symbols.now a.c c.requires.half (sym c.judge_words.ensures ∙ c.in_ok-judge_words.was) }
+pub served-requires-clause-symbols_value : goal.served-requires-clause-symbols_value
+served-requires-clause-symbols_value c =
+    let a = c.args in some_named a.p a.symbols.now a.c c.requires.half (sym c.judge_words.ensures ∙ c.in_ok-judge_words.was)

@@ -16,17 +16,13 @@ next_line-next-requires c =
     given _ (sym c.is_window.ensures ∙ c.if-not-is_window.false)
     c.shape_of-p.ensures c.decoding_table-t.ensures
 
-pub first_wrong-requires : goal.first_wrong-requires
-first_wrong-requires c =
+pub first_wrong-requires-clause-line_known : goal.first_wrong-requires-clause-line_known
+first_wrong-requires-clause-line_known c =
     record {
-      line_known = record {
-        given =
-            given _ (sym c.is_window.ensures ∙ c.if-not-is_window.false)
-            c.shape_of-p.ensures c.decoding_table-t.ensures;
-        line = c.next_line-next.ensures;
-      };
-      from_le_to = omega arith;
-      to_bound = omega arith;
+      given =
+          given _ (sym c.is_window.ensures ∙ c.if-not-is_window.false)
+          c.shape_of-p.ensures c.decoding_table-t.ensures;
+      line = c.next_line-next.ensures;
     }
 
 pub returns-in-Sample : goal.returns-in-Sample

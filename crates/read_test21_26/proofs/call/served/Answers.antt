@@ -1,14 +1,9 @@
 -- `read_test21_26::call::served` meets its contract.
 -- Assumes nothing.
 use mathlib.Core.Path.{sym, ap, ◌∙◌}
-use Rattle.ground.specs.Search.{is_some}
 use Rattle.read_test21_26.specs.Inside.Holds.{line_in}
 use Rattle.read_test21_26.proofs.Calls.{service_is}
-use Rattle.read_test21_26.proofs.Reading.{named_ok}
 use Rattle.read_test21_26.proofs.call.served.Goals as goal
-
-pub unwrap-after-requires : goal.unwrap-after-requires
-unwrap-after-requires c = named_ok c.args.next ∙ ap is_some c.requires.line_known.line ∙ c.requires.symbols_value
 
 pub returns : goal.returns
 returns c =
