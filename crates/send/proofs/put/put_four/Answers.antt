@@ -8,7 +8,7 @@ use Rattle.send.proofs.put.put_four.Goals as goal
 pub returns-then-pairs-eq1 : goal.returns-then-pairs-eq1
 returns-then-pairs-eq1 c =
     let a = c.args in
-    let q = ap (λ (h : ℕ). group_chars h (slice_index a.words)) c.if-pairs-eq1.true ∙ group_of_two (slice_index a.words) in
+    let q = ap (λ (h : ℕ). group_chars h (slice_index a.words.now)) c.if-pairs-eq1.true ∙ group_of_two (slice_index a.words.now) in
     let p = renamed q (made (c.put_pair-low.ensures.offset, c.put_pair-low.ensures.out)) in
     record { offset = p.offset; out = p.out }
 
@@ -16,6 +16,6 @@ pub returns : goal.returns
 returns c =
     let a = c.args in
     let two : a.pairs ≡ 2 = omega arith in
-    let q = ap (λ (h : ℕ). group_chars h (slice_index a.words)) two ∙ group_of_four (slice_index a.words) in
+    let q = ap (λ (h : ℕ). group_chars h (slice_index a.words.now)) two ∙ group_of_four (slice_index a.words.now) in
     let p = renamed q (then (made (c.put_pair-low.ensures.offset, c.put_pair-low.ensures.out)) refl (made (c.put_pair.ensures.offset, c.put_pair.ensures.out))) in
     record { offset = p.offset; out = p.out }
