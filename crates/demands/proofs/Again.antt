@@ -8,7 +8,6 @@ use lib.ListN.{length, get_or}
 use borrow.Author.Tests.{eqb-true, eq-eqb}
 use Rattle.ground.specs.Answer.{given}
 use Rattle.symbol.specs.declared.disparity.Disparity.{Disparity}
-use Rattle.picture.specs.Division.{w}
 use Rattle.span.specs.declared.format.Format.{Format}
 use Rattle.span.specs.Format.{is_known, shape_of, streams, samples_in, symbols_in}
 use Rattle.span.specs.Span.{span_symbols, span_after}

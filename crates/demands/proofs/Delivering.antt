@@ -18,7 +18,6 @@ use Rattle.window.proofs.Windows.{read_is}
 use Rattle.delivery.specs.Delivery.{Found, deliver, deliver_by as deliver_by, moved_by, concatenated, placed_from, Each}
 use Rattle.delivery.specs.Marked.{AllAfter}
 use Rattle.delivery.proofs.Cutting.{cut}
-use Rattle.delivery.proofs.Finding.{told}
 use Rattle.delivery.proofs.Spans.{ReadAs, nothing_of, exactly, in_place}
 use Rattle.delivery.proofs.Splitting.{split}
 use Rattle.delivery.proofs.Steps.{moved, too_few, few}

@@ -4,7 +4,7 @@ use mathlib.Core.Path.{◌≡◌, refl, ap, ap₂, ◌∙◌}
 use mathlib.Core.Bool.{cond}
 use mathlib.Core.List.{List}
 use mathlib.Core.Logic.{inl}
-use Prim.Native.Nat.{ℕ, zero, suc, ◌+◌, ◌-◌, ◌*◌, ◌/◌, ◌≤◌, ◌<◌}
+use Prim.Native.Nat.{ℕ, suc, ◌+◌, ◌-◌, ◌*◌, ◌/◌, ◌≤◌, ◌<◌}
 use native.Mathlib.Nat.{add-zero}
 use native.Mathlib.Omega.{arith}
 use lib.Dec.{eqb}
@@ -25,7 +25,6 @@ use Rattle.span.specs.Span.{span_words}
 use Rattle.span.proofs.Lengths.{known_has_streams}
 use Rattle.window.specs.declared.delivery.Delivery.{Delivery}
 use Rattle.window.specs.Encoded.{Encodes, Disturbed, DisturbedBefore, IsXyz, word_in, wrong_at}
-use Rattle.window.specs.declared.delivery.RepairsOfBit.{RepairsOfBit}
 use Rattle.window.specs.Read.{read_span, repairs_of}
 use Rattle.window.specs.Tests.{sum_of}
 use Rattle.window.proofs.Placing.{word_of_place, in_span}
@@ -119,7 +118,7 @@ module _ (f : Format) (m : ℕ) (known : IsFormat f) (d : Disparity) (sent : Was
       let bits =
       same_bits _ (λ k. cond (eqb k b) 1 0)
       (λ k l. all_differ y below (differs_at k) (demand_2.words.differs_none k) ∙ demand_2.words.differs_one k b 0x800 l h) in
-      (_, read, refl, ap₂ (λ (n : ℕ) (c : RepairsOfBit). record { count = n; of_bit = c }) (all_differ y below distance zero ∙ one) bits)
+      (_, read, refl, ap₂ (λ (n : ℕ) (c : List ℕ). record { count = n; of_bit = c }) (all_differ y below distance zero ∙ one) bits)
 
   pub two_wrong : (b c : ℕ) → b < c → c < 12 → read_span f (with_xyz f m d (inverted b (inverted c 0x800))) ≡ refused 21 (s * 3)
   two_wrong b c h l =

@@ -24,7 +24,7 @@ use Rattle.packing.specs.Bytes.{packed_of}
 use Rattle.crcc.specs.Crcc.{crcc_words, crcc_of}
 use Rattle.std.specs.Prelude.{Some}
 use Rattle.word.specs.LineNumber.{numbered_of, named_of}
-use Rattle.word.specs.Repair.{distance, repair_of}
+use Rattle.word.specs.Repair.{repair_of}
 use Rattle.word.specs.Timing.{timing}
 use Rattle.picture.specs.Division.{line_from, sample_from}
 use Rattle.picture.specs.Place.{placed_of}

@@ -1,8 +1,8 @@
 -- The blocks of one character: that they are found in the tables, and what they make.
 -- Assumes nothing.
 use mathlib.Core.Path.{◌≡◌, refl, sym, ap, ap₂, ◌∙◌}
-use mathlib.Core.Bool.{Bool, true, false, not, ◌&&◌, ◌||◌, cond}
-use mathlib.Core.List.{List, [], ◌∷◌}
+use mathlib.Core.Bool.{Bool, true, false, not, ◌&&◌, cond}
+use mathlib.Core.List.{List}
 use Prim.Native.Nat.{ℕ, ◌≤◌, ◌<◌}
 use native.Mathlib.Omega.{arith}
 use lib.Dec.{eqb, ltb, lit<}
@@ -53,21 +53,7 @@ pub four_primary : (d : Disparity) (x y : ℕ) → y ≡ 7 → one_of x (alterna
 unfolding four_of_byte
 four_primary d x y e t = rw e (simp t)
 
--- one of the three x that take the alternate form
-or_false : (t : Bool) → (t || false) ≡ t
-or_false true = refl
-or_false false = refl
-
-of_three : (x a b c : ℕ) → one_of x (a ∷ b ∷ c ∷ []) ≡ (eqb x a || (eqb x b || eqb x c))
-of_three x a b c = ap (λ (t : Bool). eqb x a || (eqb x b || t)) (or_false (eqb x c))
-
-pub one_of_three : (d : Disparity) (x : ℕ)
-    → one_of x (alternate_at d) ≡ (eqb x (get_or (alternate_at d) 0 0) || (eqb x (get_or (alternate_at d) 1 0) || eqb x (get_or (alternate_at d) 2 0)))
-unfolding alternate_at
-one_of_three Negative x = of_three x _ _ _
-one_of_three Positive x = of_three x _ _ _
-
--- which are below 32
+-- the three x that take the alternate form are below 32
 pub alternate_below : (d : Disparity) {l : List ℕ} → l ≡ alternate_at d → (get_or l 0 0 < 32) × (get_or l 1 0 < 32) × (get_or l 2 0 < 32)
 unfolding alternate_at
 alternate_below Negative e = rw e (lit< tt, lit< tt, lit< tt)

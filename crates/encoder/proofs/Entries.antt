@@ -44,13 +44,6 @@ pub flip_at : (c : ℕ) → c < 268 → get_or flip_table c 0 ≡ cond (flips c)
 unfolding flip_table
 flip_at c h = get_d_table 268 (λ c. cond (flips c) 268 0) c 0 h
 
-pub flip_below : (c : ℕ) → c < 268 → get_or flip_table c 0 ≤ 268
-flip_below c h = rw (flip_at c h) (either (flips c))
-  where
-    either : (t : Bool) → cond t 268 0 ≤ 268
-    either true = omega arith
-    either false = omega arith
-
 -- an exclusive or with a character's turn gives the offset of the disparity after it
 pub after_at : (d : Disparity) (c : ℕ) → c < 268 → bit_xor (offset_of d) (get_or flip_table c 0) ≡ offset_of (after_of d c)
 after_at d c h = ap (bit_xor (offset_of d)) (flip_at c h) ∙ flipped d (flips c) ∙ ap offset_of (sym (flips_both d c h))

@@ -44,6 +44,7 @@ fn six_at(d: Disparity, x: u16) -> u16
 }
 
 // The six bits of a character, by the disparity before it.
+#[tactic(auto, using(crate::proofs::Blocks::x_below))]
 pub(crate) fn six_of(d: Disparity, c: u16) -> u16
     requires { c < 268 }
     ensures { result ≡ six_of d c }
@@ -62,14 +63,7 @@ pub(crate) fn six_of(d: Disparity, c: u16) -> u16
 fn takes_alternate(d: Disparity, x: u16) -> bool
     ensures { result ≡ one_of x (alternate_at d) }
 {
-    let xs = symbol::blocks::alternate_at(d);
-    if x == xs[0] {
-        return true;
-    }
-    if x == xs[1] {
-        return true;
-    }
-    x == xs[2]
+    symbol::blocks::alternate_at(d).contains(&x)
 }
 
 // The four bits of a byte x.y, by the disparity before them.
@@ -88,6 +82,7 @@ fn four_of_byte(d: Disparity, x: u16, y: u16) -> u16
 }
 
 // The four bits of a character, by the disparity before them.
+#[tactic(auto, using(crate::proofs::Blocks::y_below))]
 pub(crate) fn four_of(d: Disparity, c: u16) -> u16
     requires { c < 268 }
     ensures { result ≡ four_of d c }

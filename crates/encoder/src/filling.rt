@@ -17,10 +17,8 @@ fn fill_row(low: &[u16; 32], masks: &[u16; 32], same: u16, other: u16, out: &mut
     requires { at + 32 ≤ length out.old }
     ensures { out.new ≡ sets out.old at (row_of low.now masks.now same other) }
 {
-    let mut x = 0;
-    while x < 32 {
+    for x in 0..32 {
         out[at + x] = low[x] | picked(masks[x], same, other);
-        x += 1;
     }
 }
 
@@ -36,10 +34,8 @@ fn fill_bytes(
     requires { at + 256 ≤ length out.old }
     ensures { out.new ≡ sets out.old at (all_rows low.now masks.now same.now other.now) }
 {
-    let mut y = 0;
-    while y < 8 {
+    for y in 0..8 {
         fill_row(low, masks, same[y], other[y], out, at + 32 * y);
-        y += 1;
     }
 }
 
@@ -48,10 +44,8 @@ fn fill_k28s(k28: u16, special: &[u16; 8], out: &mut [u16], at: usize)
     requires { at + 8 ≤ length out.old }
     ensures { out.new ≡ sets out.old at (k28s_of k28 special.now) }
 {
-    let mut y = 0;
-    while y < 8 {
+    for y in 0..8 {
         out[at + y] = k28 | special[y];
-        y += 1;
     }
 }
 

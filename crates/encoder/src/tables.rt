@@ -99,6 +99,15 @@ pub fn flip_table() -> [u16; 268]
     flips
 }
 
+// Both tables as they are lent.
+#[derive(Clone, Copy)]
+pub struct Tables<'a> {
+    pub symbols: &'a [u16; 536],
+    pub flips: &'a [u16; 268],
+    pub ghost symbols_value: { symbols.now ≡ symbol_table },
+    pub ghost flips_value: { flips.now ≡ flip_table },
+}
+
 // Where the symbols of a disparity begin.
 pub fn offset_of(d: Disparity) -> usize
     ensures { result ≡ offset_of d }

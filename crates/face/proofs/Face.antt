@@ -16,7 +16,8 @@ use Rattle.symbol.specs.declared.disparity.Disparity.{Disparity}
 use Rattle.symbol.specs.declared.disparity.Disparity.TheVariants.{Negative, Positive}
 use Rattle.symbol.specs.Disparity.{is_positive}
 use Rattle.symbol.specs.Code.{symbol_of}
-use Rattle.decoder.specs.Decode.{After, decode_of}
+use Rattle.decoder.specs.declared.decode.Decoded.{Decoded}
+use Rattle.decoder.specs.Decode.{decode_of}
 use Rattle.word.specs.LineNumber.{numbered_of, named_of}
 use Rattle.word.specs.Repair.{repair_of}
 use Rattle.crcc.specs.Crcc.{crcc_of}
@@ -228,8 +229,8 @@ face = record {
     found = refl;
     next = refl;
   };
-  decode_negative = λ c h. ap (λ (r : Answer After). (decode_answer_of r).character) (demand_2.code Negative c h) ∙ character_answers_laws.character_told c h;
-  decode_positive = λ c h. ap (λ (r : Answer After). (decode_answer_of r).character) (demand_2.code Positive c h) ∙ character_answers_laws.character_told c h;
+  decode_negative = λ c h. ap (λ (r : Answer Decoded). (decode_answer_of r).character) (demand_2.code Negative c h) ∙ character_answers_laws.character_told c h;
+  decode_positive = λ c h. ap (λ (r : Answer Decoded). (decode_answer_of r).character) (demand_2.code Positive c h) ∙ character_answers_laws.character_told c h;
   decode_after = λ c h. rw (demand_2.code Negative c h) (says _);
   decode_after_positive = λ c h. rw (demand_2.code Positive c h) (says _);
   decode_told = λ symbol.

@@ -1,7 +1,7 @@
 -- What a caller from C has, in numerals, for all numbers: which number is which refusal, and each field of each answer. With the demands
 -- it says what the exported calls do; `proofs/Face` proves each.
 -- Assumes nothing.
-use Rattle.std.specs.Prelude.{ℕ, ◌+◌, ◌*◌, ◌≤◌, ◌<◌, ◌≡◌, Bool, true, false, List, [], ◌∷◌, length, get_or, take, drop}
+use Rattle.std.specs.Prelude.{ℕ, ◌+◌, ◌*◌, ◌≤◌, ◌<◌, ◌≡◌, Bool, true, false, List, [], ◌∷◌, sum, length, get_or, take, drop}
 use Rattle.std.proofs.Math.Option.{none, some}
 use Rattle.ground.specs.Answer.{given}
 use Rattle.ground.specs.Bit.{inverted}
@@ -19,7 +19,7 @@ use Rattle.word.specs.LineNumber.{ln0, ln1}
 use Rattle.word.specs.Repair.{repair_of}
 use Rattle.word.specs.Timing.{timing}
 use Rattle.word.specs.declared.repair.Repaired.{Repaired}
-use Rattle.crcc.specs.Crcc.{crc, crcc_words, crcc_of}
+use Rattle.crcc.specs.Crcc.{crcc_words, crcc_of}
 use Rattle.dividing.specs.Row.{divided, joined, split_of, join_of}
 use Rattle.picture.specs.Division.{line_from, sample_from}
 use Rattle.std.specs.Prelude.{None as NoneNamed, Some as Named}
@@ -68,8 +68,7 @@ pub record SentFrom (d : Disparity) (f : Format) (a : Request) (answer : SendAns
 -- the repairs of the twelve bits of a delivery are together all its repairs
 abbrev pub AddUp : Values → Type 0
 AddUp v =
-    let c = v.repairs_of_bit in
-    c.b0 + c.b1 + c.b2 + c.b3 + c.b4 + c.b5 + c.b6 + c.b7 + c.b8 + c.b9 + c.b10 + c.b11 ≡ v.repairs
+    sum v.repairs_of_bit ≡ v.repairs
 
 -- symbol i is the symbol of byte c, at one of the two disparities
 abbrev pub Stands : List ℕ → ℕ → ℕ → Type 0

@@ -1,36 +1,28 @@
 // The search for places at which a span may begin. A window that is accepted has K28.5 at its first two symbols and at no other (test 20),
 // so the last K28.5 of a window says how far the search may go on.
-ghost use Rattle.std.specs.Prelude.{◌≡◌, ◌+◌, ◌≤◌, length};
-ghost use Rattle.recording.specs.Inside.Look.{comma_in, gathered, comma_at, begins_at, LastInv};
+ghost use Rattle.std.specs.Prelude.{◌≡◌, true, ◌+◌, ◌≤◌, length};
+ghost use Rattle.recording.specs.Inside.Look.{is_comma, begins_at, Clear, LastInv};
 
 // Symbols that are examined together. The number is a constant, so that the compiler unrolls the loop over them.
 const PIECE: usize = 64;
 
-// 1 for K28.5 in either form, else 0.
-fn comma(s: u16) -> u16
-    ensures { result ≡ comma_in s }
+// Whether a symbol is K28.5, in either form.
+fn is_comma(s: u16) -> bool
+    ensures { result ≡ is_comma s }
 {
-    if s == 0x17C {
-        return 1;
-    }
-    if s == 0x283 {
-        return 1;
-    }
-    0
+    (s == 0x17C) | (s == 0x283)
 }
 
-// 0 only if none of `count` symbols is K28.5. None is tested by itself, so that the loop has one exit.
-fn commas(symbols: &[u16], from: usize, count: usize) -> u16
+// Whether none of `count` symbols is K28.5. None is tested by itself, so that the loop has one exit.
+fn none_is_comma(symbols: &[u16], from: usize, count: usize) -> bool
     requires { from + count ≤ length symbols.now }
-    ensures { result ≡ gathered count (comma_at symbols.now from) }
+    ensures { result ≡ true → Clear symbols.now from (from + count) }
 {
     let mut found = 0;
-    let mut k = 0;
-    while k < count {
-        found = found | comma(symbols[from + k]);
-        k += 1;
+    for k in from..from + count {
+        found |= u16::from(is_comma(symbols[k]));
     }
-    found
+    found == 0
 }
 
 // Whether K28.5 is at a place and at the next.
@@ -38,10 +30,7 @@ pub(crate) fn begins(symbols: &[u16], i: usize) -> bool
     requires { i + 2 ≤ length symbols.now }
     ensures { result ≡ begins_at symbols.now i }
 {
-    if comma(symbols[i]) == 1 {
-        return comma(symbols[i + 1]) == 1;
-    }
-    false
+    is_comma(symbols[i]) && is_comma(symbols[i + 1])
 }
 
 // The place after the last K28.5 of a range, searched for from the end; the beginning of the range if there is none.
@@ -50,14 +39,12 @@ fn after_last_in(symbols: &[u16], from: usize, to: usize) -> usize
     requires to_in_bounds { to ≤ length symbols.now }
     ensures { LastInv symbols.now from to result }
 {
-    let mut k = to;
-    while from < k {
-        if comma(symbols[k - 1]) == 1 {
-            return k;
+    for k in (from..to).rev() {
+        if is_comma(symbols[k]) {
+            return k + 1;
         }
-        k -= 1;
     }
-    k
+    from
 }
 
 // The same, piece by piece as long as there is none.
@@ -68,7 +55,7 @@ pub(crate) fn after_last(symbols: &[u16], from: usize, to: usize) -> usize
 {
     let mut k = to;
     while PIECE <= k - from {
-        if commas(symbols, k - PIECE, PIECE) != 0 {
+        if !none_is_comma(symbols, k - PIECE, PIECE) {
             return after_last_in(symbols, from, k);
         }
         k -= PIECE;

@@ -1,26 +1,13 @@
 // The next span of a recording: found and read at once.
-ghost use Rattle.std.specs.Prelude.{◌≡◌, true, ◌≤◌, length};
+ghost use Rattle.std.specs.Prelude.{◌≡◌, true, ◌≤◌, length, Err};
 ghost use Rattle.ground.specs.Answer.{given};
 ghost use Rattle.span.specs.Format.{is_known, shape_of, samples_in, symbols_in};
 ghost use Rattle.delivery.specs.Kept.{kept_from};
 ghost use Rattle.recording.specs.Call.{paper_next, spanned, next_of, end_or, after_next, words_or, rows_next};
 ghost use Rattle.recording.specs.Recording.{next_from};
 
-use crate::seek::Sought;
-use recording::answer::{Next, NextSpan};
+use recording::answer::{Next, NextError};
 use span::format::Format;
-
-// Copies one row into another of the same length.
-fn copy(from: &[u16], to: &mut [u16])
-    requires { length from.now ≡ length to.old }
-    ensures { to.new ≡ from.now }
-{
-    let mut i = 0;
-    while i < to.len() {
-        to[i] = from[i];
-        i += 1;
-    }
-}
 
 // What to keep of a recording in which no span was found from a start on: nothing before this place can begin one, whatever arrives later.
 fn kept(n: usize, long: usize, start: usize) -> usize
@@ -48,31 +35,29 @@ fn next_from(f: Format, symbols: &[u16], start: usize, own: &mut [u16], rows: &m
     ensures after { result.after ≡ end_or (symbols_in (shape_of f)) (length symbols.now) start (given (spanned (next_from f symbols.now start))) }
     ensures rows { rows.new ≡ words_or rows.old (next_from f symbols.now start) }
 {
+    let n = span::length::span_lengths(f).symbols;
     match crate::seek::seek(f, symbols, start, own) {
-        Sought::Span(s) => {
-            copy(own, rows);
-            let end = s.place + span::length::span_lengths(f).symbols;
-            return Next {
-                answer: NextSpan::Delivered(s),
-                after: end,
-            };
-        },
-        Sought::None => {
-            let n = span::length::span_lengths(f).symbols;
-            return Next {
-                answer: NextSpan::Nowhere,
-                after: kept(n, symbols.len(), start),
-            };
+        Some(s) => {
+            rows.copy_from_slice(own);
+            let after = s.place + n;
+            Next {
+                answer: Ok(Some(s)),
+                after,
+            }
+        }
+        None => Next {
+            answer: Ok(None),
+            after: kept(n, symbols.len(), start),
         },
     }
 }
 
 // A refused call: the place after it is its start.
-fn refused_at(answer: NextSpan, start: usize) -> Next
-    ensures { result ≡ record { answer = answer; after = start } }
+fn refused_at(error: NextError, start: usize) -> Next
+    ensures { result ≡ record { answer = Err error; after = start } }
 {
     Next {
-        answer,
+        answer: Err(error),
         after: start,
     }
 }
@@ -83,19 +68,19 @@ pub fn next_span(f: Format, symbols: &[u16], start: usize, rows: &mut [u16]) -> 
     ensures after { result.after ≡ after_next f symbols.now start (length rows.old) }
     ensures rows { rows.new ≡ rows_next f symbols.now start rows.old }
 {
-    if span::format::is_known(f) {
-        if recording::limit::limit() < symbols.len() {
-            return refused_at(NextSpan::WrongInput, start);
-        }
-        if rows.len() != span::length::span_lengths(f).samples {
-            return refused_at(NextSpan::WrongOutput, start);
-        }
-        if symbols.len() < start {
-            return refused_at(NextSpan::WrongStart, start);
-        }
-        let mut own = [0u16; 7680];
-        let m = rows.len();
-        return next_from(f, symbols, start, &mut own[..m], rows);
+    if !span::format::is_known(f) {
+        return refused_at(NextError::UnknownFormat, start);
     }
-    refused_at(NextSpan::UnknownFormat, start)
+    if recording::limit::limit() < symbols.len() {
+        return refused_at(NextError::WrongInput, start);
+    }
+    if rows.len() != span::length::span_lengths(f).samples {
+        return refused_at(NextError::WrongOutput, start);
+    }
+    if symbols.len() < start {
+        return refused_at(NextError::WrongStart, start);
+    }
+    let mut own = [0u16; 7680];
+    let m = rows.len();
+    next_from(f, symbols, start, &mut own[..m], rows)
 }

@@ -7,7 +7,6 @@ use Rattle.line.specs.declared.stream.StreamLine.{StreamLine}
 use Rattle.symbol.specs.declared.disparity.Disparity.{Disparity}
 use Rattle.span.specs.declared.format.Format.{Format}
 use Rattle.generate.specs.declared.left.Left.{Left}
-use Rattle.generate.specs.declared.parameters.Parameters.{Parameters}
 use Rattle.generate.specs.Pieces.{after_spans, after_left}
 use Rattle.generate.specs.Inside.Pieces.{next_left}
 
@@ -21,12 +20,6 @@ module _ {f g : Format} {line : StreamLine} {n count k : ℕ} (p : f ≡ g) (q :
       (record { format = f; line = line; disparity = d; count = count })
       (record { format = g; line = record { 0 = n }; disparity = e; count = k })
   left_is r = cc (line_is q)
-
-  pub parameters_are :
-      ◌≡◌ {A = Parameters}
-      (record { format = f; first = line; count = count })
-      (record { format = g; first = record { 0 = n }; count = k })
-  parameters_are = cc (line_is q)
 
 -- the disparity after all that is left: the same after the next span, and that of what is left where no span is
 pub after_next_lem : (s : Left) → 0 < s.count → after_left (next_left s) ≡ after_left s

@@ -2,11 +2,9 @@
 -- Assumes nothing.
 use mathlib.Core.Path.{◌≡◌, refl, sym, ap, subst, ◌∙◌}
 use mathlib.Core.List.{List, [], ◌∷◌}
-use mathlib.Core.Logic.{⊎_elim}
 use Prim.Native.Nat.{ℕ, ◌≤◌}
 use native.Mathlib.Nat.{zero-add}
 use native.Mathlib.Omega.{arith}
-use types.Run.{OneOf}
 use lib.ListN.{length, take}
 use lib.Seq.{sets, length-sets, length-take-le}
 use Rattle.io.specs.Counts.{IsPrefixLen}
@@ -17,18 +15,11 @@ use Rattle.text.specs.Put.{end_of, put_of}
 use Rattle.text.proofs.Putting.{put_told}
 use Rattle.generate.specs.declared.left.Left.{Left}
 use Rattle.generate.specs.declared.parameters.Parameters.{Parameters}
-use Rattle.generate.specs.declared.parameters.Wanted.{Wanted}
-use Rattle.generate.specs.declared.parameters.Wanted.TheVariants.{Recording, UnknownFormat, NoLine, WrongInput}
 use Rattle.generate.specs.declared.start.Start.{Start}
 use Rattle.generate.specs.Generated.{refused_with, refusal_by, refusal}
 use Rattle.generate.specs.Parameters.{wanted_of}
-use Rattle.generate.specs.Inside.Parameters.{paper_wanted}
-use Rattle.generate.specs.Pieces.{start_text, file_start, all_of, nothing, left_by, left_of, Ready}
+use Rattle.generate.specs.Pieces.{start_text, file_start, all_of, left_by, left_of, Ready}
 use Rattle.generate.proofs.Ready.{whole_told, left_ready}
-
--- the keys of a `match` that are left after that of a recording
-pub no_key : OneOf (1 ∷ 2 ∷ 3 ∷ []) 0 → ⊥
-no_key = ⊎_elim (λ z. omega arith) (⊎_elim (λ z. omega arith) (λ z. omega arith))
 
 -- what is promised of the start and of the buffer
 abbrev pub Started : List ℕ → List ℕ → List ℕ → Start → Type 0
@@ -52,20 +43,6 @@ module _ (input before : List ℕ) where
         ),
       )
 
-  refused_start : {number : ℕ} {left : Left} → wanted_of input ≡ refused number 0 → left ≡ nothing
-      → Started input before before (record { end = 0; left = left })
-  refused_start bad rest =
-      started {text = []} (ap (start_text input) bad) (omega arith) refl (rest ∙ sym (ap left_by bad)) refl
-
-  -- nothing, where nothing is wanted that is not refused
-  pub no_start :
-      (r : Wanted) → ((p : Parameters) → r ≡ Recording p → ⊥) → paper_wanted r ≡ wanted_of input → {left : Left} → left ≡ nothing
-      → Started input before before (record { end = 0; left = left })
-  no_start (Recording p) x e rest = absurd (x p refl)
-  no_start UnknownFormat x e rest = refused_start (sym e) rest
-  no_start NoLine x e rest = refused_start (sym e) rest
-  no_start WrongInput x e rest = refused_start (sym e) rest
-
   -- the header
   pub header :
       {p : Parameters} {end : ℕ} {left : Left} {after : List ℕ}
@@ -83,11 +60,6 @@ abbrev pub Refused : List ℕ → List ℕ → List ℕ → ℕ → Type 0
 Refused input before after end = IsPrefixLen end after × ((end ≡ length (refusal input)) × (after ≡ sets before 0 (refusal input)))
 
 module _ (input before : List ℕ) where
-  pub no_refusal : {p : Parameters} → wanted_of input ≡ given p → Refused input before before 0
-  no_refusal good =
-      let none : refusal input ≡ [] = ap refusal_by good in
-      ((omega arith, refl), (sym (ap length none), sym (ap (sets before 0) none)))
-
   pub refuses :
       {number end : ℕ} {after : List ℕ} (text : List ℕ)
       → wanted_of input ≡ refused number 0 → text ≡ refused_with number → length text ≤ length before

@@ -3,43 +3,28 @@
 use mathlib.Core.Path.{◌≡◌, refl, sym, ap, ◌∙◌}
 use mathlib.Core.Bool.{Bool, true, false}
 use mathlib.Core.List.{List}
-use mathlib.Core.Logic.{⊎_elim}
 use Prim.Native.Nat.{ℕ, ◌*◌, ◌≤◌, ◌<◌}
 use native.Mathlib.Omega.{arith}
-use lib.ListN.{length, get_or, get_or-eq_default}
-use borrow.Author.Tests.{lt-ltb, le-ltb, le-leb, lt-leb}
+use lib.ListN.{length}
+use borrow.Author.Tests.{lt-ltb, le-leb, lt-leb}
 use Rattle.ground.specs.Answer.{refused, given}
 use Rattle.ground.proofs.Ranges.{is_below}
 use Rattle.line.specs.Stream.{is_line}
 use Rattle.span.specs.declared.format.Format.{Format}
 use Rattle.span.specs.Format.{is_known, shape_of, symbols_in}
-use Rattle.span.proofs.Formats.{unknown}
 use Rattle.recording.specs.Recording.{limit}
-use Rattle.text.specs.Words.{word_in_bytes}
 use Rattle.generate.specs.Parameters.{wanted_format, first_line_in, count_in, parameters_in, wanted_of}
 
 module _ (input : List ℕ) where
   abbrev pub many : ℕ
   many = count_in input * symbols_in (shape_of (wanted_format input))
 
-  -- a byte that is missing is no depth
-  pub no_format : length input < 2 → is_known (wanted_format input) ≡ false
-  no_format h =
-      let missing : get_or input 1 0 ≡ 0 = get_or-eq_default input 0 (omega arith) in
-      unknown (wanted_format input) (λ k. ⊎_elim (λ e. omega (arith, missing)) (λ e. omega (arith, missing)) k.bits)
-
   pub no_line : length input < 4 → is_line (first_line_in input) ≡ false
   no_line h = simp (lt-ltb (length input) 4 h) (is_below 1 1125 0 (omega arith))
-
-  pub line_is : 4 ≤ length input → first_line_in input ≡ word_in_bytes input 1
-  line_is h = simp (le-ltb (length input) 4 h)
 
   -- what the tests told
   pub known_is : {f : Format} {test is : Bool} → f ≡ wanted_format input → test ≡ is_known f → test ≡ is → is_known (wanted_format input) ≡ is
   known_is e p q = sym (ap is_known e) ∙ sym p ∙ q
-
-  pub line_is_line : {n : ℕ} {test is : Bool} → n ≡ first_line_in input → test ≡ is_line n → test ≡ is → is_line (first_line_in input) ≡ is
-  line_is_line e p q = sym (ap is_line e) ∙ sym p ∙ q
 
   pub meets_1 : is_known (wanted_format input) ≡ false → wanted_of input ≡ refused 1 0
   meets_1 t = simp t

@@ -1,10 +1,9 @@
 -- What the test generator writes: to standard output a recording as the program that lists spans reads it (document 01, "Values to hold
 -- against it"), or to standard error a refusal.
 -- Assumes nothing.
-use Rattle.std.specs.Prelude.{ℕ, zero, suc, ◌/◌, ◌%◌, List, [], ◌∷◌, ◌++◌, take}
+use Rattle.std.specs.Prelude.{ℕ, zero, suc, ◌/◌, ◌%◌, List, [], ◌∷◌, ◌++◌, take, None}
 use Rattle.ground.specs.Answer.{Answer, refused, given}
 use Rattle.line.specs.Stream.{line_after}
-use Rattle.std.specs.Prelude.{None as NoneNamed}
 use Rattle.span.specs.declared.format.Format.{Format}
 use Rattle.span.specs.Span.{signal}
 use Rattle.span.specs.Stream.{Request}
@@ -17,7 +16,7 @@ use Rattle.generate.specs.Parameters.{wanted_of}
 
 -- the span of a stream line: the test picture, no content bytes named
 abbrev pub span_on : Format → ℕ → Request
-span_on f n = request n NoneNamed (test_samples f n)
+span_on f n = request n None (test_samples f n)
 
 -- those of consecutive lines, from line n on
 unfoldable pub spans_from : Format → ℕ → ℕ → List Request

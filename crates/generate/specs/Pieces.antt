@@ -1,6 +1,6 @@
 -- What is written, piece by piece: the start, and then what is left, span by span. That the pieces make up the whole is the law `pieces`.
 -- Assumes nothing.
-use Rattle.std.specs.Prelude.{ℕ, zero, suc, ◌<◌, ◌≡◌, true, List, [], take}
+use Rattle.std.specs.Prelude.{ℕ, zero, suc, ◌<◌, ◌≡◌, true, List, [], take, Result, Ok, Err}
 use Rattle.ground.specs.Answer.{Answer, refused, given}
 use Rattle.line.specs.Stream.{is_line, line_after}
 use Rattle.symbol.specs.declared.disparity.Disparity.{Disparity}
@@ -10,8 +10,6 @@ use Rattle.span.specs.Format.{plain_format, is_known}
 use Rattle.span.specs.Span.{span_after}
 use Rattle.generate.specs.declared.left.Left.{Left}
 use Rattle.generate.specs.declared.parameters.Parameters.{Parameters}
-use Rattle.generate.specs.declared.write.Written.{Written}
-use Rattle.generate.specs.declared.write.Written.TheVariants.{All, Stopped}
 use Rattle.generate.specs.Generated.{span_on}
 use Rattle.generate.specs.Parameters.{wanted_of}
 
@@ -51,6 +49,6 @@ abbrev pub after_left : Left → Disparity
 after_left s = after_spans s.disparity s.format s.line.0 s.count
 
 -- what the answer says if all of it was written
-abbrev pub WrittenTold : Left → Written → Type 0
-WrittenTold s (All after) = after ≡ after_left s
-WrittenTold s (Stopped why) = Unit
+abbrev pub WrittenTold : {E : Type 0} → Left → Result Disparity E → Type 0
+WrittenTold s (Ok after) = after ≡ after_left s
+WrittenTold s (Err why) = Unit

@@ -1,13 +1,10 @@
 // What is left of a recording, and the next span of it.
 ghost use Rattle.std.specs.Prelude.{◌≡◌, ◌*◌, ◌<◌, length};
 ghost use Rattle.span.specs.Format.{shape_of, samples_in, symbols_in};
-ghost use Rattle.request.specs.Send.{paper_sent};
 ghost use Rattle.generate.specs.Pieces.{Ready};
-ghost use Rattle.generate.specs.Inside.Pieces.{span_bytes, next_left, after_or};
+ghost use Rattle.generate.specs.Inside.Pieces.{span_bytes, next_left};
 
 use line::stream::StreamLine;
-use request::sent::Sent;
-use span::content::Content;
 use span::format::Format;
 use symbol::disparity::Disparity;
 
@@ -18,20 +15,6 @@ pub(crate) struct Left {
     pub(crate) line: StreamLine,
     pub(crate) disparity: Disparity,
     pub(crate) count: usize,
-}
-
-// The disparity after a span that was sent.
-fn after_of(sent: Sent, d: Disparity) -> Disparity
-    ensures { result ≡ after_or d (paper_sent sent) }
-{
-    match sent {
-        Sent::After(e) => e,
-        Sent::UnknownFormat => d,
-        Sent::NoLine => d,
-        Sent::WrongInput => d,
-        Sent::WrongOutput => d,
-        Sent::NotAllowed(_) => d,
-    }
 }
 
 // The next span: its bytes fill the lent buffer, and what is left after it is returned. The buffers of samples and symbols are scratch.
@@ -47,10 +30,10 @@ pub(crate) fn put_next(s: Left, samples: &mut [u16], symbols: &mut [u16], out: &
     let format = s.format;
     let line = s.line;
     let d = s.disparity;
-    test_picture::samples::put_samples(format, line, samples);
-    let sent = send::send::send(format, line, d, Content::NoneNamed, samples, symbols);
+    // A span that is left may be sent: neither call refuses it.
+    let _ = test_picture::samples::put_samples(format, line, samples);
+    let disparity = send::send::send(format, line, d, None, samples, symbols).unwrap_or(d);
     crate::bytes::put_bytes(symbols, out);
-    let disparity = after_of(sent, d);
     let after = line::stream::line_after(line);
     Left {
         format,

@@ -10,7 +10,6 @@ mod start;
 mod write;
 
 use std::io;
-use write::Written;
 
 fn write_refusal(to: &impl Print, input: &[u8]) -> io::Result<()> {
     let mut out = [0u8; 10];
@@ -28,8 +27,8 @@ fn write_recording(rt: &(impl Print + Eprint), input: &[u8]) -> io::Result<()> {
         return eprintln!(rt; "the recording: {e}");
     }
     match write::write_left(rt, left) {
-        Written::All(_) => Ok(()),
-        Written::Stopped(e) => eprintln!(rt; "the recording: {e}"),
+        Ok(_) => Ok(()),
+        Err(e) => eprintln!(rt; "the recording: {e}"),
     }
 }
 

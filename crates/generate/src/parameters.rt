@@ -16,9 +16,9 @@ pub(crate) struct Parameters {
     pub(crate) count: usize,
 }
 
-#[derive(Drop)]
-pub(crate) enum Wanted {
-    Recording(Parameters),
+// Why a recording is refused.
+#[derive(Clone, Copy, Debug, PartialEq, Eq)]
+pub(crate) enum WantError {
     // 1
     UnknownFormat,
     // 2
@@ -28,7 +28,7 @@ pub(crate) enum Wanted {
 }
 
 // Format and line are valid: the number of spans is still to be checked.
-fn counted(format: Format, first: StreamLine, input: &[u8]) -> Wanted
+fn counted(format: Format, first: StreamLine, input: &[u8]) -> Result<Parameters, WantError>
     requires format_value { format ≡ wanted_format input.now }
     requires first_value { first.0 ≡ first_line_in input.now }
     requires input_value { is_known (wanted_format input.now) ≡ true }
@@ -36,14 +36,14 @@ fn counted(format: Format, first: StreamLine, input: &[u8]) -> Wanted
     ensures { paper_wanted result ≡ wanted_of input.now }
 {
     if input.len() < 6 {
-        return Wanted::WrongInput;
+        return Err(WantError::WrongInput);
     }
     let count = text::words::word_of(input[4], input[5]) as usize;
     let symbols = span::length::span_lengths(format).symbols;
     if recording::limit::limit() < count * symbols {
-        return Wanted::WrongInput;
+        return Err(WantError::WrongInput);
     }
-    Wanted::Recording(Parameters {
+    Ok(Parameters {
         format,
         first,
         count,
@@ -51,22 +51,22 @@ fn counted(format: Format, first: StreamLine, input: &[u8]) -> Wanted
 }
 
 // A missing byte is not a format or a depth, and a line with a byte missing is not a line.
-pub(crate) fn wanted_in(input: &[u8]) -> Wanted
+pub(crate) fn wanted_in(input: &[u8]) -> Result<Parameters, WantError>
     ensures { paper_wanted result ≡ wanted_of input.now }
 {
     if input.len() < 2 {
-        return Wanted::UnknownFormat;
+        return Err(WantError::UnknownFormat);
     }
     let format = span::format::plain_format(input[0], input[1]);
     if !span::format::is_known(format) {
-        return Wanted::UnknownFormat;
+        return Err(WantError::UnknownFormat);
     }
     if input.len() < 4 {
-        return Wanted::NoLine;
+        return Err(WantError::NoLine);
     }
     let first = line::stream::stream_line(text::words::word_of(input[2], input[3]));
     if !line::stream::is_line(first) {
-        return Wanted::NoLine;
+        return Err(WantError::NoLine);
     }
     counted(format, first, input)
 }

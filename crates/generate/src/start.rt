@@ -6,7 +6,8 @@ ghost use Rattle.generate.specs.Generated.{refusal};
 ghost use Rattle.generate.specs.Pieces.{file_start, all_of, nothing as none, left_of, Ready};
 
 use crate::left::Left;
-use crate::parameters::{Parameters, Wanted};
+use crate::parameters::{Parameters, WantError, wanted_in};
+use text::put::put_text;
 
 // How many bytes it has, and what is left.
 #[derive(Drop)]
@@ -19,13 +20,10 @@ pub(crate) struct Start {
 fn all_of(p: Parameters) -> Left
     ensures { result ≡ all_of p }
 {
-    let format = p.format;
-    let line = p.first;
-    let disparity = symbol::disparity::before_fresh_signal();
     Left {
-        format,
-        line,
-        disparity,
+        format: p.format,
+        line: p.first,
+        disparity: symbol::disparity::before_fresh_signal(),
         count: p.count,
     }
 }
@@ -33,13 +31,10 @@ fn all_of(p: Parameters) -> Left
 fn nothing() -> Left
     ensures { result ≡ none }
 {
-    let format = span::format::plain_format(0, 0);
-    let line = line::stream::stream_line(0);
-    let disparity = symbol::disparity::before_fresh_signal();
     Left {
-        format,
-        line,
-        disparity,
+        format: span::format::plain_format(0, 0),
+        line: line::stream::stream_line(0),
+        disparity: symbol::disparity::before_fresh_signal(),
         count: 0,
     }
 }
@@ -53,11 +48,13 @@ pub(crate) fn put_start(input: &[u8], out: &mut [u8]) -> Start
     ensures left { result.left ≡ left_of input.now }
     ensures written { out.new ≡ sets out.old 0 (file_start input.now) }
 {
-    let Wanted::Recording(p) = crate::parameters::wanted_in(input) else {
-        let left = nothing();
-        return Start { end: 0, left };
+    let Ok(p) = wanted_in(input) else {
+        return Start {
+            end: 0,
+            left: nothing(),
+        };
     };
-    let end = text::put::put_text(&input[..2], out, 0);
+    let end = put_text(&input[..2], out, 0);
     let left = all_of(p);
     Start { end, left }
 }
@@ -69,18 +66,10 @@ pub(crate) fn put_refusal(input: &[u8], out: &mut [u8]) -> usize
     ensures end { result ≡ length (refusal input.now) }
     ensures written { out.new ≡ sets out.old 0 (refusal input.now) }
 {
-    match crate::parameters::wanted_in(input) {
-        Wanted::Recording(_) => {
-            return 0;
-        },
-        Wanted::UnknownFormat => {
-            return text::put::put_text(b"refused 1\n", out, 0);
-        },
-        Wanted::NoLine => {
-            return text::put::put_text(b"refused 2\n", out, 0);
-        },
-        Wanted::WrongInput => {
-            return text::put::put_text(b"refused 3\n", out, 0);
-        },
+    match wanted_in(input) {
+        Ok(_) => 0,
+        Err(WantError::UnknownFormat) => put_text(b"refused 1\n", out, 0),
+        Err(WantError::NoLine) => put_text(b"refused 2\n", out, 0),
+        Err(WantError::WrongInput) => put_text(b"refused 3\n", out, 0),
     }
 }

@@ -8,22 +8,14 @@ use crate::left::Left;
 use std::io;
 use symbol::disparity::Disparity;
 
-#[derive(Drop)]
-pub(crate) enum Written {
-    // All spans, with the disparity after the last.
-    All(Disparity),
-    // A write failed.
-    Stopped(io::Error),
-}
-
-// A piece for each span; it stops when a write fails.
+// A piece for each span; it stops when a write fails. Answers the disparity after the last.
 fn write_pieces(
     to: &impl Print,
     left: Left,
     samples: &mut [u16],
     symbols: &mut [u16],
     out: &mut [u8],
-) -> Written
+) -> io::Result<Disparity>
     requires ready { Ready left }
     requires samples_len { length samples.old ≡ samples_in (shape_of left.format) }
     requires symbols_len { length symbols.old ≡ symbols_in (shape_of left.format) }
@@ -33,15 +25,12 @@ fn write_pieces(
     let mut s = left;
     while 0 < s.count {
         s = crate::left::put_next(s, samples, symbols, out);
-        if let Err(e) = to.write_all(out) {
-            return Written::Stopped(e);
-        }
+        to.write_all(out)?;
     }
-    let d = s.disparity;
-    Written::All(d)
+    Ok(s.disparity)
 }
 
-pub(crate) fn write_left(to: &impl Print, left: Left) -> Written
+pub(crate) fn write_left(to: &impl Print, left: Left) -> io::Result<Disparity>
     requires { Ready left }
     ensures { WrittenTold left result }
 {

@@ -1,6 +1,4 @@
 // What every layer uses; nothing about links. Most of this crate is definitions (specs/) and laws (proofs/).
 #![tactic(auto)]
 
-pub mod fill;
-pub mod least;
 pub mod range;

@@ -6,6 +6,7 @@ use Prim.Native.Nat.{ℕ, zero, suc, ◌+◌, ◌*◌, ◌≤◌, ◌<◌}
 use native.Mathlib.Omega.{arith}
 use lib.ListN.{length, length-append}
 use lib.Seq.{sets}
+use Rattle.std.specs.Prelude.{Option, Some, None}
 use Rattle.ground.specs.Answer.{Answer, refused, given}
 use Rattle.ground.specs.Written.{upto}
 use Rattle.ground.proofs.Putting.{Put, then, put_as}
@@ -13,8 +14,6 @@ use Rattle.ground.proofs.Writing.{upto_more}
 use Rattle.text.specs.Number.{decimal, hexadecimal}
 use Rattle.text.specs.Words.{word_in_bytes}
 use Rattle.text.proofs.Numbers.{length_digits, places_below, places_most_16}
-use Rattle.word.specs.declared.repair.WrongBit.{WrongBit}
-use Rattle.word.specs.declared.repair.WrongBit.TheVariants.{Nothing, Bit}
 use Rattle.word.specs.declared.repair.Repaired.{Repaired}
 use Rattle.word.specs.Repair.{repair_of}
 use Rattle.word.proofs.WrongWords.{near_answered, bit_answered}
@@ -27,9 +26,9 @@ one_digit : (n : ℕ) → n ≤ 1 → length (decimal n) ≤ 1
 one_digit n h = rw length_digits (places_below n 1 (omega arith) (omega arith))
 
 -- a bit below 12 has two digits at most
-bit_most : (b : WrongBit) → ((k : ℕ) → b ≡ Bit k → k < 12) → length (bit_text b) ≤ 2
-bit_most Nothing h = omega arith
-bit_most (Bit k) h = rw length_digits (places_below k 2 (omega arith) (omega (arith, h k refl)))
+bit_most : (b : Option ℕ) → ((k : ℕ) → b ≡ Some k → k < 12) → length (bit_text b) ≤ 2
+bit_most None h = omega arith
+bit_most (Some k) h = rw length_digits (places_below k 2 (omega arith) (omega (arith, h k refl)))
 
 -- what is printed of a word that was repaired: one digit for the distance, and at most two for the bit
 pub record Short (r : Repaired) : Type 0 where

@@ -10,7 +10,6 @@ use Rattle.ground.proofs.Putting.{Put}
 use Rattle.text.specs.Number.{decimal, hexadecimal}
 use Rattle.text.specs.Put.{end_of, put_of}
 use Rattle.text.proofs.Putting.{put_told, then_told}
-use Rattle.word.specs.declared.repair.WrongBit.{WrongBit}
 use Rattle.word.specs.declared.repair.Repaired.{Repaired}
 use Rattle.list_repairs.specs.Text.{bit_text, outcome}
 use Rattle.list_repairs.proofs.Lines.{Short, index_most, line_start}
@@ -18,10 +17,6 @@ use Rattle.list_repairs.proofs.Lines.{Short, index_most, line_start}
 -- what a call that puts a text promises
 abbrev Told : List ℕ → List ℕ → ℕ → ℕ → List ℕ → Type 0
 Told o p at end x = (end ≡ end_of (length o) at x) × (p ≡ put_of o at x)
-
--- the text of a bit, by which case it is
-pub bit_put : (o : List ℕ) (at : ℕ) {p : List ℕ} {end : ℕ} {b c : WrongBit} → b ≡ c → Told o p at end (bit_text c) → Told o p at end (bit_text b)
-bit_put o at e t = rw e t
 
 module _ {o p q r s : List ℕ} {at a b c d : ℕ} where
   -- the index and the word

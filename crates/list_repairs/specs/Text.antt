@@ -1,13 +1,11 @@
 -- What the program that lists repairs prints (document 01, "Values to hold against it"), as ASCII codes.
 -- Assumes nothing.
-use Rattle.std.specs.Prelude.{ℕ, List, [], ◌∷◌, ◌++◌, length}
+use Rattle.std.specs.Prelude.{ℕ, List, [], ◌∷◌, ◌++◌, length, Option, Some, None}
 use Rattle.ground.specs.Answer.{Answer, refused, given}
 use Rattle.ground.specs.Written.{upto}
 use Rattle.text.specs.Number.{decimal, hexadecimal}
 use Rattle.text.specs.Put.{space, newline}
 use Rattle.text.specs.Words.{word_in_bytes, count_of}
-use Rattle.word.specs.declared.repair.WrongBit.{WrongBit}
-use Rattle.word.specs.declared.repair.WrongBit.TheVariants.{Nothing, Bit}
 use Rattle.word.specs.declared.repair.Repaired.{Repaired}
 use Rattle.word.specs.Repair.{repair_of}
 
@@ -16,9 +14,9 @@ abbrev pub refused_line : List ℕ
 refused_line = 114 ∷ 101 ∷ 102 ∷ 117 ∷ 115 ∷ 101 ∷ 100 ∷ newline ∷ []
 
 -- the wrong bit, or "-"
-abbrev pub bit_text : WrongBit → List ℕ
-bit_text Nothing = 45 ∷ []
-bit_text (Bit k) = decimal k
+abbrev pub bit_text : Option ℕ → List ℕ
+bit_text None = 45 ∷ []
+bit_text (Some k) = decimal k
 
 -- the repaired word, the distance and the wrong bit, or "refused"
 abbrev pub outcome : Answer Repaired → List ℕ

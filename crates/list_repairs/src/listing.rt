@@ -6,16 +6,14 @@ ghost use Rattle.text.specs.Put.{end_of, put_of};
 ghost use Rattle.word.specs.Repair.{repair_of};
 ghost use Rattle.list_repairs.specs.Text.{bit_text, outcome, repair_line, repair_listing};
 
-use word::repair::{Repair, WrongBit};
-
 // The wrong bit, or "-" where none is; nothing where there is no room.
-fn put_bit(b: WrongBit, out: &mut [u8], at: usize) -> usize
-    ensures end { result ≡ end_of (length out.old) at (bit_text b) }
-    ensures written { out.new ≡ put_of out.old at (bit_text b) }
+fn put_bit(bit: Option<u8>, out: &mut [u8], at: usize) -> usize
+    ensures end { result ≡ end_of (length out.old) at (bit_text bit) }
+    ensures written { out.new ≡ put_of out.old at (bit_text bit) }
 {
-    match b {
-        WrongBit::Nothing => text::put::put_text(b"-", out, at),
-        WrongBit::Bit(k) => text::number::put_decimal(k as u64, out, at),
+    match bit {
+        None => text::put::put_text(b"-", out, at),
+        Some(k) => text::number::put_decimal(k as u64, out, at),
     }
 }
 
@@ -26,17 +24,15 @@ fn put_outcome(w: u16, out: &mut [u8], at: usize) -> usize
     ensures written { out.new ≡ sets out.old at (outcome (repair_of w)) }
 {
     match word::repair::repair_timing_word(w) {
-        Repair::Word(r) => {
-            let bit = r.bit;
+        Ok(r) => {
             let a = text::number::put_hexadecimal(r.word, out, at);
             let b = text::put::put_text(b" ", out, a);
             let c = text::number::put_decimal(r.distance as u64, out, b);
             let d = text::put::put_text(b" ", out, c);
-            let e = put_bit(bit, out, d);
+            let e = put_bit(r.bit, out, d);
             text::put::put_text(b"\n", out, e)
         }
-        Repair::Above4095 => text::put::put_text(b"refused\n", out, at),
-        Repair::BeyondRepair => text::put::put_text(b"refused\n", out, at),
+        Err(_) => text::put::put_text(b"refused\n", out, at),
     }
 }
 
@@ -67,13 +63,11 @@ pub(crate) fn put_listing(input: &[u8], out: &mut [u8]) -> usize
     ensures end { result ≡ length (repair_listing input.now) }
     ensures written { out.new ≡ sets out.old 0 (repair_listing input.now) }
 {
-    let count = ground::least::least(32768, input.len() / 2);
+    let count = (input.len() / 2).min(32768);
     let mut at = 0;
-    let mut i = 0;
-    while i < count {
+    for i in 0..count {
         let w = text::words::word_of(input[2 * i], input[2 * i + 1]);
         at = put_line(i as u16, w, out, at);
-        i += 1;
     }
     at
 }

@@ -1,9 +1,8 @@
 -- A text that is put piece by piece: what is left of it, put into what is there, gives the whole.
 -- Assumes nothing.
-use mathlib.Core.Path.{◌≡◌, refl, sym, ap, ◌∙◌}
+use mathlib.Core.Path.{◌≡◌, sym, ap, ◌∙◌}
 use mathlib.Core.List.{List, [], ◌++◌}
 use Prim.Native.Nat.{ℕ, ◌+◌}
-use native.Mathlib.Nat.{zero-add}
 use native.Mathlib.Omega.{arith}
 use lib.ListN.{length, length-append}
 use lib.Seq.{sets}
@@ -12,9 +11,6 @@ use Rattle.ground.proofs.Writing.{sets_append}
 pub record Left (before out : List ℕ) (at : ℕ) (left all : List ℕ) : Type 0 where
   pub written : sets out at left ≡ sets before 0 all
   pub ends : at + length left ≡ length all
-
-pub all_left : (out all : List ℕ) → Left out out 0 all all
-all_left out all = record { written = refl; ends = zero-add (length all) }
 
 module _ {before out : List ℕ} {at : ℕ} {left all : List ℕ} (l : Left before out at left all) where
   -- the next piece

@@ -5,9 +5,13 @@ use mathlib.Core.Bool.{true}
 use mathlib.Core.List.{List, ◌++◌}
 use Prim.Native.Nat.{ℕ, ◌≤◌}
 use native.Mathlib.Omega.{arith}
+use Rattle.std.specs.Prelude.{Option, Some, None, Result, Ok, Err}
+use Rattle.std.specs.Result.{result_unwrap_or}
+use Rattle.std.proofs.lemmas.Option.{none-some}
 use Rattle.span.specs.declared.format.Format.{Format}
 use Rattle.span.specs.Format.{is_known, shape_of, symbols_in}
 use Rattle.span.proofs.Lengths.{known_has_streams}
+use Rattle.recording.specs.declared.answer.NextError.{NextError}
 use Rattle.recording.specs.declared.answer.Spanned.{Spanned}
 use Rattle.recording.specs.Recording.{limit, delivery_from}
 use Rattle.recording.proofs.OneStep.{Stepped}
@@ -25,3 +29,11 @@ pub first_line : {f : Format} {r : List ℕ} {start : ℕ} {rows : List ℕ} {s 
     → lines_of (delivery_from f r start) ≡ line_of_span s ++ lines_of (delivery_from f r after)
 first_line {f} {r} {start} {rows} {s} {after} step =
     ap lines_of step.delivers ∙ ap (λ (t : Spanned). line_of_span t ++ lines_of (delivery_from f r after)) (sym step.is)
+
+-- what a call delivers, where a refusal counts as nothing delivered
+pub delivered_is : (r : Result (Option Spanned) NextError) {s : Spanned} → result_unwrap_or r None ≡ Some s → r ≡ Ok (Some s)
+delivered_is (Ok found) e = ap Ok e
+delivered_is (Err why) {s} e = absurd (none-some s e)
+
+pub none_is : (r : Result (Option Spanned) NextError) → result_unwrap_or r None ≡ None → (s : Spanned) → r ≡ Ok (Some s) → ⊥
+none_is r e s is = none-some s (sym e ∙ ap (λ (q : Result (Option Spanned) NextError). result_unwrap_or q None) is)

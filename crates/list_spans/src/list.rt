@@ -6,7 +6,6 @@ ghost use Rattle.span.specs.Format.{is_known, shape_of, samples_in};
 ghost use Rattle.recording.specs.Recording.{delivery_from};
 ghost use Rattle.list_spans.specs.Listing.{span_line, lines_of, most_symbols, recorded_in, span_listing};
 
-use recording::answer::NextSpan;
 use span::format::Format;
 
 // The line of one span: its place and its line number, of at most 20 digits and 5.
@@ -34,21 +33,16 @@ fn put_spans(f: Format, symbols: &[u16], rows: &mut [u16], out: &mut [u8]) -> us
 {
     let mut place = 0;
     let mut at = 0;
-    while place < symbols.len() {
+    loop {
         let next = finding::next::next_span(f, symbols, place, rows);
-        let answer = next.answer;
-        match answer {
-            NextSpan::Delivered(s) => {
-                let number = line::stream::number_of(s.delivery.line);
-                at = put_line(s.place, number, out, at);
-                place = next.after;
-            }
-            _ => {
-                return at;
-            }
-        }
+        // None of these calls is refused.
+        let Some(s) = next.answer.unwrap_or(None) else {
+            return at;
+        };
+        let number = line::stream::number_of(s.delivery.line);
+        at = put_line(s.place, number, out, at);
+        place = next.after;
     }
-    at
 }
 
 // The lines of a recording: its bytes are read into lent symbols.

@@ -4,7 +4,7 @@ use mathlib.Core.Path.{◌≡◌, refl, sym, ap, ap₂, ◌∙◌}
 use mathlib.Core.Bool.{Bool, true, false, cond}
 use mathlib.Core.List.{List, [], ◌∷◌, ◌++◌, append-nil}
 use Prim.Native.Nat.{ℕ, suc, ◌+◌, ◌-◌, ◌*◌, ◌/◌, ◌%◌, ◌≤◌, ◌<◌}
-use native.Mathlib.Nat.{add-zero, zero-add}
+use native.Mathlib.Nat.{zero-add}
 use native.Mathlib.Numerals.{add-one}
 use native.Mathlib.Omega.{arith}
 use lib.ListN.{length, get_or, set, take, drop, drop_of_length-le}
@@ -16,9 +16,7 @@ use Rattle.ground.proofs.Reading.{next_left_lem}
 use Rattle.ground.proofs.Writing.{upto_more}
 use Rattle.line.specs.Stream.{is_active}
 use Rattle.rig.specs.Frame.{line_of_piece}
-use Rattle.text.specs.Put.{end_of, put_of}
-use Rattle.text.proofs.Putting.{put_told}
-use Rattle.loopback.specs.File.{high_first, header, rows_of_line, piece_bytes}
+use Rattle.loopback.specs.File.{high_first, rows_of_line, piece_bytes}
 
 pub length_bytes : (l : List ℕ) → length (high_first l) ≡ 2 * length l
 unfolding high_first
@@ -45,9 +43,6 @@ module _ (words out : List ℕ) (at i : ℕ) where
   pub words_put : length words ≤ i → out ≡ left
   unfolding high_first
   words_put h = ap (λ (l : List ℕ). sets out (at + 2 * i) (high_first l)) (sym (drop_of_length-le words h))
-
-pub no_word_put : (words out : List ℕ) (at : ℕ) → sets out (at + 2 * 0) (high_first (drop 0 words)) ≡ sets out at (high_first words)
-no_word_put words out at = ap (λ (k : ℕ). sets out k (high_first words)) (add-zero at)
 
 -- ---- the lines of a piece
 module _ (piece : ℕ) (picture : List ℕ) where
@@ -97,9 +92,3 @@ pub piece_put : (piece : ℕ) (picture before : List ℕ) {after : List ℕ} {en
     → IsPrefixLen end after × ((end ≡ length (piece_bytes piece picture)) × (after ≡ sets before 0 (piece_bytes piece picture)))
 unfolding piece_bytes
 piece_put piece picture before room put = counted (piece_bytes piece picture) before room put
-
-pub header_put : (before : List ℕ) {after : List ℕ} {end : ℕ} → 18 ≤ length before → end ≡ end_of (length before) 0 header → after ≡ put_of before 0 header
-    → IsPrefixLen end after × ((end ≡ length header) × (after ≡ sets before 0 header))
-header_put before {after} {end} room e w =
-    let put : Put before after 0 end header = put_told header room e w in
-    counted header before (omega (arith, put.ends)) put

@@ -7,14 +7,14 @@ use native.Mathlib.Omega.{arith}
 use lib.ListN.{length, take, drop, length-drop}
 use lib.Seq.{sets, length-take-le}
 use borrow.Rule.Slice.PartMut.{put_mid}
+use Rattle.std.specs.Prelude.{Result, Ok}
 use Rattle.ground.specs.Answer.{given, unless_refused}
 use Rattle.ground.specs.Written.{upto}
 use Rattle.ground.proofs.Answers.{when_given}
 use Rattle.ground.proofs.Writing.{sets_whole, sets_upto, length_upto, length_table}
 use Rattle.symbol.specs.declared.disparity.Disparity.{Disparity}
 use Rattle.rig.specs.declared.knock.Knock.{Knock}
-use Rattle.rig.specs.declared.carry.Carried.{Carried}
-use Rattle.rig.specs.declared.carry.Carried.TheVariants.{After}
+use Rattle.rig.specs.declared.carry.CarryError.{CarryError}
 use Rattle.rig.specs.Frame.{line_of_piece}
 use Rattle.rig.specs.Piece.{heard_in, paper_carried, carry_of}
 use Rattle.rig.specs.Sending.{after_from}
@@ -64,8 +64,8 @@ pub no_lines : (d : Disparity) → d ≡ after_from d 1 (5 * 0)
 no_lines d = sym (no_line_more d 1).1
 
 -- that after a piece is that after all lines so far
-pub handed_on : (piece : ℕ) (before d : Disparity) (heard : List ℕ) (picture : ℕ) {r : Carried} {after : Disparity} → piece < 225 → length heard ≡ 1125
-    → picture ≡ 38400 → d ≡ after_from before 1 (5 * piece) → r ≡ After after
+pub handed_on : (piece : ℕ) (before d : Disparity) (heard : List ℕ) (picture : ℕ) {r : Result Disparity CarryError} {after : Disparity} → piece < 225 → length heard ≡ 1125
+    → picture ≡ 38400 → d ≡ after_from before 1 (5 * piece) → r ≡ Ok after
     → paper_carried r ≡ carry_of piece d (length (flags_of heard piece)) picture
     → after ≡ after_from before 1 (5 * (piece + 1))
 handed_on piece before d heard picture {r} {after} there long room so_far is answered =

@@ -1,30 +1,18 @@
 -- Which knock an input asks for.
 -- Assumes nothing.
-use mathlib.Core.Path.{◌≡◌, sym, ap₂}
+use mathlib.Core.Path.{◌≡◌, sym}
 use mathlib.Core.Bool.{true, false}
-use mathlib.Core.List.{List}
 use mathlib.Core.Option.{some}
-use Prim.Native.Nat.{ℕ, ◌+◌, ◌*◌, ◌≤◌, ◌<◌}
+use Prim.Native.Nat.{ℕ, ◌+◌, ◌*◌, ◌≤◌}
 use native.Mathlib.Omega.{arith}
-use lib.ListN.{length}
-use borrow.Author.Tests.{lt-ltb, le-ltb}
 use Rattle.line.proofs.Travel.{carries}
 use Rattle.picture.specs.Place.{picture_line_on}
 use Rattle.picture.proofs.Places.{line_on}
-use Rattle.rig.specs.declared.knock.Knock.{Knock}
 use Rattle.rig.specs.Knock.{lost}
 use Rattle.rig.proofs.Losing.{is_lost_where, is_kept_where}
 use Rattle.test_picture.specs.TestPicture.{test_sample}
 use Rattle.test_picture.proofs.Codes.{values}
-use Rattle.loopback.specs.Input.{number_at, millisecond, knock_in}
-
-module _ (input : List ℕ) where
-  pub too_few : length input < 8 → millisecond ≡ knock_in input
-  too_few h = simp (lt-ltb (length input) 8 h)
-
-  pub asked_for : {place long : ℕ} → 8 ≤ length input → place ≡ number_at input 0 → long ≡ number_at input 4
-      → ◌≡◌ {A = Knock} (record { place = place; long = long }) (knock_in input)
-  asked_for h p q = simp (le-ltb (length input) 8 h) (ap₂ (λ (a b : ℕ). record { place = a; long = b }) p q)
+use Rattle.loopback.specs.Input.{millisecond}
 
 -- where too few are given: the middle of the knock is that of the span of stream line 401, which carries the middle of the rings, and it
 -- takes one of the thousand milliseconds in which 50 frames go over the link

@@ -1,14 +1,12 @@
 -- The frame: what comes of all its pieces, sent one after another.
 -- Assumes nothing.
-use Rattle.std.specs.Prelude.{◌≡◌, List, ℕ}
+use Rattle.std.specs.Prelude.{◌≡◌, List, ℕ, Result, Ok, Err}
 use Rattle.ground.specs.Written.{upto}
 use Rattle.symbol.specs.declared.disparity.Disparity.{Disparity}
 use Rattle.symbol.specs.Disparity.{fresh}
 use Rattle.rig.specs.declared.knock.Knock.{Knock}
 use Rattle.rig.specs.Piece.{heard_in}
 use Rattle.rig.specs.Sending.{after_from}
-use Rattle.loopback.specs.declared.frame.Written.{Written}
-use Rattle.loopback.specs.declared.frame.Written.TheVariants.{All, Stopped}
 
 -- which of its lines were heard: flags from line 1 on, piece after piece
 abbrev pub heard_of : Knock → List ℕ
@@ -19,6 +17,6 @@ abbrev pub after_frame : Disparity
 after_frame = after_from fresh 1 1125
 
 -- what the flags and the answer say if all of it was written
-abbrev pub FrameTold : Knock → Written → List ℕ → Type 0
-FrameTold k (All after) heard = (heard ≡ heard_of k) × (after ≡ after_frame)
-FrameTold k (Stopped why) heard = Unit
+abbrev pub FrameTold : {E : Type 0} → Knock → Result Disparity E → List ℕ → Type 0
+FrameTold k (Ok after) heard = (heard ≡ heard_of k) × (after ≡ after_frame)
+FrameTold k (Err why) heard = Unit

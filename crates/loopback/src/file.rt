@@ -20,13 +20,12 @@ fn put_words(words: &[u16], out: &mut [u8], at: usize) -> usize
     ensures end { result ≡ at + 2 * length words.now }
     ensures written { out.new ≡ sets out.old at (high_first words.now) }
 {
-    let mut i = 0;
-    while i < words.len() {
-        out[at + 2 * i] = (words[i] / 256) as u8;
-        out[at + 2 * i + 1] = (words[i] % 256) as u8;
-        i += 1;
+    for (i, word) in words.iter().enumerate() {
+        let [high, low] = word.to_be_bytes();
+        out[at + 2 * i] = high;
+        out[at + 2 * i + 1] = low;
     }
-    at + 2 * i
+    at + 2 * words.len()
 }
 
 // The bytes of a piece: those of the rows of its active lines.
@@ -39,14 +38,12 @@ pub(crate) fn put_piece(piece: usize, picture: &[u16], out: &mut [u8]) -> usize
     ensures written { out.new ≡ sets out.old 0 (piece_bytes piece picture.now) }
 {
     let mut at = 0;
-    let mut i = 0;
-    while i < 5 {
+    for i in 0..5 {
         if line::stream::is_active(line::stream::stream_line((5 * piece + 1 + i) as u16)) {
             let from = 7680 * i;
             let to = from + 7680;
             at = put_words(&picture[from..to], out, at);
         }
-        i += 1;
     }
     at
 }

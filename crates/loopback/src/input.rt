@@ -8,7 +8,7 @@ use rig::knock::Knock;
 fn number_of(a: u8, b: u8, c: u8, d: u8) -> u32
     ensures { result ≡ a + b * 256 + c * 65536 + d * 16777216 }
 {
-    a as u32 + b as u32 * 256 + c as u32 * 65536 + d as u32 * 16777216
+    u32::from_le_bytes([a, b, c, d])
 }
 
 // Place and length from the first eight bytes; if there are fewer, a millisecond around the middle of the test picture's rings.

@@ -7,8 +7,6 @@ mod file;
 mod frame;
 mod input;
 
-use frame::Written;
-use reception::summary::Summarised;
 use rig::knock::Knock;
 use std::env::FillError;
 use std::io::Write;
@@ -43,7 +41,7 @@ fn open_picture<R: Env + Files + Eprint>(rt: &R) -> io::Result<Option<R::File>> 
 // What was lost, as text.
 fn print_summary(rt: &(impl Print + Eprint), heard: &[u16]) -> io::Result<()> {
     let mut text = [0u8; 256];
-    if let Summarised::Bytes(end) = reception::summary::put_summary(heard, &mut text) {
+    if let Ok(end) = reception::summary::put_summary(heard, &mut text) {
         if let Err(e) = rt.write_all(&text[..end]) {
             eprintln!(rt; "the summary: {e}")?;
         }
@@ -66,8 +64,8 @@ fn run(rt: &(impl Print + Eprint), out: &mut impl Write, k: Knock) -> io::Result
         return eprintln!(rt; "the picture: {e}");
     }
     match frame::write_frame(out, k, &mut heard, &mut picture, &mut bytes) {
-        Written::All(_) => print_summary(rt, &heard),
-        Written::Stopped(e) => eprintln!(rt; "the picture: {e}"),
+        Ok(_) => print_summary(rt, &heard),
+        Err(e) => eprintln!(rt; "the picture: {e}"),
     }
 }
 

@@ -35,7 +35,7 @@ fn read_window(f: Format, symbols: &[u16], rows: &mut [u16]) -> Result<Delivery,
     let v = read_test20::whole::take(f, symbols, rows)?;
     let read = read_words(f, symbols, v, rows);
     if read.is_err() {
-        ground::fill::fill(rows, 0);
+        rows.fill(0);
     }
     read
 }

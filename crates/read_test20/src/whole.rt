@@ -293,7 +293,7 @@ pub fn take(f: Format, symbols: &[u16], rows: &mut [u16]) -> Result<Valid, TakeE
     match pass(f, symbols, false, rows) {
         Ok(v) => Ok(v),
         Err(PassError::Faulty(x)) => {
-            ground::fill::fill(rows, 0);
+            rows.fill(0);
             Err(TakeError::Invalid(fault_at(f, symbols, x)))
         },
         Err(PassError::NotExamined) => Err(TakeError::NotExamined),

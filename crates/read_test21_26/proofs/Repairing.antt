@@ -12,7 +12,7 @@ use Rattle.span.specs.Format.{streams}
 use Rattle.span.specs.Layout.{sav_xyz, eav_xyz}
 use Rattle.word.specs.Repair.{differs_at}
 use Rattle.word.specs.Received.{wrong_bits, bit_wrong}
-use Rattle.window.specs.declared.delivery.RepairsOfBit.{RepairsOfBit}
+use Rattle.ground.proofs.Writing.{get_d_table, table_same}
 use Rattle.window.specs.Read.{each_bit, repairs_of}
 use Rattle.window.specs.Tests.{sum_of, repair_count, repairs_at}
 use Rattle.window.specs.Words.{word_at}
@@ -23,7 +23,7 @@ use Rattle.read_test21_26.specs.Inside.Repairs.{xyz_of, wrong_mask, brought, Roo
 
 -- ---- one pair of masks more
 
-module _ {c d : RepairsOfBit} {x y u v : ℕ} where
+module _ {c d : List ℕ} {x y u v : ℕ} where
   pub with_same : c ≡ d → x ≡ u → y ≡ v → with_bits c x y ≡ with_bits d u v
   with_same e p q = rw (e, p, q)
 
@@ -60,7 +60,7 @@ module _ (p : Shape) (w : List ℕ) where
   -- ---- each bit
 
   -- the counts after i streams
-  abbrev pub counts_of : ℕ → RepairsOfBit
+  abbrev pub counts_of : ℕ → List ℕ
   counts_of i = each_bit (λ b. sum_of i (brought (bit_wrong b) p w))
 
   pub none_counted : each_bit (λ b. 0) ≡ counts_of 0
@@ -74,24 +74,13 @@ module _ (p : Shape) (w : List ℕ) where
   pub has_room_lem : (i : ℕ) → i ≤ 4 → Room (counts_of i)
   has_room_lem i h =
       let few : (b : ℕ) → sum_of i (brought (bit_wrong b) p w) ≤ 253 = λ b. omega (arith, sum_most (bit_wrong b) p w (bit_most b) i) in
-      record {
-        b0 = few 0;
-        b1 = few 1;
-        b2 = few 2;
-        b3 = few 3;
-        b4 = few 4;
-        b5 = few 5;
-        b6 = few 6;
-        b7 = few 7;
-        b8 = few 8;
-        b9 = few 9;
-        b10 = few 10;
-        b11 = few 11;
-      }
+      record { each = λ b l. omega (arith, get_d_table 12 (λ b. sum_of i (brought (bit_wrong b) p w)) b 0 l, few b) }
 
   pub one_counted : (i : ℕ) → with_bits (counts_of i) (wrong_mask (xyz_of p w i).sav) (wrong_mask (xyz_of p w i).eav) ≡ counts_of (i + 1)
   unfolding sum_of differs_at
-  one_counted i = rw (add-one i)
+  one_counted i =
+      table_same 12 _ _
+      (λ b h. ap (λ (n : ℕ). n + (bit_wrong b (xyz_of p w i).sav + bit_wrong b (xyz_of p w i).eav)) (get_d_table 12 (λ b. sum_of i (brought (bit_wrong b) p w)) b 0 h) ∙ one_more (bit_wrong b) p w i)
 
   pub all_counted : counts_of (streams p) ≡ each_bit (repairs_at (streams p) (word_at p w))
   unfolding repairs_at
@@ -104,6 +93,6 @@ module _ (p : Shape) (w : List ℕ) where
       (λ b h. sym (parts_zero 12 (repairs_at (streams p) (word_at p w)) (bits_add_up (streams p) (word_at p w) ∙ e) b h))
 
   -- both together
-  pub are_repairs : {n : ℕ} {c : RepairsOfBit} → n ≡ repair_count (streams p) (word_at p w) → c ≡ each_bit (repairs_at (streams p) (word_at p w))
+  pub are_repairs : {n : ℕ} {c : List ℕ} → n ≡ repair_count (streams p) (word_at p w) → c ≡ each_bit (repairs_at (streams p) (word_at p w))
       → record { count = n; of_bit = c } ≡ repairs_of (repair_count (streams p) (word_at p w)) (repairs_at (streams p) (word_at p w))
   are_repairs e q = rw (e, q)

@@ -1,7 +1,7 @@
 -- What a span brings, put at its line's place.
 -- Assumes nothing.
 use mathlib.Core.Path.{◌≡◌, refl, sym, ap, ap₂, ◌∙◌}
-use mathlib.Core.Bool.{true, false}
+use mathlib.Core.Bool.{true}
 use mathlib.Core.List.{List}
 use Prim.Native.Nat.{ℕ, ◌+◌, ◌-◌, ◌*◌, ◌≤◌}
 use native.Mathlib.Omega.{arith}
@@ -10,7 +10,7 @@ use lib.Seq.{sets, length-take-le}
 use borrow.Rule.Slice.PartMut.{put_mid}
 use Rattle.ground.specs.Range.{within}
 use Rattle.ground.proofs.Answers.{when_given}
-use Rattle.ground.proofs.Ranges.{is_within, not_within, from_low, to_high, outside}
+use Rattle.ground.proofs.Ranges.{is_within, from_low, to_high}
 use Rattle.ground.proofs.Writing.{sets_append}
 use Rattle.line.specs.Stream.{is_active}
 use Rattle.dividing.specs.Row.{joined, join_row, stream_in}
@@ -64,11 +64,6 @@ rows_put words picture at between e f =
 
 -- whether the span is of one of the five lines: n is the number of its line, and m that of the first
 module _ (first m n : ℕ) (x : Reading) (from : m ≡ first) (is : n ≡ line_heard x) where
-  pub of_another : within m (m + 4) n ≡ false → (size : ℕ) (what : Reading → List ℕ) (buffer : List ℕ) → buffer ≡ put_one size what first buffer x
-  of_another t size what buffer =
-      let elsewhere : is_of first (line_heard x) ≡ false = not_within _ _ _ (λ p q. outside m (m + 4) n t (omega arith) (omega arith)) in
-      simp elsewhere
-
   module _ (t : within m (m + 4) n ≡ true) where
     here : is_of first (line_heard x) ≡ true
     here = is_within _ _ _ (omega (arith, from_low m (m + 4) n t)) (omega (arith, to_high m (m + 4) n t))
@@ -77,9 +72,6 @@ module _ (first m n : ℕ) (x : Reading) (from : m ≡ first) (is : n ≡ line_h
     heard_put heard =
         let q : n - m ≡ 1 * (line_heard x - first) = omega arith in
         ap (λ (k : ℕ). set heard k 1) q ∙ simp here
-
-    pub none_brought : is_active (line_heard x) ≡ false → (picture : List ℕ) → picture ≡ put_one 7680 brings first picture x
-    none_brought a picture = simp (here, a)
 
     -- the streams of the odd line are those from 0 on, and of the even one those from 2 on
     pub brought : is_active (line_heard x) ≡ true → (picture : List ℕ) {out : List ℕ} (between : List ℕ) (odd even : ℕ)

@@ -1,72 +1,69 @@
 -- Which lines were heard: how many, and the first and the last that was not.
 -- Assumes nothing.
-use mathlib.Core.Path.{◌≡◌, refl, sym, ap, ◌∙◌}
-use mathlib.Core.Bool.{Bool, false, cond}
-use mathlib.Core.List.{List}
+use mathlib.Core.Path.{◌≡◌, refl, sym, ap, ap₂, ◌∙◌}
+use mathlib.Core.Bool.{not, cond}
+use mathlib.Core.List.{List, [], ◌∷◌}
 use mathlib.Core.Option
-use mathlib.Core.Option.{Option}
-use Prim.Native.Nat.{ℕ, zero, suc, ◌+◌, ◌-◌, ◌≤◌, ◌<◌}
+use Prim.Native.Nat.{ℕ, zero, suc, ◌+◌, ◌<◌}
 use native.Mathlib.Omega.{arith}
-use lib.ListN.{length, get_or, drop, drop_of_length-le}
-use borrow.Author.Count.{below_more}
-use borrow.Author.Tests.{eq-eqb, ne_eqb}
-use Rattle.ground.proofs.Reading.{next_left_lem}
+use lib.Dec.{eqb}
+use lib.ListN.{length, get_or}
+use borrow.Author.Tests.{eq-eqb, ne_eqb, eqb-true, eqb-false}
+use Rattle.std.specs.Prelude.{Option, Some, None, MatchOption, unwrap_or, count_by}
+use Rattle.std.proofs.lemmas.List.Sums.{sum_by-cons}
+use Rattle.ground.proofs.Cases.{on_test}
 use Rattle.ground.proofs.Searches.{is_hit, is_miss}
-use Rattle.reception.specs.Summary.{is_lost, delivered, first_lost, last_of}
+use Rattle.reception.specs.Summary.{is_lost, delivered, first_lost, last_of, last_lost}
 
--- ---- how many: those after place i, and those before it
+-- ---- how many
+pub all_counted : (heard : List ℕ) → count_by (λ h. not (eqb h 0)) heard ≡ delivered heard
+unfolding delivered
+all_counted [] = refl
+all_counted (h ∷ heard) =
+    let same : cond (not (eqb h 0)) 1 0 ≡ cond (eqb h 0) 0 1 = on_test (eqb h 0) (λ t. simp t refl) (λ t. simp t refl) in
+    sum_by-cons (λ x. cond (not (eqb x 0)) 1 0) h heard ∙ ap₂ (λ (a b : ℕ). a + b) same (all_counted heard)
+
 module _ (heard : List ℕ) where
-  pub none_counted : delivered heard ≡ 0 + delivered (drop 0 heard)
-  none_counted = omega arith
+  -- ---- the first: what the search for it tells
+  abbrev pub Found : Option ℕ → Type 0
+  Found r =
+      MatchOption r ((j : ℕ) → j < length heard → get_or heard j 0 ≡ 0 → ⊥)
+      (λ i. (i < length heard) × (get_or heard i 0 ≡ 0) × ((j : ℕ) → j < i → get_or heard j 0 ≡ 0 → ⊥))
 
-  module _ (i : ℕ) (h : i < length heard) where
-    counted : delivered (drop i heard) ≡ cond (is_lost heard i) 0 1 + delivered (drop (i + 1) heard)
-    unfolding delivered
-    counted = ap delivered (next_left_lem heard i 0 h)
-
-    pub heard_counted : (get_or heard i 0 ≡ 0 → ⊥) → delivered (drop i heard) ≡ 1 + delivered (drop (i + 1) heard)
-    heard_counted x = counted ∙ ap (λ (b : Bool). cond b 0 1 + delivered (drop (i + 1) heard)) (ne_eqb (get_or heard i 0) 0 x)
-
-    pub lost_counted : get_or heard i 0 ≡ 0 → delivered (drop i heard) ≡ delivered (drop (i + 1) heard)
-    lost_counted x =
-        counted ∙ ap (λ (b : Bool). cond b 0 1 + delivered (drop (i + 1) heard)) (eq-eqb (get_or heard i 0) 0 x) ∙ omega arith
-
-  pub all_counted : (i : ℕ) → length heard ≤ i → delivered (drop i heard) ≡ 0
-  unfolding delivered
-  all_counted i h = ap delivered (drop_of_length-le heard h)
-
-  -- ---- the first
-  pub none_before : (i : ℕ) → ((j : ℕ) → j < i → is_lost heard j ≡ false) → (get_or heard i 0 ≡ 0 → ⊥) → (j : ℕ) → j < i + 1 → is_lost heard j ≡ false
-  none_before i before x = below_more _ _ before (ne_eqb (get_or heard i 0) 0 x)
-
-  pub first_is : (i : ℕ) → i < length heard → ((j : ℕ) → j < i → is_lost heard j ≡ false) → get_or heard i 0 ≡ 0 → i + 1 ≡ first_lost heard
+  pub is_first : (r : Option ℕ) → Found r → unwrap_or r 0 + 1 ≡ first_lost heard
   unfolding first_lost
-  first_is i h before e =
+  is_first None never =
+      let nowhere = is_miss (is_lost heard) (length heard) (record { never = λ j _ l. ne_eqb (get_or heard j 0) 0 (never j l) }) in
+      ap (λ (o : Option.Option ℕ). Option.get_or o 0 + 1) (sym nowhere)
+  is_first (Some i) f =
       let found = is_hit (is_lost heard) (length heard) i
-      (record { from = omega arith; below = h; holds = eq-eqb (get_or heard i 0) 0 e; least = λ j _ l. before j l }) in
-      ap (λ (o : Option ℕ). Option.get_or o 0 + 1) (sym found)
-
-  pub no_first : (i : ℕ) → length heard ≤ i → ((j : ℕ) → j < i → is_lost heard j ≡ false) → 1 ≡ first_lost heard
-  unfolding first_lost
-  no_first i h before =
-      let nowhere = is_miss (is_lost heard) (length heard) (record { never = λ j _ l. before j (omega arith) }) in
-      ap (λ (o : Option ℕ). Option.get_or o 0 + 1) (sym nowhere)
+      (record { from = omega arith; below = f.0; holds = eq-eqb (get_or heard i 0) 0 f.1; least = λ j _ l. ne_eqb (get_or heard j 0) 0 (f.2 j l) }) in
+      ap (λ (o : Option.Option ℕ). Option.get_or o 0 + 1) (sym found)
 
   -- ---- the last
-  pub last_here : (i : ℕ) → 0 < i → get_or heard (i - 1) 0 ≡ 0 → i ≡ last_of heard i
-  unfolding last_of
-  last_here zero h e = absurd (omega arith)
-  last_here (suc n) h e =
-      let q : suc n - 1 ≡ n = omega arith in
-      simp (eq-eqb (get_or heard n 0) 0 (rw q at e))
+  abbrev pub FoundLast : Option ℕ → Type 0
+  FoundLast r =
+      MatchOption r ((j : ℕ) → j < length heard → get_or heard j 0 ≡ 0 → ⊥)
+      (λ i. (i < length heard) × (get_or heard i 0 ≡ 0) × ((j : ℕ) → i < j → j < length heard → get_or heard j 0 ≡ 0 → ⊥))
 
-  pub last_before : (i : ℕ) → 0 < i → (get_or heard (i - 1) 0 ≡ 0 → ⊥) → last_of heard (i - 1) ≡ last_of heard i
+  -- among the first n, where the search ends with line i + 1
+  last_at : (i n : ℕ) → i < n → get_or heard i 0 ≡ 0 → ((j : ℕ) → i < j → j < n → get_or heard j 0 ≡ 0 → ⊥) → i + 1 ≡ last_of heard n
   unfolding last_of
-  last_before zero h x = absurd (omega arith)
-  last_before (suc n) h x =
-      let q : suc n - 1 ≡ n = omega arith in
-      rw q (simp (ne_eqb (get_or heard n 0) 0 (rw q at x)))
+  last_at i zero h e after = absurd (omega arith)
+  last_at i (suc n) h e after =
+      on_test (eqb (get_or heard n 0) 0)
+      (λ t.
+      let here : i < n → ⊥ = λ l. after n l (omega arith) (eqb-true (get_or heard n 0) 0 t) in
+      simp t (omega (arith, here)))
+      (λ t.
+      let other : i ≡ n → ⊥ = λ q. eqb-false (get_or heard n 0) 0 t (ap (λ k. get_or heard k 0) (sym q) ∙ e) in
+      simp t (last_at i n (omega (arith, other)) e (λ j k l. after j k (omega arith))))
 
-  pub no_last : 1 ≡ last_of heard 0
+  no_last : (n : ℕ) → ((j : ℕ) → j < n → get_or heard j 0 ≡ 0 → ⊥) → 1 ≡ last_of heard n
   unfolding last_of
-  no_last = refl
+  no_last zero never = refl
+  no_last (suc n) never = simp (ne_eqb (get_or heard n 0) 0 (never n (omega arith))) (no_last n (λ j l. never j (omega arith)))
+
+  pub is_last : (r : Option ℕ) → FoundLast r → unwrap_or r 0 + 1 ≡ last_lost heard
+  is_last None never = no_last (length heard) never
+  is_last (Some i) f = last_at i (length heard) f.0 f.1 f.2

@@ -3,7 +3,7 @@
 use mathlib.Core.Path.{◌≡◌, refl, sym, ap, ap₂, subst, ◌∙◌}
 use mathlib.Core.Bool.{true, false, cond}
 use mathlib.Core.List.{List, [], ◌∷◌}
-use mathlib.Core.Option.{Option, none, some}
+use mathlib.Core.Option.{Option}
 use Prim.Native.Nat.{ℕ, ◌+◌, ◌-◌, ◌*◌, ◌≤◌, ◌<◌}
 use native.Mathlib.Nat.{zero-add}
 use native.Mathlib.Omega.{arith}
@@ -13,10 +13,6 @@ use lib.Seq.{sets, length-take-le}
 use borrow.Author.Tests.{eq-eqb, ne_eqb}
 use Rattle.io.specs.Counts.{IsPrefixLen}
 use Rattle.ground.proofs.Putting.{Put, then, put_length, put_as}
-use Rattle.line.specs.declared.picture.Carries.{Carries}
-use Rattle.line.specs.declared.picture.Carries.TheVariants.{Line, Nothing}
-use Rattle.line.specs.declared.picture.PictureLine.{PictureLine}
-use Rattle.line.specs.Picture.{number_carried}
 use Rattle.picture.specs.Division.{h as below}
 use Rattle.picture.specs.Place.{picture_line_on}
 use Rattle.picture.proofs.Places.{no_line_on, line_on_active}
@@ -92,42 +88,6 @@ lines_put a b few few' o at room p q r s {u} i j k l {end} a' b' first second f 
     let five : Put s u l end lines_end = put_told lines_end room' n.0 n.1 in
     let whole = then one (then two (then three (then four five))) in
     (whole.ends, (omega (arith, one.ends, two.ends, three.ends, four.ends, five.ends), whole.written))
-
-pub blanking_put : (o : List ℕ) (at : ℕ) → at + 33 ≤ length o → {u : List ℕ} {end : ℕ} → Puts o u at end blanking_text
-    → (end ≡ at + length blanking_text) × (u ≡ sets o at blanking_text)
-blanking_put o at room {u} {end} f =
-    let put : Put o u at end blanking_text = put_told blanking_text (omega arith) f.0 f.1 in
-    (put.ends, put.written)
-
--- what a stream line carries: the calls say which it is
-module _ (n : ℕ) (o u : List ℕ) (at end : ℕ) where
-  pub carries_lines : (first second : Carries) → number_carried first ≡ picture_line_on n 1 → number_carried second ≡ picture_line_on n 3
-      → {a b : PictureLine} → first ≡ Line a → second ≡ Line b
-      → Within 33 o u at end (lines_text a.0 b.0)
-      → Within 33 o u at end (carried_text n)
-  carries_lines first second e f p q w =
-      let one : some _ ≡ picture_line_on n 1 = sym (ap number_carried p) ∙ e in
-      let other : some _ ≡ picture_line_on n 3 = sym (ap number_carried q) ∙ f in
-      subst (λ (t : List ℕ). Within 33 o u at end t) (ap₂ carried_by one other) w
-
-  abbrev Blank : Type 0
-  Blank = (end ≡ at + length blanking_text) × (u ≡ sets o at blanking_text)
-
-  blank_room : Blank → Within 33 o u at end blanking_text
-  blank_room w = (w.0, (omega (arith, w.0), w.1))
-
-  pub carries_no_first : (first : Carries) → number_carried first ≡ picture_line_on n 1 → first ≡ Nothing → Blank
-      → Within 33 o u at end (carried_text n)
-  carries_no_first first e p w =
-      let one : none ≡ picture_line_on n 1 = sym (ap number_carried p) ∙ e in
-      subst (λ (t : List ℕ). Within 33 o u at end t) (ap (λ (x : Option ℕ). carried_by x (picture_line_on n 3)) one) (blank_room w)
-
-  pub carries_no_second : (first second : Carries) → number_carried first ≡ picture_line_on n 1 → number_carried second ≡ picture_line_on n 3
-      → {a : PictureLine} → first ≡ Line a → second ≡ Nothing → Blank → Within 33 o u at end (carried_text n)
-  carries_no_second first second e f p q w =
-      let one : some _ ≡ picture_line_on n 1 = sym (ap number_carried p) ∙ e in
-      let other : none ≡ picture_line_on n 3 = sym (ap number_carried q) ∙ f in
-      subst (λ (t : List ℕ). Within 33 o u at end t) (ap₂ carried_by one other) (blank_room w)
 
 -- label, number, and what the line carries: at most 23 letters, 5 digits and 33
 pub lost_room : (label : List ℕ) (n : ℕ) (o : List ℕ) (at : ℕ) → length label ≤ 23 → n ≤ 1125 → at + 61 ≤ length o

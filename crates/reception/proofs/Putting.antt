@@ -3,9 +3,13 @@
 use mathlib.Core.Path.{◌≡◌, sym, ap, ap₂, ◌∙◌}
 use mathlib.Core.List.{List, []}
 use Prim.Native.Nat.{ℕ}
+use Rattle.std.specs.Prelude.{Option, Some, None, Result, Ok, Err}
+use Rattle.std.specs.Result.{result_unwrap_or}
+use Rattle.std.proofs.lemmas.Option.{none-some}
 use Rattle.span.specs.declared.format.Format.{Format}
 use Rattle.window.specs.declared.delivery.Delivery.{Delivery}
 use Rattle.delivery.specs.Delivery.{Found}
+use Rattle.recording.specs.declared.answer.NextError.{NextError}
 use Rattle.recording.specs.declared.answer.Spanned.{Spanned}
 use Rattle.recording.specs.Call.{rows_next}
 use Rattle.recording.specs.Recording.{Reading, delivery_from}
@@ -31,3 +35,11 @@ module _ (size : ℕ) (what : Reading → List ℕ) (first : ℕ) where
   pub put_ends : {buffer whole : List ℕ} {left : List (Found Reading)} → left ≡ [] → put_all size what first buffer left ≡ whole → buffer ≡ whole
   unfolding put_all
   put_ends {buffer} {whole} {left} e is = sym (ap (put_all size what first buffer) e) ∙ is
+
+-- what a call delivers, where a refusal counts as nothing delivered
+pub delivered_is : (r : Result (Option Spanned) NextError) {s : Spanned} → result_unwrap_or r None ≡ Some s → r ≡ Ok (Some s)
+delivered_is (Ok found) e = ap Ok e
+delivered_is (Err why) {s} e = absurd (none-some s e)
+
+pub none_is : (r : Result (Option Spanned) NextError) → result_unwrap_or r None ≡ None → (s : Spanned) → r ≡ Ok (Some s) → ⊥
+none_is r e s is = none-some s (sym e ∙ ap (λ (q : Result (Option Spanned) NextError). result_unwrap_or q None) is)

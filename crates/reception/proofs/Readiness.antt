@@ -3,10 +3,10 @@
 use mathlib.Core.Path.{◌≡◌, sym, ap, ◌∙◌}
 use mathlib.Core.Bool.{Bool, true, false, cond, ◌&&◌}
 use mathlib.Core.List.{List}
-use Prim.Native.Nat.{ℕ, ◌≤◌, ◌<◌}
+use Prim.Native.Nat.{ℕ, ◌≤◌}
 use lib.Dec.{eqb, leb}
 use lib.ListN.{length, replicate}
-use borrow.Author.Tests.{le-leb, lt-leb, eq-eqb, ne_eqb, leb-true, eqb-true}
+use borrow.Author.Tests.{le-leb, eq-eqb, leb-true, eqb-true}
 use Rattle.ground.proofs.Cases.{on_test}
 use Rattle.ground.proofs.Tests.{both_left, both_right}
 use Rattle.recording.specs.Recording.{delivery_from}
@@ -14,25 +14,11 @@ use Rattle.reception.specs.Link.{link}
 use Rattle.reception.specs.Receiving.{heard_from, shown_from, receivable, heard_by, shown_by}
 
 module _ (first symbols heard picture : ℕ) where
-  pub line_behind : 1121 < first → receivable first symbols heard picture ≡ false
-  line_behind h = simp (lt-leb first 1121 h)
-
   pub record Ready : Type 0 where
     pub line : first ≤ 1121
     pub short : symbols ≤ 95040
     pub flags : heard ≡ 5
     pub rows : picture ≡ 38400
-
-  module _ (line : first ≤ 1121) where
-    pub too_many : 95040 < symbols → receivable first symbols heard picture ≡ false
-    too_many h = simp (le-leb first 1121 line, lt-leb symbols 95040 h)
-
-    module _ (short : symbols ≤ 95040) where
-      pub no_room : (heard ≡ 5 → ⊥) → receivable first symbols heard picture ≡ false
-      no_room x = simp (le-leb first 1121 line, le-leb symbols 95040 short, ne_eqb heard 5 x)
-
-      pub by_rows : heard ≡ 5 → receivable first symbols heard picture ≡ eqb picture 38400
-      by_rows e = simp (le-leb first 1121 line, le-leb symbols 95040 short, eq-eqb heard 5 e)
 
   pub ready_told : receivable first symbols heard picture ≡ true → Ready
   ready_told t =
@@ -47,7 +33,7 @@ module _ (first symbols heard picture : ℕ) where
       }
 
   pub is_ready : Ready → receivable first symbols heard picture ≡ true
-  is_ready r = by_rows r.line r.short r.flags ∙ eq-eqb picture 38400 r.rows
+  is_ready r = simp (le-leb first 1121 r.line, le-leb symbols 95040 r.short, eq-eqb heard 5 r.flags, eq-eqb picture 38400 r.rows)
 
   pub not_ready : (first ≤ 1121 → symbols ≤ 95040 → heard ≡ 5 → picture ≡ 38400 → ⊥) → receivable first symbols heard picture ≡ false
   not_ready x =
@@ -63,9 +49,6 @@ module _ (first : ℕ) (symbols heard picture : List ℕ) where
   abbrev Made : Bool → List ℕ → List ℕ → Type 0
   Made r heardExit pictureExit =
       (r ≡ was_ready) × ((heardExit ≡ cond was_ready (heard_by first symbols) heard) × (pictureExit ≡ cond was_ready (shown_by first symbols) picture))
-
-  pub nothing_made : was_ready ≡ false → Made false heard picture
-  nothing_made t = (sym t, (simp t, simp t))
 
   pub made : {noFlags black heardExit pictureExit : List ℕ} → was_ready ≡ true
       → noFlags ≡ replicate (length heard) 0 → black ≡ replicate (length picture) 0

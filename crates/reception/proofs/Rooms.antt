@@ -1,33 +1,32 @@
 -- Where there is room for the summary, and where nothing is put.
 -- Assumes nothing.
-use mathlib.Core.Path.{◌≡◌, refl, sym, ap, ◌∙◌}
+use mathlib.Core.Path.{◌≡◌, refl}
 use mathlib.Core.Bool.{cond}
 use mathlib.Core.List.{List}
 use Prim.Native.Nat.{ℕ, ◌≤◌, ◌<◌}
 use lib.Dec.{eqb}
 use lib.ListN.{length}
-use lib.Seq.{sets}
 use borrow.Author.Tests.{eq-eqb, ne_eqb, le-leb, lt-leb}
-use Rattle.io.specs.Counts.{IsPrefixLen}
+use Rattle.std.specs.Prelude.{Result, Ok, Err}
 use Rattle.ground.specs.Answer.{Answer, refused, given}
 use Rattle.ground.specs.Inside.Answer.{Injective}
-use Rattle.ground.proofs.Answers.{told_again, when_refused, when_given}
-use Rattle.reception.specs.declared.summary.Summarised.{Summarised}
-use Rattle.reception.specs.declared.summary.Summarised.TheVariants.{Bytes, WrongInput, WrongOutput}
-use Rattle.reception.specs.Summary.{summary, paper_summarised, summarised_of, summary_put, CountsIn}
+use Rattle.ground.proofs.Answers.{told_again}
+use Rattle.reception.specs.declared.summary.SummaryError.{SummaryError}
+use Rattle.reception.specs.declared.summary.SummaryError.TheVariants.{WrongInput, WrongOutput}
+use Rattle.reception.specs.Summary.{summary, paper_summarised, summarised_of}
 
 -- the numbers tell the answers apart
-abbrev summed_again : Answer ℕ → Summarised
-summed_again (refused number place) = cond (eqb number 3) WrongInput WrongOutput
-summed_again (given n) = Bytes n
+abbrev summed_again : Answer ℕ → Result ℕ SummaryError
+summed_again (refused number place) = Err (cond (eqb number 3) WrongInput WrongOutput)
+summed_again (given n) = Ok n
 
 pub summed_one_to_one : Injective paper_summarised
 summed_one_to_one = told_again summed_again again
   where
-    again : (r : Summarised) → summed_again (paper_summarised r) ≡ r
-    again (Bytes n) = refl
-    again WrongInput = refl
-    again WrongOutput = refl
+    again : (r : Result ℕ SummaryError) → summed_again (paper_summarised r) ≡ r
+    again (Ok n) = refl
+    again (Err WrongInput) = refl
+    again (Err WrongOutput) = refl
 
 module _ (heard : List ℕ) (out : ℕ) where
   pub summary_meets_3 : (length heard ≡ 1125 → ⊥) → summarised_of heard out ≡ refused 3 0
@@ -39,21 +38,3 @@ module _ (heard : List ℕ) (out : ℕ) where
 
     pub sums : 256 ≤ out → summarised_of heard out ≡ given (length (summary heard))
     sums h = simp (eq-eqb (length heard) 1125 frame, le-leb 256 out h)
-
-module _ (heard out : List ℕ) where
-  -- what the call promises
-  abbrev Promised : Summarised → List ℕ → Type 0
-  Promised r after = CountsIn r after × ((paper_summarised r ≡ summarised_of heard (length out)) × (after ≡ summary_put heard out))
-
-  pub no_frame : (length heard ≡ 1125 → ⊥) → Promised WrongInput out
-  no_frame x = let e = summary_meets_3 heard (length out) x in (tt, (sym e, when_refused out (sets out 0 (summary heard)) e))
-
-  module _ (frame : length heard ≡ 1125) where
-    pub no_room : length out < 256 → Promised WrongOutput out
-    no_room h = let e = summary_meets_4 heard (length out) frame h in (tt, (sym e, when_refused out (sets out 0 (summary heard)) e))
-
-    pub room : 256 ≤ length out → {end : ℕ} {after : List ℕ} → IsPrefixLen end after → end ≡ length (summary heard) → after ≡ sets out 0 (summary heard)
-        → Promised (Bytes end) after
-    room h counts e w =
-        let good = sums heard (length out) frame h in
-        (counts, (ap given e ∙ sym good, w ∙ when_given out (sets out 0 (summary heard)) good))

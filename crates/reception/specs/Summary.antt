@@ -1,7 +1,7 @@
 -- What is printed: how many stream lines were sent, delivered and lost, and which were the first and the last lost, with the picture lines
 -- that they carry (004, 5.3 and 6.1).
 -- Assumes nothing.
-use Rattle.std.specs.Prelude.{ℕ, zero, suc, ◌+◌, ◌-◌, Bool, cond, List, [], ◌∷◌, ◌++◌, eqb, leb, length, get_or}
+use Rattle.std.specs.Prelude.{ℕ, zero, suc, ◌+◌, ◌-◌, Bool, cond, List, [], ◌∷◌, ◌++◌, eqb, leb, length, get_or, Result, Ok, Err}
 use Rattle.std.proofs.Math.Option
 use Rattle.std.proofs.Math.Option.{Option, none, some}
 use Rattle.std.proofs.lemmas.List.Edits.{sets}
@@ -11,8 +11,8 @@ use Rattle.io.specs.Counts.{IsPrefixLen}
 use Rattle.picture.specs.Place.{picture_line_on}
 use Rattle.text.specs.Number.{decimal}
 use Rattle.text.specs.Put.{newline}
-use Rattle.reception.specs.declared.summary.Summarised.{Summarised}
-use Rattle.reception.specs.declared.summary.Summarised.TheVariants.{Bytes, WrongInput, WrongOutput}
+use Rattle.reception.specs.declared.summary.SummaryError.{SummaryError}
+use Rattle.reception.specs.declared.summary.SummaryError.TheVariants.{WrongInput, WrongOutput}
 
 -- flags, one for each line from line 1 on: 0 for a lost line
 abbrev pub is_lost : List ℕ → ℕ → Bool
@@ -105,10 +105,10 @@ summary heard =
 -- ---- the call
 
 -- the paper's number for each answer
-abbrev pub paper_summarised : Summarised → Answer ℕ
-paper_summarised (Bytes n) = given n
-paper_summarised WrongInput = refused 3 0
-paper_summarised WrongOutput = refused 4 0
+abbrev pub paper_summarised : Result ℕ SummaryError → Answer ℕ
+paper_summarised (Ok n) = given n
+paper_summarised (Err WrongInput) = refused 3 0
+paper_summarised (Err WrongOutput) = refused 4 0
 
 -- 3 if these are not the flags of a frame's 1,125 lines, then 4 if there is no room for 256 bytes; otherwise how many bytes were put
 abbrev pub summarised_of : List ℕ → ℕ → Answer ℕ
@@ -118,7 +118,6 @@ abbrev pub summary_put : List ℕ → List ℕ → List ℕ
 summary_put heard out = unless_refused (summarised_of heard (length out)) out (sets out 0 (summary heard))
 
 -- so many bytes there are in the buffer
-abbrev pub CountsIn : Summarised → List ℕ → Type 0
-CountsIn (Bytes n) out = IsPrefixLen n out
-CountsIn WrongInput out = Unit
-CountsIn WrongOutput out = Unit
+abbrev pub CountsIn : Result ℕ SummaryError → List ℕ → Type 0
+CountsIn (Ok n) out = IsPrefixLen n out
+CountsIn (Err why) out = Unit

@@ -6,12 +6,10 @@ ghost use Rattle.reception.specs.Link.{link};
 ghost use Rattle.reception.specs.Receiving.{joined_row, brings, flag, put_one, heard_from, shown_from, receivable, flags_received, rows_received};
 
 use line::stream::StreamLine;
-use recording::answer::NextSpan;
 use window::delivery::Delivery;
 
 // Two streams of a span joined into a row of the picture, at a place.
-fn put_row(rows: &[u16], t: usize, picture: &mut [u16], at: usize)
-    requires rows_len { length rows.now ≡ 7680 }
+fn put_row(rows: &[u16; 7680], t: usize, picture: &mut [u16], at: usize)
     requires t_bound { t ≤ 2 }
     requires at_in_bounds { at + 3840 ≤ length picture.old }
     ensures { picture.new ≡ sets picture.old at (joined_row t rows.now) }
@@ -20,7 +18,8 @@ fn put_row(rows: &[u16], t: usize, picture: &mut [u16], at: usize)
     let second = first + 1920;
     let end = second + 1920;
     let past = at + 3840;
-    dividing::join::join(
+    // The lengths are those of a row and its images: nothing is refused.
+    let _ = dividing::join::join(
         &rows[first..second],
         &rows[second..end],
         &mut picture[at..past],
@@ -31,12 +30,11 @@ fn put_row(rows: &[u16], t: usize, picture: &mut [u16], at: usize)
 fn put_span(
     first: StreamLine,
     delivery: Delivery,
-    rows: &[u16],
+    rows: &[u16; 7680],
     heard: &mut [u16],
     picture: &mut [u16],
 )
     requires first_bound { first.0 ≤ 1121 }
-    requires rows_len { length rows.now ≡ 7680 }
     requires heard_len { length heard.old ≡ 5 }
     requires picture_len { length picture.old ≡ 38400 }
     ensures heard { heard.new ≡ put_one 1 flag first.0 heard.old (record { values = delivery; words = rows.now }) }
@@ -59,13 +57,12 @@ fn put_span(
 fn receive_all(
     first: StreamLine,
     symbols: &[u16],
-    rows: &mut [u16],
+    rows: &mut [u16; 7680],
     heard: &mut [u16],
     picture: &mut [u16],
 )
     requires first_bound { first.0 ≤ 1121 }
     requires symbols_len_bound { length symbols.now ≤ 95040 }
-    requires rows_len { length rows.old ≡ 7680 }
     requires heard_len { length heard.old ≡ 5 }
     requires picture_len { length picture.old ≡ 38400 }
     ensures heard { heard.new ≡ heard_from first.0 heard.old (delivery_from link symbols.now 0) }
@@ -73,18 +70,14 @@ fn receive_all(
 {
     let f = crate::link::link();
     let mut place = 0;
-    while place < symbols.len() {
+    loop {
         let next = finding::next::next_span(f, symbols, place, rows);
-        let answer = next.answer;
-        match answer {
-            NextSpan::Delivered(s) => {
-                put_span(first, s.delivery, rows, heard, picture);
-                place = next.after;
-            }
-            _ => {
-                return;
-            }
-        }
+        // None of these calls is refused.
+        let Some(s) = next.answer.unwrap_or(None) else {
+            return;
+        };
+        put_span(first, s.delivery, rows, heard, picture);
+        place = next.after;
     }
 }
 
@@ -92,16 +85,7 @@ fn receive_all(
 fn is_ready(first: StreamLine, symbols: usize, heard: usize, picture: usize) -> bool
     ensures { result ≡ receivable first.0 symbols heard picture }
 {
-    if 1121 < line::stream::number_of(first) {
-        return false;
-    }
-    if 95040 < symbols {
-        return false;
-    }
-    if heard != 5 {
-        return false;
-    }
-    picture == 38400
+    line::stream::number_of(first) <= 1121 && symbols <= 95040 && heard == 5 && picture == 38400
 }
 
 // Takes the symbols of five lines as received, and the first line's number. Gives 1 for each line delivered, else 0; and ten rows of the
@@ -113,8 +97,8 @@ pub fn receive(first: StreamLine, symbols: &[u16], heard: &mut [u16], picture: &
 {
     if is_ready(first, symbols.len(), heard.len(), picture.len()) {
         let mut rows = [0u16; 7680];
-        ground::fill::fill(heard, 0);
-        ground::fill::fill(picture, 0);
+        heard.fill(0);
+        picture.fill(0);
         receive_all(first, symbols, &mut rows, heard, picture);
         return true;
     }

@@ -4,64 +4,45 @@ ghost use Rattle.std.proofs.lemmas.List.Edits.{sets};
 ghost use Rattle.io.specs.Counts.{IsPrefixLen};
 ghost use Rattle.reception.specs.Summary.{delivered, first_lost, last_lost, item, blanking_text, lines_text, carried_text, lost_item, which, summary, paper_summarised, summarised_of, summary_put, CountsIn};
 
-use line::picture::{Carries, PictureLine};
+use line::picture::PictureLine;
 use line::stream::StreamLine;
 
-#[derive(Drop)]
-pub enum Summarised {
-    Bytes(usize),
+// Why there is no summary.
+#[derive(Clone, Copy, Debug, PartialEq, Eq)]
+pub enum SummaryError {
     // 3: these are not the flags of a frame's 1,125 lines.
     WrongInput,
     // 4: there is no room for 256 bytes.
     WrongOutput,
 }
 
+// The lines of a frame.
+const LINES: usize = 1125;
+
 // How many lines were delivered.
 fn count(heard: &[u16]) -> usize
     ensures value { result ≡ delivered heard.now }
     ensures upper_bound { result ≤ length heard.now }
 {
-    let mut n = 0;
-    let mut i = 0;
-    while i < heard.len() {
-        if heard[i] != 0 {
-            n += 1;
-        }
-        i += 1;
-    }
-    n
+    heard.iter().filter(|flag| **flag != 0).count()
 }
 
-// The first lost line.
+// The first lost line; 1 if none is lost.
 fn first_lost(heard: &[u16]) -> usize
     requires { length heard.now ≡ 1125 }
     ensures value { result ≡ first_lost heard.now }
     ensures upper_bound { result ≤ 1125 }
 {
-    let mut i = 0;
-    while i < heard.len() {
-        if heard[i] == 0 {
-            return i + 1;
-        }
-        i += 1;
-    }
-    1
+    heard.iter().position(|flag| *flag == 0).unwrap_or(0) + 1
 }
 
-// The last lost line.
+// The last lost line; 1 if none is lost.
 fn last_lost(heard: &[u16]) -> usize
     requires { length heard.now ≡ 1125 }
     ensures value { result ≡ last_lost heard.now }
     ensures upper_bound { result ≤ 1125 }
 {
-    let mut i = heard.len();
-    while 0 < i {
-        if heard[i - 1] == 0 {
-            return i;
-        }
-        i -= 1;
-    }
-    1
+    heard.iter().rposition(|flag| *flag == 0).unwrap_or(0) + 1
 }
 
 // A count, on a line of the text.
@@ -108,10 +89,10 @@ fn put_carried(l: StreamLine, out: &mut [u8], at: usize) -> usize
     ensures most { result ≤ at + 33 }
     ensures written { out.new ≡ sets out.old at (carried_text l.0) }
 {
-    let Carries::Line(odd) = picture::place::picture_line_on(l, 1) else {
+    let Some(odd) = picture::place::picture_line_on(l, 1) else {
         return put_blanking(out, at);
     };
-    let Carries::Line(even) = picture::place::picture_line_on(l, 3) else {
+    let Some(even) = picture::place::picture_line_on(l, 3) else {
         return put_blanking(out, at);
     };
     put_lines(odd, even, out, at)
@@ -163,16 +144,16 @@ fn put_all(heard: &[u16], out: &mut [u8]) -> usize
 }
 
 // The summary of a frame's flags, from the start of a lent buffer on; answers how many bytes were put. A refusal leaves the buffer.
-pub fn put_summary(heard: &[u16], out: &mut [u8]) -> Summarised
+pub fn put_summary(heard: &[u16], out: &mut [u8]) -> Result<usize, SummaryError>
     ensures counts { CountsIn result out.new }
     ensures answer { paper_summarised result ≡ summarised_of heard.now (length out.old) }
     ensures written { out.new ≡ summary_put heard.now out.old }
 {
-    if heard.len() != 1125 {
-        return Summarised::WrongInput;
+    if heard.len() != LINES {
+        return Err(SummaryError::WrongInput);
     }
     if out.len() < 256 {
-        return Summarised::WrongOutput;
+        return Err(SummaryError::WrongOutput);
     }
-    Summarised::Bytes(put_all(heard, out))
+    Ok(put_all(heard, out))
 }

@@ -1,70 +1,15 @@
 -- The search for K28.5: what it passes over is no place where a span may begin.
 -- Assumes nothing.
-use mathlib.Core.Path.{◌≡◌, sym, ap, ◌∙◌}
+use mathlib.Core.Path.{◌≡◌, sym, ◌∙◌}
 use mathlib.Core.Bool.{true, false, true≢false}
 use mathlib.Core.List.{List}
-use Prim.Native.Nat.{ℕ, zero, suc, ◌+◌, ◌-◌, ◌≤◌, ◌<◌}
-use native.Mathlib.Numerals.{add-one}
+use Prim.Native.Nat.{ℕ, ◌+◌, ◌-◌, ◌≤◌, ◌<◌}
 use native.Mathlib.Omega.{arith}
-use lib.Bits.{bit_or, or_add_and, and_le_l, and_le_r}
-use lib.Dec.{eqb, ltb}
+use lib.Dec.{ltb}
 use lib.ListN.{get_or}
-use borrow.Author.Tests.{ne_eqb, ltb-true, ltb-false}
+use borrow.Author.Tests.{ltb-true, ltb-false}
 use Rattle.ground.proofs.Cases.{on_test}
-use Rattle.symbol.specs.Code.{symbol_of}
-use Rattle.recording.specs.Inside.Look.{is_comma, comma_in, gathered, comma_at, begins_at, MayBegin, LookInv, Clear, LastInv}
-
--- ---- one symbol
-
--- the two forms of K28.5
-pub negative_form : (s : ℕ) → s ≡ 0x17C → comma_in s ≡ 1
-unfolding is_comma symbol_of
-negative_form s e = rw e
-
-pub positive_form : (s : ℕ) → s ≡ 0x283 → comma_in s ≡ 1
-unfolding is_comma symbol_of
-positive_form s e = rw e
-
-pub no_form : (s : ℕ) → (s ≡ 0x17C → ⊥) → (s ≡ 0x283 → ⊥) → comma_in s ≡ 0
-unfolding is_comma symbol_of
-no_form s x y = simp (ne_eqb s 0x17C x, ne_eqb s 0x283 y)
-
--- what the number says
-is_none : (s : ℕ) → comma_in s ≡ 0 → is_comma s ≡ false
-is_none s e = on_test (is_comma s) (λ t. let z : ◌≡◌ {A = ℕ} 1 0 = rw t at e in absurd (omega arith)) (λ t. t)
-
-pub is_comma_lem : (s : ℕ) → comma_in s ≡ 1 → is_comma s ≡ true
-is_comma_lem s e = on_test (is_comma s) (λ t. t) (λ t. let z : ◌≡◌ {A = ℕ} 0 1 = rw t at e in absurd (omega arith))
-
-pub not_comma : (s : ℕ) → (comma_in s ≡ 1 → ⊥) → is_comma s ≡ false
-not_comma s n = on_test (is_comma s) (λ t. absurd (n (rw t))) (λ t. t)
-
--- ---- many symbols at once
-
-module _ (mark : ℕ → ℕ) where
-  pub one_more : (n : ℕ) {x : ℕ} → x ≡ mark n → bit_or (gathered n mark) x ≡ gathered (n + 1) mark
-  unfolding gathered
-  one_more n e = rw e (sym (ap (λ (m : ℕ). gathered m mark) (add-one n)))
-
-  -- together 0: each is
-  each_none : (n : ℕ) → gathered n mark ≡ 0 → (k : ℕ) → k < n → mark k ≡ 0
-  unfolding gathered
-  each_none zero z k h = absurd (omega arith)
-  each_none (suc n) z k h =
-      let rest : gathered n mark ≡ 0 = omega (arith, or_add_and (gathered n mark) (mark n), and_le_r (gathered n mark) (mark n)) in
-      let last : mark n ≡ 0 = omega (arith, or_add_and (gathered n mark) (mark n), and_le_l (gathered n mark) (mark n)) in
-      on_test (ltb k n) (λ t. each_none n rest k (ltb-true k n t))
-      (λ t. let here : k ≡ n = omega (arith, ltb-false k n t) in ap mark here ∙ last)
-
--- ---- two symbols
-
-module _ (r : List ℕ) (q : ℕ) where
-  pub second_tells : {x : ℕ} → comma_in (get_or r q 0) ≡ 1 → x ≡ comma_in (get_or r (q + 1) 0) → eqb x 1 ≡ begins_at r q
-  second_tells first e =
-      on_test (is_comma (get_or r (q + 1) 0)) (λ t. rw (e, is_comma_lem (get_or r q 0) first, t)) (λ t. rw (e, is_comma_lem (get_or r q 0) first, t))
-
-  pub first_tells : (comma_in (get_or r q 0) ≡ 1 → ⊥) → false ≡ begins_at r q
-  first_tells n = rw (not_comma (get_or r q 0) n)
+use Rattle.recording.specs.Inside.Look.{is_comma, begins_at, MayBegin, LookInv, Clear, LastInv}
 
 module _ (r : List ℕ) where
   -- ---- the last K28.5 of a range, from its end backward
@@ -80,17 +25,12 @@ module _ (r : List ℕ) where
             on_test (ltb j k) (λ t. let here : j ≡ k - 1 = omega (arith, ltb-true j k t) in rw here e) (λ t. n.none j (ltb-false j k t) l);
       }
 
-  -- many symbols before
-  pub many_before : {k to from x : ℕ} (m : ℕ) → Clear r k to → from + m ≡ k → x ≡ gathered m (comma_at r from) → x ≡ 0 → Clear r from to
-  many_before {k} {to} {from} m n h e z =
+  -- one symbol behind
+  pub one_behind : {from k : ℕ} → Clear r from k → is_comma (get_or r k 0) ≡ false → Clear r from (k + 1)
+  one_behind {from} {k} n e =
       record {
         none = λ j p l.
-            on_test (ltb j k)
-            (λ t.
-            let below = ltb-true j k t in
-            let here : from + (j - from) ≡ j = omega arith in
-            is_none (get_or r j 0) (rw here at (each_none (comma_at r from) m (sym e ∙ z) (j - from) (omega arith))))
-            (λ t. n.none j (ltb-false j k t) l);
+            on_test (ltb j k) (λ t. n.none j p (ltb-true j k t)) (λ t. let here : j ≡ k = omega (arith, ltb-false j k t) in rw here e);
       }
 
   -- a run and what follows it

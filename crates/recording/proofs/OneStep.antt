@@ -15,8 +15,9 @@ use Rattle.span.specs.declared.format.Format.{Format}
 use Rattle.span.specs.Format.{is_known, shape_of, samples_in, symbols_in}
 use Rattle.delivery.specs.Delivery.{Found, followed}
 use Rattle.delivery.proofs.Finding.{at_the_end, next_then}
-use Rattle.recording.specs.declared.answer.NextSpan.{NextSpan}
-use Rattle.recording.specs.declared.answer.NextSpan.TheVariants.{Delivered, Nowhere, UnknownFormat, WrongInput, WrongOutput, WrongStart}
+use Rattle.std.specs.Prelude.{Option as Answered, Some, None, Result, Ok, Err}
+use Rattle.recording.specs.declared.answer.NextError.{NextError}
+use Rattle.recording.specs.declared.answer.NextError.TheVariants.{UnknownFormat, WrongInput, WrongOutput, WrongStart}
 use Rattle.recording.specs.declared.answer.Spanned.{Spanned}
 use Rattle.recording.specs.Call.{paper_next, spanned, next_of, end_or, after_next, words_or, rows_next}
 use Rattle.recording.specs.Recording.{limit, Reading, reading, next_from, delivery_from}
@@ -48,7 +49,7 @@ module _ (f : Format) (known : is_known f ≡ true) (r : List ℕ) where
     next : delivery_from f r start ≡ followed (next_from f r start) (λ e. delivery_from f r (e.place + n))
     next = next_then n (reading f) (span_whole f known) r start
 
-    pub stepped : {a : NextSpan} {s : Spanned} {after : ℕ} → a ≡ Delivered s → paper_next a ≡ next_of f r start (length rows)
+    pub stepped : {a : Result (Answered Spanned) NextError} {s : Spanned} {after : ℕ} → a ≡ Ok (Some s) → paper_next a ≡ next_of f r start (length rows)
         → after ≡ after_next f r start (length rows) → Stepped f r start rows s after
     stepped {a} {s} {after} is e at = go (next_from f r start) refl
       where
@@ -91,17 +92,11 @@ module _ (f : Format) (known : is_known f ≡ true) (r : List ℕ) where
     not_refused e = let z : ◌≡◌ {A = ℕ} 0 1 = cc (e ∙ answer) in omega arith
 
     -- so what does not deliver says that nothing is left
-    pub ended : (a : NextSpan) → ((s : Spanned) → a ≡ Delivered s → ⊥) → paper_next a ≡ next_of f r start (length rows)
+    pub ended : (a : Result (Answered Spanned) NextError) → ((s : Spanned) → a ≡ Ok (Some s) → ⊥) → paper_next a ≡ next_of f r start (length rows)
         → delivery_from f r start ≡ []
-    ended (Delivered s) x e = absurd (x s refl)
-    ended Nowhere x e = none_next e
-    ended UnknownFormat x e = absurd (not_refused e)
-    ended WrongInput x e = absurd (not_refused e)
-    ended WrongOutput x e = absurd (not_refused e)
-    ended WrongStart x e = absurd (not_refused e)
-
--- the keys of a `match` that are left after that of a delivery
-pub no_key : OneOf (1 ∷ 2 ∷ 3 ∷ 4 ∷ 5 ∷ []) 0 → ⊥
-no_key =
-    ⊎_elim (λ z. omega arith)
-    (⊎_elim (λ z. omega arith) (⊎_elim (λ z. omega arith) (⊎_elim (λ z. omega arith) (λ z. omega arith))))
+    ended (Ok (Some s)) x e = absurd (x s refl)
+    ended (Ok None) x e = none_next e
+    ended (Err UnknownFormat) x e = absurd (not_refused e)
+    ended (Err WrongInput) x e = absurd (not_refused e)
+    ended (Err WrongOutput) x e = absurd (not_refused e)
+    ended (Err WrongStart) x e = absurd (not_refused e)

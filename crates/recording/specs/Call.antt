@@ -1,28 +1,27 @@
 -- The two calls: finding a span, and finding and reading the next one (document 01, "Receiving and finding" and its table of refusals).
 -- Assumes nothing.
-use Rattle.std.specs.Prelude.{ℕ, ◌+◌, List, [], ◌∷◌, eqb, leb, length}
+use Rattle.std.specs.Prelude.{ℕ, ◌+◌, List, [], ◌∷◌, eqb, leb, length, Option as Answered, Result, Ok, Err}
 use Rattle.std.proofs.Math.Option.{Option, none, some}
-use Rattle.ground.specs.Answer.{Answer, refused, given, Row, unless, checked, unless_refused}
+use Rattle.ground.specs.Answer.{Answer, refused, given, Row, unless, checked, unless_refused, told}
 use Rattle.span.specs.declared.format.Format.{Format}
 use Rattle.span.specs.Format.{is_known, shape_of, samples_in, symbols_in}
 use Rattle.delivery.specs.Delivery.{Found as FoundAt}
 use Rattle.delivery.specs.Kept.{kept_from}
-use Rattle.recording.specs.declared.answer.Found.{Found}
-use Rattle.recording.specs.declared.answer.Found.TheVariants.{At, Nowhere, UnknownFormat, WrongInput, WrongStart}
-use Rattle.recording.specs.declared.answer.NextSpan.{NextSpan}
-use Rattle.recording.specs.declared.answer.NextSpan.TheVariants.{Delivered, Nowhere as NoSpan, UnknownFormat as NoFormat, WrongInput as NoInput, WrongOutput, WrongStart as NoStart}
+use Rattle.recording.specs.declared.answer.FindError.{FindError}
+use Rattle.recording.specs.declared.answer.FindError.TheVariants.{UnknownFormat, WrongInput, WrongStart}
+use Rattle.recording.specs.declared.answer.NextError.{NextError}
+use Rattle.recording.specs.declared.answer.NextError.TheVariants.{UnknownFormat as NoFormat, WrongInput as NoInput, WrongOutput, WrongStart as NoStart}
 use Rattle.recording.specs.declared.answer.Spanned.{Spanned}
 use Rattle.recording.specs.Recording.{limit, Reading, find_from, next_from}
 
 -- ---- finding
 
 -- the paper's number and value for each answer
-abbrev pub paper_found : Found → Answer (Option ℕ)
-paper_found (At place) = given (some place)
-paper_found Nowhere = given none
-paper_found UnknownFormat = refused 1 0
-paper_found WrongInput = refused 3 0
-paper_found WrongStart = refused 5 0
+abbrev pub paper_found : Result (Answered ℕ) FindError → Answer (Option ℕ)
+paper_found (Ok place) = given (told place)
+paper_found (Err UnknownFormat) = refused 1 0
+paper_found (Err WrongInput) = refused 3 0
+paper_found (Err WrongStart) = refused 5 0
 
 -- 1 for an unknown format, 3 for a recording that is too long, 5 for a start beyond it
 abbrev pub find_rows : Format → List ℕ → ℕ → List Row
@@ -33,13 +32,12 @@ find_of f r start = checked (find_rows f r start) (find_from f r start)
 
 -- ---- the next span
 
-abbrev pub paper_next : NextSpan → Answer (Option Spanned)
-paper_next (Delivered s) = given (some s)
-paper_next NoSpan = given none
-paper_next NoFormat = refused 1 0
-paper_next NoInput = refused 3 0
-paper_next WrongOutput = refused 4 0
-paper_next NoStart = refused 5 0
+abbrev pub paper_next : Result (Answered Spanned) NextError → Answer (Option Spanned)
+paper_next (Ok s) = given (told s)
+paper_next (Err NoFormat) = refused 1 0
+paper_next (Err NoInput) = refused 3 0
+paper_next (Err WrongOutput) = refused 4 0
+paper_next (Err NoStart) = refused 5 0
 
 -- what is answered for a span that is found: its place and the reader's values
 abbrev pub spanned : Option (FoundAt Reading) → Option Spanned

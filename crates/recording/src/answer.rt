@@ -1,11 +1,9 @@
-// What finding a span and the next span answer (document 01, "Receiving and finding" and its table of refusals).
+// What the next span answers, and why a call on a recording is refused (document 01, "Receiving and finding" and its table of refusals).
 use window::delivery::Delivery;
 
-// Where a span is found.
-#[derive(Drop)]
-pub enum Found {
-    At(usize),
-    Nowhere,
+// Why no span is searched for.
+#[derive(Clone, Copy, Debug, PartialEq, Eq)]
+pub enum FindError {
     // 1
     UnknownFormat,
     // 3
@@ -21,11 +19,9 @@ pub struct Spanned {
     pub delivery: Delivery,
 }
 
-// The next span.
-#[derive(Drop)]
-pub enum NextSpan {
-    Delivered(Spanned),
-    Nowhere,
+// Why the next span is not read.
+#[derive(Clone, Copy, Debug, PartialEq, Eq)]
+pub enum NextError {
     // 1
     UnknownFormat,
     // 3
@@ -36,9 +32,9 @@ pub enum NextSpan {
     WrongStart,
 }
 
-// The answer, and the place after it: the end of the span that is delivered, else the start.
+// The next span, if there is one, and the place after it: the end of the span that is delivered, else the start.
 #[derive(Drop)]
 pub struct Next {
-    pub answer: NextSpan,
+    pub answer: Result<Option<Spanned>, NextError>,
     pub after: usize,
 }

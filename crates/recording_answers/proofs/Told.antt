@@ -7,11 +7,12 @@ use Prim.Native.Nat.{ℕ}
 use Rattle.ground.specs.Answer.{Answer, given}
 use Rattle.ground.specs.Inside.Answer.{Injective}
 use Rattle.window.specs.declared.delivery.Delivery.{Delivery}
-use Rattle.recording.specs.declared.answer.Found.{Found}
-use Rattle.recording.specs.declared.answer.Found.TheVariants as Found
+use Rattle.std.specs.Prelude.{Option as Answered, Some, None, Result, Ok, Err}
+use Rattle.recording.specs.declared.answer.FindError.{FindError}
+use Rattle.recording.specs.declared.answer.FindError.TheVariants as Find
 use Rattle.recording.specs.declared.answer.Next.{Next}
-use Rattle.recording.specs.declared.answer.NextSpan.{NextSpan}
-use Rattle.recording.specs.declared.answer.NextSpan.TheVariants as NextSpan
+use Rattle.recording.specs.declared.answer.NextError.{NextError}
+use Rattle.recording.specs.declared.answer.NextError.TheVariants as Next
 use Rattle.recording.specs.declared.answer.Spanned.{Spanned}
 use Rattle.recording.specs.Call.{paper_found, paper_next}
 use Rattle.recording.proofs.OneToOne.{found_one_to_one, next_one_to_one}
@@ -24,38 +25,38 @@ use Rattle.span_answers.proofs.Told.{values_back, values_back_lem}
 find_back : FindAnswer → Answer (Option ℕ)
 find_back a = answer_by a.number 0 (cond a.found (some a.place) none)
 
-pub find_told : Injective (λ (r : Found). find_answer_of (paper_found r))
+pub find_told : Injective (λ (r : Result (Answered ℕ) FindError). find_answer_of (paper_found r))
 unfolding find_back
 find_told = through find_answer_of find_back back found_one_to_one
   where
-    back : (r : Found) → find_back (find_answer_of (paper_found r)) ≡ paper_found r
-    back (Found.At place) = refl
-    back Found.Nowhere = refl
-    back Found.UnknownFormat = refl
-    back Found.WrongInput = refl
-    back Found.WrongStart = refl
+    back : (r : Result (Answered ℕ) FindError) → find_back (find_answer_of (paper_found r)) ≡ paper_found r
+    back (Ok (Some place)) = refl
+    back (Ok None) = refl
+    back (Err Find.UnknownFormat) = refl
+    back (Err Find.WrongInput) = refl
+    back (Err Find.WrongStart) = refl
 
 next_back : NextAnswer → Answer (Option Spanned)
 next_back a =
     answer_by a.number 0 (cond a.found (some (record { place = a.place; delivery = values_back a.delivery })) none)
 
-next_back_lem : (r : NextSpan) (resume : ℕ) → next_back (next_answer_of (paper_next r) resume) ≡ paper_next r
+next_back_lem : (r : Result (Answered Spanned) NextError) (resume : ℕ) → next_back (next_answer_of (paper_next r) resume) ≡ paper_next r
 unfolding next_back
-next_back_lem (NextSpan.Delivered s) resume =
+next_back_lem (Ok (Some s)) resume =
     ap (λ (d : Delivery). given (some (record { place = s.place; delivery = d }))) (values_back_lem s.delivery)
-next_back_lem NextSpan.Nowhere resume = refl
-next_back_lem NextSpan.UnknownFormat resume = refl
-next_back_lem NextSpan.WrongInput resume = refl
-next_back_lem NextSpan.WrongOutput resume = refl
-next_back_lem NextSpan.WrongStart resume = refl
+next_back_lem (Ok None) resume = refl
+next_back_lem (Err Next.UnknownFormat) resume = refl
+next_back_lem (Err Next.WrongInput) resume = refl
+next_back_lem (Err Next.WrongOutput) resume = refl
+next_back_lem (Err Next.WrongStart) resume = refl
 
-resume_told : (r : NextSpan) (n : ℕ) → (next_answer_of (paper_next r) n).resume ≡ n
-resume_told (NextSpan.Delivered s) n = refl
-resume_told NextSpan.Nowhere n = refl
-resume_told NextSpan.UnknownFormat n = refl
-resume_told NextSpan.WrongInput n = refl
-resume_told NextSpan.WrongOutput n = refl
-resume_told NextSpan.WrongStart n = refl
+resume_told : (r : Result (Answered Spanned) NextError) (n : ℕ) → (next_answer_of (paper_next r) n).resume ≡ n
+resume_told (Ok (Some s)) n = refl
+resume_told (Ok None) n = refl
+resume_told (Err Next.UnknownFormat) n = refl
+resume_told (Err Next.WrongInput) n = refl
+resume_told (Err Next.WrongOutput) n = refl
+resume_told (Err Next.WrongStart) n = refl
 
 -- the answer, and where to go on
 pub next_told : Injective (λ (r : Next). next_answer_of (paper_next r.answer) r.after)
@@ -63,4 +64,4 @@ next_told a b p =
     let answer = next_one_to_one a.answer b.answer
     (sym (next_back_lem a.answer a.after) ∙ ap next_back p ∙ next_back_lem b.answer b.after) in
     let after = sym (resume_told a.answer a.after) ∙ ap (λ (n : NextAnswer). n.resume) p ∙ resume_told b.answer b.after in
-    ap₂ (λ (x : NextSpan) (n : ℕ). record { answer = x; after = n }) answer after
+    ap₂ (λ (x : Result (Answered Spanned) NextError) (n : ℕ). record { answer = x; after = n }) answer after

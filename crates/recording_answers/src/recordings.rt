@@ -5,7 +5,7 @@ ghost use Rattle.ground.specs.Answer.{refused, given};
 ghost use Rattle.recording.specs.Call.{paper_found, paper_next};
 ghost use Rattle.recording_answers.specs.Recordings.{find_answer_of, next_answer_of};
 
-use recording::answer::{Found, Next, NextSpan, Spanned};
+use recording::answer::{FindError, Next, NextError, Spanned};
 use span_answers::spans::Values;
 
 #[repr(C)]
@@ -36,28 +36,27 @@ fn found(number: u32, found: bool, place: usize) -> FindAnswer
     }
 }
 
-pub fn find_answer(r: Found) -> FindAnswer
+pub fn find_answer(r: Result<Option<usize>, FindError>) -> FindAnswer
     ensures { result ≡ find_answer_of (paper_found r) }
 {
     match r {
-        Found::At(place) => found(0, true, place),
-        Found::Nowhere => found(0, false, 0),
-        Found::UnknownFormat => found(1, false, 0),
-        Found::WrongInput => found(3, false, 0),
-        Found::WrongStart => found(5, false, 0),
+        Ok(Some(place)) => found(0, true, place),
+        Ok(None) => found(0, false, 0),
+        Err(FindError::UnknownFormat) => found(1, false, 0),
+        Err(FindError::WrongInput) => found(3, false, 0),
+        Err(FindError::WrongStart) => found(5, false, 0),
     }
 }
 
 fn delivered(s: Spanned, resume: usize) -> NextAnswer
     ensures { result ≡ next_answer_of (given (some s)) resume }
 {
-    let d = s.delivery;
     NextAnswer {
         number: 0,
         found: true,
         place: s.place as u64,
         resume: resume as u64,
-        delivery: span_answers::spans::values_of(d),
+        delivery: span_answers::spans::values_of(s.delivery),
     }
 }
 
@@ -77,13 +76,12 @@ fn none(number: u32, resume: usize) -> NextAnswer
 pub fn next_answer(r: Next) -> NextAnswer
     ensures { result ≡ next_answer_of (paper_next r.answer) r.after }
 {
-    let answer = r.answer;
-    match answer {
-        NextSpan::Delivered(s) => delivered(s, r.after),
-        NextSpan::Nowhere => none(0, r.after),
-        NextSpan::UnknownFormat => none(1, r.after),
-        NextSpan::WrongInput => none(3, r.after),
-        NextSpan::WrongOutput => none(4, r.after),
-        NextSpan::WrongStart => none(5, r.after),
+    match r.answer {
+        Ok(Some(s)) => delivered(s, r.after),
+        Ok(None) => none(0, r.after),
+        Err(NextError::UnknownFormat) => none(1, r.after),
+        Err(NextError::WrongInput) => none(3, r.after),
+        Err(NextError::WrongOutput) => none(4, r.after),
+        Err(NextError::WrongStart) => none(5, r.after),
     }
 }

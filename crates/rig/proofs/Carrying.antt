@@ -1,36 +1,36 @@
 -- Which pieces are carried, which calls are refused, and what each leaves in lent memory.
 -- Assumes nothing.
-use mathlib.Core.Path.{◌≡◌, refl, sym, ap, ◌∙◌}
+use mathlib.Core.Path.{◌≡◌, refl}
 use mathlib.Core.Bool.{false, cond}
-use mathlib.Core.List.{List}
 use Prim.Native.Nat.{ℕ, ◌<◌}
 use native.Mathlib.Omega.{arith}
 use lib.Dec.{eqb, ltb}
 use borrow.Author.Tests.{lt-ltb, le-ltb, eq-eqb, ne_eqb, eqb-true}
-use Rattle.ground.specs.Answer.{Answer, refused, given, unless_refused}
+use Rattle.std.specs.Prelude.{Result, Ok, Err}
+use Rattle.ground.specs.Answer.{Answer, refused, given}
 use Rattle.ground.specs.Inside.Answer.{Injective}
-use Rattle.ground.proofs.Answers.{told_again, when_refused, when_given}
+use Rattle.ground.proofs.Answers.{told_again}
 use Rattle.ground.proofs.Cases.{on_test}
 use Rattle.symbol.specs.declared.disparity.Disparity.{Disparity}
-use Rattle.rig.specs.declared.carry.Carried.{Carried}
-use Rattle.rig.specs.declared.carry.Carried.TheVariants.{After, NoPiece, WrongOutput}
+use Rattle.rig.specs.declared.carry.CarryError.{CarryError}
+use Rattle.rig.specs.declared.carry.CarryError.TheVariants.{NoPiece, WrongOutput}
 use Rattle.rig.specs.Frame.{line_of_piece}
 use Rattle.rig.specs.Piece.{paper_carried, carry_of}
 use Rattle.rig.specs.Sending.{after_from}
 
 -- ---- the answers are told apart by their numbers
 
-abbrev carried_again : Answer Disparity → Carried
-carried_again (refused number place) = cond (eqb number 2) NoPiece WrongOutput
-carried_again (given d) = After d
+abbrev carried_again : Answer Disparity → Result Disparity CarryError
+carried_again (refused number place) = Err (cond (eqb number 2) NoPiece WrongOutput)
+carried_again (given d) = Ok d
 
 pub carried_one_to_one : Injective paper_carried
 carried_one_to_one = told_again carried_again again
   where
-    again : (r : Carried) → carried_again (paper_carried r) ≡ r
-    again (After d) = refl
-    again NoPiece = refl
-    again WrongOutput = refl
+    again : (r : Result Disparity CarryError) → carried_again (paper_carried r) ≡ r
+    again (Ok d) = refl
+    again (Err NoPiece) = refl
+    again (Err WrongOutput) = refl
 
 -- ---- the refusals in the order tried
 
@@ -49,17 +49,3 @@ module _ (piece : ℕ) (d : Disparity) (heard picture : ℕ) where
 
     pub carries : heard ≡ 5 → picture ≡ 38400 → carry_of piece d heard picture ≡ given (after_from d (line_of_piece piece 0) 5)
     carries p q = simp (lt-ltb piece 225 there, eq-eqb heard 5 p, eq-eqb picture 38400 q)
-
--- ---- what a call promises: its answer, the flags and the rows
-
-abbrev Promised : Answer Disparity → Answer Disparity → List ℕ → List ℕ → List ℕ → List ℕ → List ℕ → List ℕ → Type 0
-Promised r is heard heardMade heardExit picture pictureMade pictureExit =
-    (r ≡ is) × ((heardExit ≡ unless_refused is heard heardMade) × (pictureExit ≡ unless_refused is picture pictureMade))
-
-module _ (heard heardMade picture pictureMade : List ℕ) {is : Answer Disparity} where
-  pub refuses : {number place : ℕ} → is ≡ refused number place → Promised (refused number place) is heard heardMade heard picture pictureMade picture
-  refuses e = (sym e, (when_refused heard heardMade e, when_refused picture pictureMade e))
-
-  pub gives : {after made : Disparity} {heardExit pictureExit : List ℕ} → is ≡ given made → after ≡ made → heardExit ≡ heardMade → pictureExit ≡ pictureMade
-      → Promised (given after) is heard heardMade heardExit picture pictureMade pictureExit
-  gives e a h p = (ap given a ∙ sym e, (h ∙ when_given heard heardMade e, p ∙ when_given picture pictureMade e))

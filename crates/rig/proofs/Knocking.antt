@@ -1,14 +1,14 @@
 -- Symbols that are struck, one after the other.
 -- Assumes nothing.
-use mathlib.Core.Path.{◌≡◌, refl, sym, ap, ap₂, ◌∙◌}
+use mathlib.Core.Path.{◌≡◌, refl, sym, ap, ◌∙◌}
 use mathlib.Core.Bool.{Bool, true, false, cond}
-use mathlib.Core.List.{List, [], ◌∷◌, ◌++◌, append-nil}
-use Prim.Native.Nat.{ℕ, zero, suc, ◌+◌, ◌≤◌, ◌<◌}
+use mathlib.Core.List.{List, [], ◌∷◌, ◌++◌}
+use Prim.Native.Nat.{ℕ, zero, suc, ◌+◌, ◌<◌}
 use native.Mathlib.Nat.{add-zero}
 use native.Mathlib.Numerals.{add-one}
 use native.Mathlib.Omega.{arith}
-use lib.ListN.{length, get_or, set, take, drop, length-append, take-append-drop, drop_of_length-le}
-use lib.Seq.{take-suc, set_at, take_all, length-take-le, append_snoc}
+use lib.ListN.{length, get_or, set, take, drop, length-append, take-append-drop}
+use lib.Seq.{take-suc, set_at, length-take-le, append_snoc}
 use Rattle.ground.proofs.Reading.{next_left_lem}
 use Rattle.rig.specs.declared.knock.Knock.{Knock}
 use Rattle.rig.specs.Knock.{struck}
@@ -58,12 +58,6 @@ module _ (k : Knock) where
         ∙ ap (λ (m : ℕ). m + length (drop i entry)) (length_knocked q (take i entry))
         ∙ sym (length-append (take i entry) (drop i entry))
         ∙ ap length (take-append-drop i entry)
-
-    pub all_done : (i : ℕ) → length entry ≤ i → {now : List ℕ} → now ≡ done_to i → now ≡ knocked k q entry
-    all_done i h e =
-        e
-        ∙ ap₂ (λ (x y : List ℕ). knocked k q x ++ y) (take_all i entry h) (drop_of_length-le entry h)
-        ∙ append-nil (knocked k q entry)
 
     module _ (i : ℕ) (h : i < length entry) where
       length_done : length (knocked k q (take i entry)) ≡ i

@@ -8,20 +8,21 @@ use native.Mathlib.Omega.{arith}
 use lib.ListN.{length, length-append}
 use lib.Seq.{sets}
 use borrow.Author.Tests.{lt-ltb}
-use Rattle.ground.specs.Answer.{refused, given}
+use Rattle.ground.specs.Answer.{given}
 use Rattle.ground.proofs.Answers.{when_given}
 use Rattle.ground.proofs.Ranges.{is_within}
 use Rattle.ground.proofs.Writing.{sets_append, sets_whole}
 use Rattle.symbol.specs.declared.disparity.Disparity.{Disparity}
 use Rattle.line.specs.Stream.{is_line, line_after}
-use Rattle.std.specs.Prelude.{None as NoneNamed}
+use Rattle.std.specs.Prelude.{None, Result, Ok}
+use Rattle.std.specs.Result.{result_unwrap_or}
 use Rattle.span.specs.declared.format.Format.{Format}
 use Rattle.span.specs.Span.{span_symbols, span_after, signal_from}
 use Rattle.span.specs.Stream.{Request}
 use Rattle.span.proofs.Lengths.{known_has_streams, length_of_symbols}
-use Rattle.request.specs.declared.sent.Sent.{Sent}
-use Rattle.request.specs.declared.sent.Sent.TheVariants.{After, UnknownFormat, NoLine, WrongInput, WrongOutput, NotAllowed}
+use Rattle.request.specs.declared.sent.SendError.{SendError}
 use Rattle.request.specs.Send.{request, paper_sent, send_of, sent_buffer}
+use Rattle.request.proofs.OneToOne.{sent_one_to_one}
 use Rattle.test_picture.specs.Putting.{samples_put}
 use Rattle.test_picture.specs.TestPicture.{test_samples}
 use Rattle.test_picture.proofs.Puttings.{puts_samples}
@@ -41,17 +42,17 @@ module _ (n : ℕ) (low : 1 ≤ n) (high : n ≤ 1125) where
   is_line_lem = is_within 1 1125 n low high
 
   pub line_sent : (d : Disparity) → send_of d link (request_on n) 19008 ≡ given (span_after d link (request_on n))
-  line_sent d = ap (send_of d link (request_on n)) (sym link_symbols) ∙ is_sent link n d NoneNamed link_known is_line_lem
+  line_sent d = ap (send_of d link (request_on n)) (sym link_symbols) ∙ is_sent link n d None link_known is_line_lem
 
   -- what the code asks for, where the format was answered
   pub asked_is : {f : Format} (words : List ℕ) {samples : List ℕ} → f ≡ link → length words ≡ 7680 → samples ≡ samples_put f n words
-      → request n NoneNamed samples ≡ request_on n
+      → request n None samples ≡ request_on n
   asked_is {f} words {samples} e long put =
       let are : samples ≡ test_samples link n =
       put
       ∙ ap (λ (g : Format). samples_put g n words) e
       ∙ sym (when_given words (test_samples link n) (puts_samples link n words link_known is_line_lem (long ∙ sym link_samples))) in
-      ap (request n NoneNamed) are
+      ap (request n None) are
 
   -- and what it is answered
   module _ (d : Disparity) {f : Format} {a : Request} (symbols : List ℕ) (e : f ≡ link) (is : a ≡ request_on n) (room : length symbols ≡ 19008) where
@@ -61,21 +62,11 @@ module _ (n : ℕ) (low : 1 ≤ n) (high : n ≤ 1125) where
         ∙ ap (send_of d link (request_on n)) room
         ∙ line_sent d
 
-    pub after_is : {r : Sent} {after : Disparity} → r ≡ After after → paper_sent r ≡ send_of d f a (length symbols) → after ≡ span_after d link (request_on n)
-    after_is {r} {after} x y =
-        let same : given after ≡ given (span_after d link (request_on n)) = sym (ap paper_sent x) ∙ y ∙ answer in
-        cc same
-
-    not_refused : {number place : ℕ} → refused number place ≡ send_of d f a (length symbols) → ⊥
-    not_refused x = let z : ◌≡◌ {A = ℕ} 0 1 = cc (x ∙ answer) in omega arith
-
-    pub is_after : (r : Sent) → ((after : Disparity) → r ≡ After after → ⊥) → paper_sent r ≡ send_of d f a (length symbols) → ⊥
-    is_after (After after) x y = x after refl
-    is_after UnknownFormat x y = not_refused y
-    is_after NoLine x y = not_refused y
-    is_after WrongInput x y = not_refused y
-    is_after WrongOutput x y = not_refused y
-    is_after (NotAllowed place) x y = not_refused y
+    pub after_is : (r : Result Disparity SendError) → paper_sent r ≡ send_of d f a (length symbols) → result_unwrap_or r d ≡ span_after d link (request_on n)
+    after_is r x =
+        let after = span_after d link (request_on n) in
+        let is_sent : r ≡ Ok after = sent_one_to_one r (Ok after) (x ∙ answer) in
+        ap (λ (q : Result Disparity SendError). result_unwrap_or q d) is_sent
 
     pub symbols_are : {out : List ℕ} → out ≡ sent_buffer d f a symbols → out ≡ span_symbols d link (request_on n)
     symbols_are x =

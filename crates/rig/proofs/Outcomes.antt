@@ -19,7 +19,7 @@ use Rattle.line.proofs.Travel.{carries}
 use Rattle.picture.specs.Place.{picture_line_on}
 use Rattle.picture.proofs.Places.{nothing_on, line_on}
 use Rattle.dividing.specs.Row.{divided}
-use Rattle.std.specs.Prelude.{None as NoneNamed}
+use Rattle.std.specs.Prelude.{None}
 use Rattle.span.specs.Format.{shape_of, streams}
 use Rattle.span.specs.Numbers.{IsFormat}
 use Rattle.span.specs.Stream.{Request, picture}
@@ -108,9 +108,9 @@ module _ (n : ℕ) (active : is_active n ≡ true) where
       let even = row_at link (2 * l) in
       let samples = divided 0 1920 odd ++ (divided 1 1920 odd ++ (divided 0 1920 even ++ divided 1 1920 even)) in
       let carried : samples ≡ test_samples link (l + 41) = sym (on_four link l p q four ∙ simp append_assoc) in
-      let is : request (l + 41) NoneNamed samples ≡ request_on n =
-      ap (request (l + 41) NoneNamed) carried ∙ ap request_on line in
-      let back = four_back link odd even l at_twelve refl p q (is_row (2 * l - 1)) (is_row (2 * l)) NoneNamed in
+      let is : request (l + 41) None samples ≡ request_on n =
+      ap (request (l + 41) None) carried ∙ ap request_on line in
+      let back = four_back link odd even l at_twelve refl p q (is_row (2 * l - 1)) (is_row (2 * l)) None in
       ap (λ (a : Request). both_rows (upto (streams (shape_of link)) (picture link a))) (sym is)
       ∙ ap₂ (λ (x y : List ℕ). x ++ y) (back.0 ∙ codes (2 * l - 1)) (back.1 ∙ codes (2 * l))
       ∙ sym (sent_on_active l n p q line)

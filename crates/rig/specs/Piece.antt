@@ -1,14 +1,14 @@
 -- A piece of the frame, sent, knocked, delivered and joined: what comes of it, in terms of the knock alone.
 -- Assumes nothing.
-use Rattle.std.specs.Prelude.{ℕ, cond, ◌&&◌, List, [], ◌∷◌, ◌++◌, eqb, ltb, length, replicate}
+use Rattle.std.specs.Prelude.{ℕ, cond, ◌&&◌, List, [], ◌∷◌, ◌++◌, eqb, ltb, length, replicate, Result, Ok, Err}
 use Rattle.std.proofs.Math.Option.{Option, none, some}
 use Rattle.ground.specs.Answer.{Answer, refused, given, unless, checked, unless_refused}
 use Rattle.ground.specs.Written.{upto, table}
 use Rattle.picture.specs.Place.{picture_line_on}
 use Rattle.symbol.specs.declared.disparity.Disparity.{Disparity}
 use Rattle.test_picture.specs.TestPicture.{test_row}
-use Rattle.rig.specs.declared.carry.Carried.{Carried}
-use Rattle.rig.specs.declared.carry.Carried.TheVariants.{After, NoPiece, WrongOutput}
+use Rattle.rig.specs.declared.carry.CarryError.{CarryError}
+use Rattle.rig.specs.declared.carry.CarryError.TheVariants.{NoPiece, WrongOutput}
 use Rattle.rig.specs.declared.knock.Knock.{Knock}
 use Rattle.rig.specs.Frame.{line_of_piece}
 use Rattle.rig.specs.Knock.{lost}
@@ -42,10 +42,10 @@ heard_in k piece = table 5 (λ i. cond (lost k (line_of_piece piece i)) 0 1)
 -- ---- the call
 
 -- the numbers are those that document 01 gives to lines and outputs
-abbrev pub paper_carried : Carried → Answer Disparity
-paper_carried (After d) = given d
-paper_carried NoPiece = refused 2 0
-paper_carried WrongOutput = refused 4 0
+abbrev pub paper_carried : Result Disparity CarryError → Answer Disparity
+paper_carried (Ok d) = given d
+paper_carried (Err NoPiece) = refused 2 0
+paper_carried (Err WrongOutput) = refused 4 0
 
 -- 2 if the frame, which has 225 pieces, has no such piece; then 4 if there is not room for five flags and ten rows. Otherwise the disparity
 -- after its spans.

@@ -1,8 +1,7 @@
 -- What the rig sends: the test picture, stream line after stream line, the disparity handed on.
 -- Assumes nothing.
-use Rattle.std.specs.Prelude.{ℕ, zero, suc}
+use Rattle.std.specs.Prelude.{ℕ, zero, suc, None}
 use Rattle.symbol.specs.declared.disparity.Disparity.{Disparity}
-use Rattle.std.specs.Prelude.{None as NoneNamed}
 use Rattle.span.specs.Span.{span_after}
 use Rattle.span.specs.Stream.{Request}
 use Rattle.request.specs.Send.{request}
@@ -11,7 +10,7 @@ use Rattle.reception.specs.Link.{link}
 
 -- what is requested on line n: its samples of the test picture, and no content bytes
 abbrev pub request_on : ℕ → Request
-request_on n = request n NoneNamed (test_samples link n)
+request_on n = request n None (test_samples link n)
 
 -- the disparity after m lines from line n on
 unfoldable pub after_from : Disparity → ℕ → ℕ → Disparity

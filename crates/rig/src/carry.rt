@@ -7,10 +7,9 @@ ghost use Rattle.rig.specs.Sending.{after_from};
 use crate::knock::Knock;
 use symbol::disparity::Disparity;
 
-#[derive(Drop)]
-pub enum Carried {
-    // The disparity after the piece.
-    After(Disparity),
+// Why a piece is not carried.
+#[derive(Clone, Copy, Debug, PartialEq, Eq)]
+pub enum CarryError {
     // 2
     NoPiece,
     // 4
@@ -51,21 +50,21 @@ pub fn carry(
     k: Knock,
     heard: &mut [u16],
     picture: &mut [u16],
-) -> Carried
+) -> Result<Disparity, CarryError>
     ensures answer { paper_carried result ≡ carry_of piece d (length heard.old) (length picture.old) }
     ensures heard { heard.new ≡ flags_carried k piece d heard.old (length picture.old) }
     ensures picture { picture.new ≡ rows_carried k piece d (length heard.old) picture.old }
 {
     if 225 <= piece {
-        return Carried::NoPiece;
+        return Err(CarryError::NoPiece);
     }
     if heard.len() != 5 {
-        return Carried::WrongOutput;
+        return Err(CarryError::WrongOutput);
     }
     if picture.len() != 38400 {
-        return Carried::WrongOutput;
+        return Err(CarryError::WrongOutput);
     }
     let mut symbols = [0u16; 95040];
     let mut words = [0u16; 7680];
-    Carried::After(carry_in(piece, d, k, &mut symbols, &mut words, heard, picture))
+    Ok(carry_in(piece, d, k, &mut symbols, &mut words, heard, picture))
 }

@@ -15,10 +15,7 @@ fn is_struck(k: Knock, q: u64) -> bool
     ensures { result ≡ struck k q }
 {
     let begin = k.place as u64;
-    if q < begin {
-        return false;
-    }
-    q < begin + k.long as u64
+    begin <= q && q < begin + k.long as u64
 }
 
 // The symbols of a piece that begins at place `from` of the frame: those struck become 0.
@@ -26,11 +23,9 @@ pub(crate) fn strike(k: Knock, from: usize, symbols: &mut [u16])
     requires { from + length symbols.old ≤ 21384000 }
     ensures { symbols.new ≡ knocked k from symbols.old }
 {
-    let mut i = 0;
-    while i < symbols.len() {
+    for (i, symbol) in symbols.iter_mut().enumerate() {
         if is_struck(k, (from + i) as u64) {
-            symbols[i] = 0;
+            *symbol = 0;
         }
-        i += 1;
     }
 }

@@ -6,8 +6,6 @@ ghost use Rattle.rig.specs.Sending.{request_on, after_from};
 ghost use Rattle.rig.specs.Inside.Sending.{sent_from};
 
 use line::stream::StreamLine;
-use request::sent::Sent;
-use span::content::Content;
 use symbol::disparity::Disparity;
 
 // The span of a line. Its samples go into words lent for them.
@@ -20,11 +18,9 @@ fn send_line(l: StreamLine, d: Disparity, words: &mut [u16], symbols: &mut [u16]
     ensures symbols { symbols.new ≡ span_symbols d link (request_on l.0) }
 {
     let f = reception::link::link();
-    test_picture::samples::put_samples(f, l, words);
-    match send::send::send(f, l, d, Content::NoneNamed, words, symbols) {
-        Sent::After(after) => after,
-        _ => d,
-    }
+    // Neither call refuses a line of the frame.
+    let _ = test_picture::samples::put_samples(f, l, words);
+    send::send::send(f, l, d, None, words, symbols).unwrap_or(d)
 }
 
 // The spans of five lines, the first of which is given.
@@ -43,13 +39,11 @@ pub(crate) fn send_piece(
 {
     let mut l = first;
     let mut d = before;
-    let mut k = 0;
-    while k < 5 {
+    for k in 0..5 {
         let at = 19008 * k;
         let end = at + 19008;
         d = send_line(l, d, words, &mut symbols[at..end]);
         l = line::stream::line_after(l);
-        k += 1;
     }
     d
 }

@@ -2,12 +2,12 @@
 -- Assumes nothing.
 use mathlib.Core.Path.{◌≡◌, refl, sym, ap, ap₂, ◌∙◌}
 use mathlib.Core.Bool.{Bool, cond}
-use mathlib.Core.List.{List, [], ◌++◌, append-nil}
+use mathlib.Core.List.{List}
 use Prim.Native.Nat.{ℕ, ◌+◌, ◌-◌, ◌≤◌, ◌<◌}
 use native.Mathlib.Omega.{arith}
 use lib.Dec.{eqb, ltb}
-use lib.ListN.{length, get_or, set, take, replicate, length-replicate, get_or-replicate, get_or-eq_default}
-use lib.Seq.{take_all, get_or-set_same, get_or-set_other}
+use lib.ListN.{length, get_or, set, replicate, length-replicate, get_or-replicate, get_or-eq_default}
+use lib.Seq.{get_or-set_same, get_or-set_other}
 use borrow.Author.Tests.{eqb-true, eqb-false, eq-eqb, ne_eqb, ltb-true, ltb-false, lt-ltb, le-ltb}
 use Rattle.ground.specs.Written.{table}
 use Rattle.ground.specs.Xor.{◌⊕◌}
@@ -29,10 +29,6 @@ empty_room =
           on_test (ltb k 1984) (λ t. get_or-replicate 1984 k 0 0 (ltb-true k 1984 t))
           (λ t. get_or-eq_default (replicate 1984 0) 0 {n = k} (rw (length-replicate {A = ℕ} 1984 0) (ltb-false k 1984 t)));
     }
-
--- all of it, as the code lends it
-pub whole_room : (l : List ℕ) → length l ≡ 1984 → take 1984 (l ++ []) ≡ l
-whole_room l e = ap (take 1984) (append-nil l) ∙ take_all 1984 l (omega arith)
 
 -- ---- one word
 

@@ -22,9 +22,8 @@ pub(crate) struct Two {
 }
 
 // Word j of a row, with what has been moved to it.
-fn with_moved(row: &[u16], moved: &[u16], j: usize) -> u16
+fn with_moved(row: &[u16], moved: &[u16; 1984], j: usize) -> u16
     requires row_len { length row.now ≡ 1920 }
-    requires moved_len { length moved.now ≡ 1984 }
     requires j_bound { j < 1920 }
     ensures { result ≡ with_moved row.now moved.now j }
 {
@@ -32,11 +31,9 @@ fn with_moved(row: &[u16], moved: &[u16], j: usize) -> u16
 }
 
 // Moves the first words of a row, each with what has been moved to it; word j is put at 139 + j.
-fn fold(row: &[u16], moved: &mut [u16])
+fn fold(row: &[u16], moved: &mut [u16; 1984])
     requires row_len { length row.now ≡ 1920 }
-    requires moved_len { length moved.old ≡ 1984 }
     requires empty { Empty moved.old }
-    ensures size { length moved.new ≡ 1984 }
     ensures folds { FoldInv row.now moved.new 1781 }
 {
     for j in 0..FOLDED {
@@ -45,11 +42,9 @@ fn fold(row: &[u16], moved: &mut [u16])
 }
 
 // The CRC of the last 139 words of two rows, a and b, each with what has been moved to it. The two are computed side by side.
-fn crc_of_last(a: &[u16], ma: &[u16], b: &[u16], mb: &[u16]) -> Two
+fn crc_of_last(a: &[u16], ma: &[u16; 1984], b: &[u16], mb: &[u16; 1984]) -> Two
     requires a_len { length a.now ≡ 1920 }
-    requires ma_len { length ma.now ≡ 1984 }
     requires b_len { length b.now ≡ 1920 }
-    requires mb_len { length mb.now ≡ 1984 }
     requires fold_inv { FoldInv a.now ma.now 1781 }
     requires fold_inv_2 { FoldInv b.now mb.now 1781 }
     ensures { result ≡ record { a = crc 0 (words_in a.entry.now 0); b = crc 0 (words_in b.now 0) } }
@@ -71,8 +66,7 @@ pub(crate) fn crc_of_two(a: &[u16], b: &[u16]) -> Two
 {
     let mut ma = [0u16; 1984];
     let mut mb = [0u16; 1984];
-    let m = ma.len();
-    fold(a, &mut ma[..m]);
-    fold(b, &mut mb[..m]);
-    crc_of_last(a, &ma[..m], b, &mb[..m])
+    fold(a, &mut ma);
+    fold(b, &mut mb);
+    crc_of_last(a, &ma, b, &mb)
 }

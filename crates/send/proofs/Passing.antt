@@ -1,6 +1,6 @@
 -- The picture words put pair by pair.
 -- Assumes nothing.
-use Rattle.std.proofs.Common.{◌≡◌, ℕ, zero, suc, ◌+◌, ◌*◌, ◌/◌, ◌%◌, ◌<◌, ◌≤◌, List, [], ◌∷◌, ◌++◌, length, get_or, sym, refl, ap, ◌∙◌, ap₂, mul-zero, mul-suc, arith, eq-eqb, ne_eqb}
+use Rattle.std.proofs.Common.{◌≡◌, ℕ, zero, suc, ◌+◌, ◌*◌, ◌<◌, ◌≤◌, List, [], ◌∷◌, ◌++◌, length, get_or, sym, refl, ap, ◌∙◌, ap₂, mul-zero, mul-suc, arith, eq-eqb, ne_eqb}
 use Rattle.ground.specs.Written.{upto}
 use Rattle.ground.proofs.Writing.{upto_more, upto_split, upto_same, length_upto}
 use Rattle.encoder.specs.Inside.Tables.{offset_of, of_offset}
@@ -9,17 +9,13 @@ use Rattle.crcc.specs.Crcc.{crc}
 use Rattle.crcc.specs.Inside.Sums.{sum_in}
 use Rattle.row_crc.specs.Inside.Sums.{stream_row}
 use Rattle.row_crc.specs.Inside.Sums.{sums_in}
-use Rattle.send.specs.Inside.Put.{offset_after, put, pair_chars, group_chars, picture_word, pair_chars_at, picture_chars}
+use Rattle.send.specs.Inside.Put.{offset_after, put, pair_chars, group_chars, picture_word, pair_chars_at, pair_place, picture_chars}
 use Rattle.send.proofs.Putting.{PutChars, made, renamed, then, length_group}
 
 pub length_picture : (pairs : ℕ) (w : ℕ → ℕ → ℕ) (n : ℕ) → length (picture_chars pairs n w) ≡ 3 * pairs * n
 unfolding picture_chars
 length_picture pairs w n =
     length_upto (3 * pairs) (λ j. group_chars pairs (λ t. w t j)) (λ j. length_group pairs (λ t. w t j)) n
-
--- where pair m of those sent, word by word, has its first word
-abbrev pair_place : ℕ → ℕ → ℕ
-pair_place pairs m = 3840 * (m % pairs) + m / pairs
 
 -- pair u of word n
 place_is : (pairs : ℕ) → 1 ≤ pairs → pairs ≤ 2 → (n u : ℕ) → u < pairs → pair_place pairs (pairs * n + u) ≡ 3840 * u + n

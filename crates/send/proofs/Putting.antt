@@ -68,6 +68,11 @@ module _ {d at e : ℕ} {cs before after : List ℕ} (p : PutChars d cs at befor
       buffers : put e ds place after ≡ put d (cs ++ ds) at before
       buffers = one_buffer d e at place cs ds before after told p.out q
 
+-- the offset after a run is one
+pub one_after : (d e : ℕ) (cs : List ℕ) → e ≡ offset_after d cs → e ≡ offset_of (of_offset e)
+unfolding offset_after
+one_after d e cs p = p ∙ ap offset_of (sym (ap of_offset p ∙ offset_after_is d cs))
+
 -- a run that fills the buffer is all that stands in it
 pub whole : {d e : ℕ} {cs before after : List ℕ} → PutChars d cs 0 before e after → length cs ≡ length before
     → after ≡ symbols_from (of_offset d) cs

@@ -17,9 +17,9 @@ module _ (factor : ℕ) (xs : List ℕ) where
     no_words = refl
 
     -- one word more
-    pub one_word : (n : ℕ) → set (words_upto room n) n (get_or xs n 0 * factor) ≡ words_upto room (n + 1)
+    pub one_word : (n : ℕ) {ws : List ℕ} {v : ℕ} → ws ≡ words_upto room n → v ≡ get_or xs n 0 * factor → set ws n v ≡ words_upto room (n + 1)
     unfolding words_upto
-    one_word n = sets_upto 1 (λ i. get_or xs i 0 * factor ∷ []) (λ m. refl) room 0 n n (omega arith)
+    one_word n p q = rw (p, q) (sets_upto 1 (λ i. get_or xs i 0 * factor ∷ []) (λ m. refl) room 0 n n (omega arith))
 
     -- all of them
     pub all_words_lem : length room ≡ length xs → words_upto room (length xs) ≡ scaled_words factor xs

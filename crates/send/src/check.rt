@@ -3,18 +3,15 @@ ghost use Rattle.std.specs.Prelude.{◌≡◌, ◌≤◌, ◌==◌};
 ghost use Rattle.ground.specs.Range.{within};
 ghost use Rattle.request.specs.Inside.Check.{all_within, first_outside};
 
+use ground::range::within;
+
 // 0 if a sample is within the bounds, else how far above them it is. One below the bounds counts as far above, since the difference wraps.
 // So the loop is one wrapping and one saturating difference, of eight samples at a time.
 fn outside(low: u16, high: u16, x: u16) -> u16
     requires { low ≤ high }
     ensures { (result == 0) ≡ within low high x }
 {
-    let y = std::num::wrapping_sub_u16(x, low);
-    let room = high - low;
-    if room < y {
-        return y - room;
-    }
-    0
+    x.wrapping_sub(low).saturating_sub(high - low)
 }
 
 // Whether none is outside. No early exit, so that the loop takes many at a time.
@@ -23,10 +20,8 @@ fn none_outside(low: u16, high: u16, samples: &[u16]) -> bool
     ensures { result ≡ all_within low high samples.now }
 {
     let mut found = 0;
-    let mut i = 0;
-    while i < samples.len() {
-        found = found | outside(low, high, samples[i]);
-        i += 1;
+    for x in samples {
+        found |= outside(low, high, *x);
     }
     found == 0
 }
@@ -39,13 +34,6 @@ pub(crate) fn first_outside(low: u16, high: u16, samples: &[u16]) -> usize
     if none_outside(low, high, samples) {
         return samples.len();
     }
-    let mut i = 0;
-    while i < samples.len() {
-        if ground::range::within(low, high, samples[i]) {
-            i += 1;
-        } else {
-            return i;
-        }
-    }
-    i
+    let first = samples.iter().position(|x| !within(low, high, *x));
+    first.unwrap_or(samples.len())
 }

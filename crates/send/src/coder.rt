@@ -1,8 +1,9 @@
 // Characters to symbols through the lent tables, with the running disparity kept as its offset in them.
 ghost use Rattle.std.specs.Prelude.{◌≡◌, ◌<◌};
-ghost use Rattle.encoder.specs.Inside.Tables.{offset_of, of_offset, symbol_table};
-ghost use Rattle.encoder.specs.Inside.Tables.{flip_table};
+ghost use Rattle.encoder.specs.Inside.Tables.{offset_of, of_offset};
 ghost use Rattle.send.specs.Inside.Put.{coded, three_of};
+
+use encoder::tables::Tables;
 
 #[derive(Drop)]
 pub(crate) struct Coded {
@@ -20,40 +21,29 @@ pub(crate) struct Three {
 }
 
 // The symbol of character c at offset d, and the offset after it.
-pub(crate) fn code(symbols: &[u16; 536], flips: &[u16; 268], d: usize, c: u16) -> Coded
-    requires symbols_value { symbols.now ≡ symbol_table }
-    requires flips_value { flips.now ≡ flip_table }
+pub(crate) fn code(tables: Tables, d: usize, c: u16) -> Coded
     requires d_value { d ≡ offset_of (of_offset d) }
     requires c_bound { c < 268 }
     ensures { result ≡ coded (of_offset d) c }
 {
-    let flip = flips[c as usize];
+    let flip = tables.flips[c as usize];
     Coded {
-        symbol: symbols[d + c as usize],
+        symbol: tables.symbols[d + c as usize],
         offset: d ^ flip as usize,
     }
 }
 
 // The symbols of characters x, y and z in turn.
-pub(crate) fn code_three(
-    symbols: &[u16; 536],
-    flips: &[u16; 268],
-    d: usize,
-    x: u16,
-    y: u16,
-    z: u16,
-) -> Three
-    requires symbols_value { symbols.now ≡ symbol_table }
-    requires flips_value { flips.now ≡ flip_table }
+pub(crate) fn code_three(tables: Tables, d: usize, x: u16, y: u16, z: u16) -> Three
     requires d_value { d ≡ offset_of (of_offset d) }
     requires x_bound { x < 268 }
     requires y_bound { y < 268 }
     requires z_bound { z < 268 }
     ensures { result ≡ three_of (of_offset d) x y z }
 {
-    let first = code(symbols, flips, d, x);
-    let second = code(symbols, flips, first.offset, y);
-    let third = code(symbols, flips, second.offset, z);
+    let first = code(tables, d, x);
+    let second = code(tables, first.offset, y);
+    let third = code(tables, second.offset, z);
     Three {
         first: first.symbol,
         second: second.symbol,

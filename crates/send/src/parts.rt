@@ -1,20 +1,22 @@
 // A span, part by part.
+#![tactic(auto, using(crate::proofs::Putting::one_after))]
+
 ghost use Rattle.std.specs.Prelude.{◌≡◌, ◌+◌, ◌*◌, ◌≤◌, length};
-ghost use Rattle.encoder.specs.Inside.Tables.{offset_of, of_offset, symbol_table};
-ghost use Rattle.encoder.specs.Inside.Tables.{flip_table};
+ghost use Rattle.encoder.specs.Inside.Tables.{offset_of, of_offset};
 ghost use Rattle.line.specs.Stream.{line_after};
 ghost use Rattle.span.specs.Format.{symbols_in};
 ghost use Rattle.span.specs.Inside.Format.{Small};
 ghost use Rattle.span.specs.Inside.Layout.{ancillary_symbol};
 ghost use Rattle.send.specs.Inside.Put.{offset_after, put, crcc_after, crcc_chars, after_picture_chars, AreWords, KeepsDisparity, blanking_chars, whole_chars};
 
-use crate::put::Four;
 use crcc::crcc::CrccWords;
 use crcc::sums::Sums;
+use encoder::tables::Tables;
 use line::stream::StreamLine;
 use span::content::ContentBytes;
 use span::format::Shape;
 use span::layout::{ANCILLARY_SYMBOL, EAV_SYMBOL, PICTURE_SYMBOL};
+use symbol::special::Special;
 use word::line_number::LineWords;
 
 // The CRCC words of a stream whose picture words leave c: the CRC runs on over the EAV and the line number.
@@ -31,8 +33,7 @@ fn crcc_after(c: u32, xyz: u16, n: LineWords) -> CrccWords
 
 // The CRCC words of each stream.
 fn put_crcc(
-    symbols: &[u16; 536],
-    flips: &[u16; 268],
+    tables: Tables,
     pairs: usize,
     d: usize,
     sums: Sums,
@@ -41,8 +42,6 @@ fn put_crcc(
     out: &mut [u16],
     at: usize,
 ) -> usize
-    requires symbols_value { symbols.now ≡ symbol_table }
-    requires flips_value { flips.now ≡ flip_table }
     requires le_pairs { 1 ≤ pairs }
     requires pairs_bound { pairs ≤ 2 }
     requires d_value { d ≡ offset_of (of_offset d) }
@@ -54,26 +53,15 @@ fn put_crcc(
     let b = crcc_after(sums.second, xyz, n);
     let c = crcc_after(sums.third, xyz, n);
     let e = crcc_after(sums.fourth, xyz, n);
-    let first = Four {
-        a: a.crcc0,
-        b: b.crcc0,
-        c: c.crcc0,
-        e: e.crcc0,
-    };
-    let second = Four {
-        a: a.crcc1,
-        b: b.crcc1,
-        c: c.crcc1,
-        e: e.crcc1,
-    };
-    let d1 = crate::put::put_four(symbols, flips, pairs, d, first, out, at);
-    crate::put::put_four(symbols, flips, pairs, d1, second, out, at + 3 * pairs)
+    let first = [a.crcc0, b.crcc0, c.crcc0, e.crcc0];
+    let second = [a.crcc1, b.crcc1, c.crcc1, e.crcc1];
+    let d1 = crate::put::put_four(tables, pairs, d, first, out, at);
+    crate::put::put_four(tables, pairs, d1, second, out, at + 3 * pairs)
 }
 
 // EAV, line number and CRCC, with V and the number of the line after l.
 pub(crate) fn put_after_picture(
-    symbols: &[u16; 536],
-    flips: &[u16; 268],
+    tables: Tables,
     pairs: usize,
     d: usize,
     sums: Sums,
@@ -82,8 +70,6 @@ pub(crate) fn put_after_picture(
     out: &mut [u16],
     at: usize,
 ) -> usize
-    requires symbols_value { symbols.now ≡ symbol_table }
-    requires flips_value { flips.now ≡ flip_table }
     requires le_pairs { 1 ≤ pairs }
     requires pairs_bound { pairs ≤ 2 }
     requires d_value { d ≡ offset_of (of_offset d) }
@@ -95,43 +81,23 @@ pub(crate) fn put_after_picture(
     let n = word::line_number::words_after(l);
     let xyz = word::timing::timing_word(line::stream::v_of(next), true);
     let d1 = crate::timing::put_timing(
-        symbols,
-        flips,
+        tables,
         pairs,
         d,
-        crate::timing::K29_7,
+        Special::K29_7,
         content.eav1,
         content.eav2,
         xyz,
         out,
         at,
     );
-    let d2 = crate::put::put_same(symbols, flips, pairs, d1, n.ln0, out, at + 12 * pairs);
-    let d3 = crate::put::put_same(symbols, flips, pairs, d2, n.ln1, out, at + 15 * pairs);
-    put_crcc(
-        symbols,
-        flips,
-        pairs,
-        d3,
-        sums,
-        xyz,
-        n,
-        out,
-        at + 18 * pairs,
-    )
+    let d2 = crate::put::put_same(tables, pairs, d1, n.ln0, out, at + 12 * pairs);
+    let d3 = crate::put::put_same(tables, pairs, d2, n.ln1, out, at + 15 * pairs);
+    put_crcc(tables, pairs, d3, sums, xyz, n, out, at + 18 * pairs)
 }
 
 // The ancillary area and the fill: a run of one word each, which leaves the disparity as it was.
-fn put_blanking(
-    symbols: &[u16; 536],
-    flips: &[u16; 268],
-    p: Shape,
-    blank: u16,
-    d: usize,
-    out: &mut [u16],
-)
-    requires symbols_value { symbols.now ≡ symbol_table }
-    requires flips_value { flips.now ≡ flip_table }
+fn put_blanking(tables: Tables, p: Shape, blank: u16, d: usize, out: &mut [u16])
     requires bound { 1 ≤ p.stream_pairs }
     requires small { Small p }
     requires keeps_disparity { KeepsDisparity blank }
@@ -142,14 +108,13 @@ fn put_blanking(
     let area = p.stream_pairs * p.ancillary;
     let start = ANCILLARY_SYMBOL * p.stream_pairs;
     let fill = span::blanking::fill_word();
-    crate::put::put_long_run(symbols, flips, area, d, blank, out, start);
-    crate::put::put_long_run(symbols, flips, p.fill_pairs, d, fill, out, start + 3 * area);
+    crate::put::put_long_run(tables, area, d, blank, out, start);
+    crate::put::put_long_run(tables, p.fill_pairs, d, fill, out, start + 3 * area);
 }
 
 // The whole span, of at most two pairs of streams: SAV and picture, what comes after it, and blanking.
 pub(crate) fn put_span(
-    symbols: &[u16; 536],
-    flips: &[u16; 268],
+    tables: Tables,
     p: Shape,
     l: StreamLine,
     content: ContentBytes,
@@ -158,8 +123,6 @@ pub(crate) fn put_span(
     d: usize,
     out: &mut [u16],
 ) -> usize
-    requires symbols_value { symbols.now ≡ symbol_table }
-    requires flips_value { flips.now ≡ flip_table }
     requires bound { 1 ≤ p.stream_pairs }
     requires small { Small p }
     requires keeps_disparity { KeepsDisparity blank }
@@ -173,11 +136,10 @@ pub(crate) fn put_span(
     let pairs = p.stream_pairs;
     let xyz = word::timing::timing_word(line::stream::v_of(l), false);
     let d1 = crate::timing::put_timing(
-        symbols,
-        flips,
+        tables,
         pairs,
         d,
-        crate::timing::K28_5,
+        Special::K28_5,
         content.sav1,
         content.sav2,
         xyz,
@@ -186,9 +148,9 @@ pub(crate) fn put_span(
     );
     let start = PICTURE_SYMBOL * pairs;
     let end = EAV_SYMBOL * pairs;
-    let q = crate::picture_words::put_picture(symbols, flips, pairs, words, d1, out, start);
+    let q = crate::picture_words::put_picture(tables, pairs, words, d1, out, start);
     let sums = q.sums;
-    let d2 = put_after_picture(symbols, flips, pairs, q.offset, sums, l, content, out, end);
-    put_blanking(symbols, flips, p, blank, d2, out);
+    let d2 = put_after_picture(tables, pairs, q.offset, sums, l, content, out, end);
+    put_blanking(tables, p, blank, d2, out);
     d2
 }

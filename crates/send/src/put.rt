@@ -1,22 +1,15 @@
 // Pieces of a span, put into the symbol buffer at a place.
-ghost use Rattle.std.specs.Prelude.{◌≡◌, ◌+◌, ◌-◌, ◌*◌, ◌/◌, ◌%◌, ◌<◌, ◌≤◌, [], ◌∷◌, length};
-ghost use Rattle.encoder.specs.Inside.Tables.{offset_of, of_offset, symbol_table};
-ghost use Rattle.encoder.specs.Inside.Tables.{flip_table};
-ghost use Rattle.send.specs.Inside.Put.{offset_after, put, pair_chars, group_chars, word_of_four, run_chars, repeated, KeepsDisparity};
+#![tactic(auto, using(crate::proofs::Putting::one_after))]
 
-// One word of each stream; with two streams the last two are not used.
-#[derive(Drop)]
-pub(crate) struct Four {
-    pub(crate) a: u16,
-    pub(crate) b: u16,
-    pub(crate) c: u16,
-    pub(crate) e: u16,
-}
+ghost use Rattle.std.specs.Prelude.{◌≡◌, ◌+◌, ◌-◌, ◌*◌, ◌/◌, ◌%◌, ◌<◌, ◌≤◌, [], ◌∷◌, length, slice_index};
+ghost use Rattle.encoder.specs.Inside.Tables.{offset_of, of_offset};
+ghost use Rattle.send.specs.Inside.Put.{offset_after, put, pair_chars, group_chars, run_chars, repeated, KeepsDisparity};
+
+use encoder::tables::Tables;
 
 // The symbols of characters x, y and z.
 pub(crate) fn put_three(
-    symbols: &[u16; 536],
-    flips: &[u16; 268],
+    tables: Tables,
     d: usize,
     x: u16,
     y: u16,
@@ -24,8 +17,6 @@ pub(crate) fn put_three(
     out: &mut [u16],
     at: usize,
 ) -> usize
-    requires symbols_value { symbols.now ≡ symbol_table }
-    requires flips_value { flips.now ≡ flip_table }
     requires d_value { d ≡ offset_of (of_offset d) }
     requires x_bound { x < 268 }
     requires y_bound { y < 268 }
@@ -34,7 +25,7 @@ pub(crate) fn put_three(
     ensures offset { result ≡ offset_after d (x ∷ y ∷ z ∷ []) }
     ensures out { out.new ≡ put d (x ∷ y ∷ z ∷ []) at out.old }
 {
-    let t = crate::coder::code_three(symbols, flips, d, x, y, z);
+    let t = crate::coder::code_three(tables, d, x, y, z);
     out[at] = t.first;
     out[at + 1] = t.second;
     out[at + 2] = t.third;
@@ -43,16 +34,13 @@ pub(crate) fn put_three(
 
 // The symbols of the three bytes of words a and b.
 pub(crate) fn put_pair(
-    symbols: &[u16; 536],
-    flips: &[u16; 268],
+    tables: Tables,
     d: usize,
     a: u16,
     b: u16,
     out: &mut [u16],
     at: usize,
 ) -> usize
-    requires symbols_value { symbols.now ≡ symbol_table }
-    requires flips_value { flips.now ≡ flip_table }
     requires d_value { d ≡ offset_of (of_offset d) }
     requires at_in_bounds { at + 3 ≤ length out.old }
     ensures offset { result ≡ offset_after d (pair_chars a b) }
@@ -60,8 +48,7 @@ pub(crate) fn put_pair(
 {
     let t = packing::bytes::bytes_of(a, b);
     put_three(
-        symbols,
-        flips,
+        tables,
         d,
         t.first as u16,
         t.second as u16,
@@ -72,16 +59,7 @@ pub(crate) fn put_pair(
 }
 
 // The same of two words of twelve bits as one number, the second above the first: its three bytes are theirs.
-pub(crate) fn put_both(
-    symbols: &[u16; 536],
-    flips: &[u16; 268],
-    d: usize,
-    both: u32,
-    out: &mut [u16],
-    at: usize,
-) -> usize
-    requires symbols_value { symbols.now ≡ symbol_table }
-    requires flips_value { flips.now ≡ flip_table }
+pub(crate) fn put_both(tables: Tables, d: usize, both: u32, out: &mut [u16], at: usize) -> usize
     requires d_value { d ≡ offset_of (of_offset d) }
     requires both_bound { both < 16777216 }
     requires at_in_bounds { at + 3 ≤ length out.old }
@@ -89,8 +67,7 @@ pub(crate) fn put_both(
     ensures out { out.new ≡ put d (pair_chars (both % 4096) (both / 4096)) at out.old }
 {
     put_three(
-        symbols,
-        flips,
+        tables,
         d,
         (both % 256) as u16,
         (both / 256 % 256) as u16,
@@ -100,44 +77,38 @@ pub(crate) fn put_both(
     )
 }
 
-// One word of each stream.
+// One word of each stream; with two streams the last two are not used.
 pub(crate) fn put_four(
-    symbols: &[u16; 536],
-    flips: &[u16; 268],
+    tables: Tables,
     pairs: usize,
     d: usize,
-    g: Four,
+    words: [u16; 4],
     out: &mut [u16],
     at: usize,
 ) -> usize
-    requires symbols_value { symbols.now ≡ symbol_table }
-    requires flips_value { flips.now ≡ flip_table }
     requires le_pairs { 1 ≤ pairs }
     requires pairs_bound { pairs ≤ 2 }
     requires d_value { d ≡ offset_of (of_offset d) }
     requires pairs_in_bounds { at + 3 * pairs ≤ length out.old }
-    ensures offset { result ≡ offset_after d (group_chars pairs (word_of_four g)) }
-    ensures out { out.new ≡ put d (group_chars pairs (word_of_four g)) at out.old }
+    ensures offset { result ≡ offset_after d (group_chars pairs (slice_index words)) }
+    ensures out { out.new ≡ put d (group_chars pairs (slice_index words)) at out.old }
 {
-    let low = put_pair(symbols, flips, d, g.a, g.b, out, at);
+    let low = put_pair(tables, d, words[0], words[1], out, at);
     if pairs == 1 {
         return low;
     }
-    put_pair(symbols, flips, low, g.c, g.e, out, at + 3)
+    put_pair(tables, low, words[2], words[3], out, at + 3)
 }
 
 // The same word on every stream.
 pub(crate) fn put_same(
-    symbols: &[u16; 536],
-    flips: &[u16; 268],
+    tables: Tables,
     pairs: usize,
     d: usize,
     w: u16,
     out: &mut [u16],
     at: usize,
 ) -> usize
-    requires symbols_value { symbols.now ≡ symbol_table }
-    requires flips_value { flips.now ≡ flip_table }
     requires le_pairs { 1 ≤ pairs }
     requires pairs_bound { pairs ≤ 2 }
     requires d_value { d ≡ offset_of (of_offset d) }
@@ -145,54 +116,22 @@ pub(crate) fn put_same(
     ensures offset { result ≡ offset_after d (group_chars pairs (λ _. w)) }
     ensures out { out.new ≡ put d (group_chars pairs (λ _. w)) at out.old }
 {
-    put_four(
-        symbols,
-        flips,
-        pairs,
-        d,
-        Four {
-            a: w,
-            b: w,
-            c: w,
-            e: w,
-        },
-        out,
-        at,
-    )
+    put_four(tables, pairs, d, [w; 4], out, at)
 }
 
 // A run of pairs of one word that leaves the disparity as it was: the same three symbols again and again.
-pub(crate) fn put_run(
-    symbols: &[u16; 536],
-    flips: &[u16; 268],
-    pairs: usize,
-    d: usize,
-    w: u16,
-    out: &mut [u16],
-    at: usize,
-)
-    requires symbols_value { symbols.now ≡ symbol_table }
-    requires flips_value { flips.now ≡ flip_table }
+pub(crate) fn put_run(tables: Tables, pairs: usize, d: usize, w: u16, out: &mut [u16], at: usize)
     requires d_value { d ≡ offset_of (of_offset d) }
     requires keeps_disparity { KeepsDisparity w }
     requires pairs_in_bounds { at + 3 * pairs ≤ length out.old }
     ensures { out.new ≡ put d (run_chars pairs w) at out.old }
 {
     let b = packing::bytes::bytes_of(w, w);
-    let t = crate::coder::code_three(
-        symbols,
-        flips,
-        d,
-        b.first as u16,
-        b.second as u16,
-        b.third as u16,
-    );
-    let mut i = 0;
-    while i < pairs {
+    let t = crate::coder::code_three(tables, d, b.first as u16, b.second as u16, b.third as u16);
+    for i in 0..pairs {
         out[at + 3 * i] = t.first;
         out[at + 3 * i + 1] = t.second;
         out[at + 3 * i + 2] = t.third;
-        i += 1;
     }
 }
 
@@ -202,31 +141,26 @@ fn repeat(out: &mut [u16], from: usize, to: usize)
     requires to_in_bounds { to ≤ length out.old }
     ensures { out.new ≡ repeated (to - from) from out.old }
 {
-    let mut i = from;
-    while i < to {
+    for i in from..to {
         out[i] = out[i - 96];
-        i += 1;
     }
 }
 
 // A run of 32 pairs or more: the first 32, and then those again. As one loop over pairs it is fast or slow by what is compiled around it.
 pub(crate) fn put_long_run(
-    symbols: &[u16; 536],
-    flips: &[u16; 268],
+    tables: Tables,
     pairs: usize,
     d: usize,
     w: u16,
     out: &mut [u16],
     at: usize,
 )
-    requires symbols_value { symbols.now ≡ symbol_table }
-    requires flips_value { flips.now ≡ flip_table }
     requires d_value { d ≡ offset_of (of_offset d) }
     requires keeps_disparity { KeepsDisparity w }
     requires le_pairs { 32 ≤ pairs }
     requires pairs_in_bounds { at + 3 * pairs ≤ length out.old }
     ensures { out.new ≡ put d (run_chars pairs w) at out.old }
 {
-    put_run(symbols, flips, 32, d, w, out, at);
+    put_run(tables, 32, d, w, out, at);
     repeat(out, at + 96, at + 3 * pairs);
 }

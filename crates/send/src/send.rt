@@ -9,18 +9,19 @@ ghost use Rattle.request.specs.Send.{request, paper_sent, send_of, sent_buffer};
 ghost use Rattle.send.specs.Inside.Put.{offset_after, put, scaled_words, span_put, AreWords, Fits};
 ghost use Rattle.request.specs.Inside.Send.{Accepted};
 
+use encoder::tables::Tables;
 use line::stream::StreamLine;
-use request::sent::Sent;
-use span::content::Content;
+use request::sent::SendError;
+use span::content::ContentBytes;
 use span::format::Format;
 use symbol::disparity::Disparity;
 
-// A span of words, as many as the format has. The tables are copied once, here, and lent from here on.
+// A span of words, as many as the format has. The tables are filled once, here, and lent from here on.
 fn send_words(
     f: Format,
     l: StreamLine,
     d: Disparity,
-    content: Content,
+    content: Option<ContentBytes>,
     words: &[u16],
     out: &mut [u16],
 ) -> Disparity
@@ -33,11 +34,15 @@ fn send_words(
 {
     let symbols = encoder::tables::symbol_table();
     let flips = encoder::tables::flip_table();
+    let tables = Tables {
+        symbols: &symbols,
+        flips: &flips,
+    };
     let p = span::format::shape_of(f);
     let c = span::content::content_of(f, content);
     let blank = span::blanking::blank_word(f);
     let before = encoder::tables::offset_of(d);
-    let after = crate::parts::put_span(&symbols, &flips, p, l, c, blank, words, before, out);
+    let after = crate::parts::put_span(tables, p, l, c, blank, words, before, out);
     encoder::tables::disparity_at(after)
 }
 
@@ -47,10 +52,8 @@ fn scale(factor: u16, samples: &[u16], words: &mut [u16])
     requires words_len { length words.old ≡ length samples.now }
     ensures { words.new ≡ scaled_words factor samples.now }
 {
-    let mut i = 0;
-    while i < samples.len() {
-        words[i] = samples[i] * factor;
-        i += 1;
+    for (i, sample) in samples.iter().enumerate() {
+        words[i] = *sample * factor;
     }
 }
 
@@ -59,7 +62,7 @@ fn send_scaled(
     f: Format,
     l: StreamLine,
     d: Disparity,
-    content: Content,
+    content: Option<ContentBytes>,
     factor: u16,
     samples: &[u16],
     words: &mut [u16],
@@ -81,7 +84,7 @@ fn send_span(
     f: Format,
     l: StreamLine,
     d: Disparity,
-    content: Content,
+    content: Option<ContentBytes>,
     factor: u16,
     samples: &[u16],
     out: &mut [u16],
@@ -105,10 +108,10 @@ fn send_samples(
     f: Format,
     l: StreamLine,
     d: Disparity,
-    content: Content,
+    content: Option<ContentBytes>,
     samples: &[u16],
     symbols: &mut [u16],
-) -> Sent
+) -> Result<Disparity, SendError>
     requires f_value { is_known f ≡ true }
     requires l_value { is_line l.0 ≡ true }
     requires samples_len { length samples.now ≡ samples_in (shape_of f) }
@@ -119,9 +122,9 @@ fn send_samples(
     let bounds = span::sample::bounds_of(f, l);
     let wrong = crate::check::first_outside(bounds.low, bounds.high, samples);
     if wrong < samples.len() {
-        return Sent::NotAllowed(wrong);
+        return Err(SendError::NotAllowed(wrong));
     }
-    Sent::After(send_span(f, l, d, content, bounds.factor, samples, symbols))
+    Ok(send_span(f, l, d, content, bounds.factor, samples, symbols))
 }
 
 // The span of a line: its symbols into the buffer, from the running disparity before it. The samples are stream by stream.
@@ -129,25 +132,25 @@ pub fn send(
     f: Format,
     l: StreamLine,
     d: Disparity,
-    content: Content,
+    content: Option<ContentBytes>,
     samples: &[u16],
     symbols: &mut [u16],
-) -> Sent
+) -> Result<Disparity, SendError>
     ensures answer { paper_sent result ≡ send_of d f (request l.0 content samples.now) (length symbols.old) }
     ensures symbols { symbols.new ≡ sent_buffer d f (request l.0 content samples.now) symbols.old }
 {
     if !span::format::is_known(f) {
-        return Sent::UnknownFormat;
+        return Err(SendError::UnknownFormat);
     }
     if !line::stream::is_line(l) {
-        return Sent::NoLine;
+        return Err(SendError::NoLine);
     }
     let lengths = span::length::span_lengths(f);
     if samples.len() != lengths.samples {
-        return Sent::WrongInput;
+        return Err(SendError::WrongInput);
     }
     if symbols.len() != lengths.symbols {
-        return Sent::WrongOutput;
+        return Err(SendError::WrongOutput);
     }
     send_samples(f, l, d, content, samples, symbols)
 }

@@ -41,7 +41,7 @@ pub fn fill_blanking(f: Format, row: &mut [u16]) -> Result<(), FillError>
         if row.len() != lengths.samples {
             return Err(FillError::WrongOutput);
         }
-        ground::fill::fill(row, blank_word(f));
+        row.fill(blank_word(f));
         return Ok(());
     }
     Err(FillError::UnknownFormat)

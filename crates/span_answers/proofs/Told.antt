@@ -5,21 +5,22 @@ use Rattle.ground.specs.Answer.{Answer, given}
 use Rattle.ground.specs.Inside.Answer.{Injective}
 use Rattle.symbol.specs.declared.disparity.Disparity.{Disparity}
 use Rattle.span.specs.declared.length.SpanLengths.{SpanLengths}
-use Rattle.span.specs.declared.length.Lengths.{Lengths}
-use Rattle.span.specs.declared.length.Lengths.TheVariants as Lengths
+use Rattle.std.specs.Prelude.{Result, Ok, Err}
+use Rattle.span.specs.declared.format.UnknownFormat.{UnknownFormat}
 use Rattle.span.specs.Length.{paper_lengths}
 use Rattle.span.proofs.OneToOne.{lengths_one_to_one}
-use Rattle.request.specs.declared.sent.Sent.{Sent}
-use Rattle.request.specs.declared.sent.Sent.TheVariants as Sent
+use Rattle.request.specs.declared.sent.SendError.{SendError}
+use Rattle.request.specs.declared.sent.SendError.TheVariants as Send
 use Rattle.request.specs.Send.{paper_sent}
 use Rattle.request.proofs.OneToOne.{sent_one_to_one}
 use Rattle.window.specs.declared.delivery.Delivery.{Delivery}
-use Rattle.window.specs.declared.delivery.RepairsOfBit.{RepairsOfBit}
-use Rattle.read.specs.declared.answer.Read.{Read}
-use Rattle.read.specs.declared.answer.Read.TheVariants as Read
+use Rattle.read.specs.declared.answer.ReadError.{ReadError}
+use Rattle.read.specs.declared.answer.ReadError.TheVariants as Read
+use Rattle.read_test21_26.specs.declared.service.Fault.{Fault}
+use Rattle.read_test21_26.specs.declared.service.Test.{Test}
+use Rattle.read_test21_26.specs.declared.service.Test.TheVariants.{Timing, Line, V, Crcc, Sample, Fill}
 use Rattle.read.specs.Call.{paper_read}
 use Rattle.read.proofs.OneToOne.{read_one_to_one}
-use Rattle.span_answers.specs.declared.spans.BitCounts.{BitCounts}
 use Rattle.span_answers.specs.declared.spans.Values.{Values}
 use Rattle.span_answers.specs.declared.spans.LengthsAnswer.{LengthsAnswer}
 use Rattle.span_answers.specs.declared.spans.SendAnswer.{SendAnswer}
@@ -31,45 +32,28 @@ use Rattle.boundary.proofs.Told.{through, answer_by, disparity_told}
 lengths_back : LengthsAnswer → Answer SpanLengths
 lengths_back l = answer_by l.number 0 (record { samples = l.samples; symbols = l.symbols })
 
-pub lengths_told : Injective (λ (r : Lengths). lengths_answer_of (paper_lengths r))
+pub lengths_told : Injective (λ (r : Result SpanLengths UnknownFormat). lengths_answer_of (paper_lengths r))
 unfolding lengths_back
 lengths_told = through lengths_answer_of lengths_back back lengths_one_to_one
   where
-    back : (r : Lengths) → lengths_back (lengths_answer_of (paper_lengths r)) ≡ paper_lengths r
-    back (Lengths.Known l) = refl
-    back Lengths.Unknown = refl
+    back : (r : Result SpanLengths UnknownFormat) → lengths_back (lengths_answer_of (paper_lengths r)) ≡ paper_lengths r
+    back (Ok l) = refl
+    back (Err e) = refl
 
 send_back : SendAnswer → Answer Disparity
 send_back s = answer_by s.number s.place (disparity_from s.positive_after)
 
-pub send_told : Injective (λ (r : Sent). send_answer_of (paper_sent r))
+pub send_told : Injective (λ (r : Result Disparity SendError). send_answer_of (paper_sent r))
 unfolding send_back
 send_told = through send_answer_of send_back back sent_one_to_one
   where
-    back : (r : Sent) → send_back (send_answer_of (paper_sent r)) ≡ paper_sent r
-    back (Sent.After d) = ap given (disparity_told d)
-    back Sent.UnknownFormat = refl
-    back Sent.NoLine = refl
-    back Sent.WrongInput = refl
-    back Sent.WrongOutput = refl
-    back (Sent.NotAllowed place) = refl
-
-abbrev bits_back : BitCounts → RepairsOfBit
-bits_back c =
-    record {
-      b0 = c.b0;
-      b1 = c.b1;
-      b2 = c.b2;
-      b3 = c.b3;
-      b4 = c.b4;
-      b5 = c.b5;
-      b6 = c.b6;
-      b7 = c.b7;
-      b8 = c.b8;
-      b9 = c.b9;
-      b10 = c.b10;
-      b11 = c.b11;
-    }
+    back : (r : Result Disparity SendError) → send_back (send_answer_of (paper_sent r)) ≡ paper_sent r
+    back (Ok d) = ap given (disparity_told d)
+    back (Err Send.UnknownFormat) = refl
+    back (Err Send.NoLine) = refl
+    back (Err Send.WrongInput) = refl
+    back (Err Send.WrongOutput) = refl
+    back (Err (Send.NotAllowed place)) = refl
 
 pub values_back : Values → Delivery
 values_back v =
@@ -78,7 +62,7 @@ values_back v =
       content = v.content;
       before = disparity_from v.positive_before;
       after = disparity_from v.positive_after;
-      repairs = record { count = v.repairs; of_bit = bits_back v.repairs_of_bit };
+      repairs = record { count = v.repairs; of_bit = v.repairs_of_bit };
     }
 
 pub values_back_lem : (d : Delivery) → values_back (values_of d) ≡ d
@@ -88,19 +72,25 @@ values_back_lem d = rw (disparity_told d.before, disparity_told d.after)
 read_back : ReadAnswer → Answer Delivery
 read_back r = answer_by r.number r.place (values_back r.delivery)
 
-pub read_told : Injective (λ (r : Read). read_answer_of (paper_read r))
+pub read_told : Injective (λ (r : Result Delivery ReadError). read_answer_of (paper_read r))
 unfolding read_back
 read_told = through read_answer_of read_back back read_one_to_one
   where
-    back : (r : Read) → read_back (read_answer_of (paper_read r)) ≡ paper_read r
-    back (Read.Delivered d) = ap given (values_back_lem d)
-    back Read.UnknownFormat = refl
-    back Read.WrongInput = refl
-    back Read.WrongOutput = refl
-    back (Read.WrongSymbol place) = refl
-    back (Read.WrongTiming place) = refl
-    back (Read.WrongLine place) = refl
-    back (Read.WrongV place) = refl
-    back (Read.WrongCrcc place) = refl
-    back (Read.WrongSample place) = refl
-    back (Read.WrongFill place) = refl
+    of_test : (x : Fault) → read_back (read_answer_of (paper_read (Err (Read.Fails x)))) ≡ paper_read (Err (Read.Fails x))
+    of_test x = go x.test refl
+      where
+        go : (t : Test) → x.test ≡ t → read_back (read_answer_of (paper_read (Err (Read.Fails x)))) ≡ paper_read (Err (Read.Fails x))
+        go Timing e = rw e refl
+        go Line e = rw e refl
+        go V e = rw e refl
+        go Crcc e = rw e refl
+        go Sample e = rw e refl
+        go Fill e = rw e refl
+
+    back : (r : Result Delivery ReadError) → read_back (read_answer_of (paper_read r)) ≡ paper_read r
+    back (Ok d) = ap given (values_back_lem d)
+    back (Err Read.UnknownFormat) = refl
+    back (Err Read.WrongInput) = refl
+    back (Err Read.WrongOutput) = refl
+    back (Err (Read.WrongSymbol place)) = refl
+    back (Err (Read.Fails x)) = of_test x

@@ -1,28 +1,21 @@
 -- What holds of the answers to C of the calls on spans: each field crosses as it is, and no two answers of the library cross as the same,
 -- so the number and the fields determine what was answered. `proofs/Laws` proves each.
 -- Assumes nothing.
-use Rattle.std.specs.Prelude.{ℕ, ◌≡◌, false, List, [], ◌∷◌}
+use Rattle.std.specs.Prelude.{ℕ, ◌≡◌, false, [], ◌∷◌, Result}
 use Rattle.ground.specs.Answer.{refused}
 use Rattle.ground.specs.Inside.Answer.{Injective}
 use Rattle.boundary.specs.Laws.{Says}
 use Rattle.window.specs.declared.delivery.Delivery.{Delivery}
-use Rattle.window.specs.declared.delivery.RepairsOfBit.{RepairsOfBit}
-use Rattle.span_answers.specs.declared.spans.BitCounts.{BitCounts}
 use Rattle.span_answers.specs.declared.spans.Values.{Values}
-use Rattle.span.specs.declared.length.Lengths.{Lengths}
+use Rattle.span.specs.declared.format.UnknownFormat.{UnknownFormat}
+use Rattle.span.specs.declared.length.SpanLengths.{SpanLengths}
 use Rattle.span.specs.Length.{paper_lengths}
-use Rattle.request.specs.declared.sent.Sent.{Sent}
+use Rattle.symbol.specs.declared.disparity.Disparity.{Disparity}
+use Rattle.request.specs.declared.sent.SendError.{SendError}
 use Rattle.request.specs.Send.{paper_sent}
-use Rattle.read.specs.declared.answer.Read.{Read}
+use Rattle.read.specs.declared.answer.ReadError.{ReadError}
 use Rattle.read.specs.Call.{paper_read}
 use Rattle.span_answers.specs.Spans.{values_of, no_values, lengths_answer_of, send_answer_of, read_answer_of}
-
--- the counts of the twelve bits from the lowest up: in C as they are laid out, and as they are answered
-abbrev pub in_c : BitCounts → List ℕ
-in_c c = c.b0 ∷ c.b1 ∷ c.b2 ∷ c.b3 ∷ c.b4 ∷ c.b5 ∷ c.b6 ∷ c.b7 ∷ c.b8 ∷ c.b9 ∷ c.b10 ∷ c.b11 ∷ []
-
-abbrev pub in_order : RepairsOfBit → List ℕ
-in_order c = c.b0 ∷ c.b1 ∷ c.b2 ∷ c.b3 ∷ c.b4 ∷ c.b5 ∷ c.b6 ∷ c.b7 ∷ c.b8 ∷ c.b9 ∷ c.b10 ∷ c.b11 ∷ []
 
 -- the values of a span field by field: the line, the content bytes in the order SAV 1, SAV 2, EAV 1, EAV 2, true for positive
 pub record AreValues (v : Values) (d : Delivery) : Type 0 where
@@ -34,7 +27,7 @@ pub record AreValues (v : Values) (d : Delivery) : Type 0 where
   pub before : Says v.positive_before d.before
   pub after : Says v.positive_after d.after
   pub repairs : v.repairs ≡ d.repairs.count
-  pub repairs_of_bit : in_c v.repairs_of_bit ≡ in_order d.repairs.of_bit
+  pub repairs_of_bit : v.repairs_of_bit ≡ d.repairs.of_bit
 
 -- no span: nothing is said of a line, of content bytes, of disparities or of a repair
 pub record SaysNothing (v : Values) : Type 0 where
@@ -46,7 +39,7 @@ pub record SaysNothing (v : Values) : Type 0 where
   pub before : v.positive_before ≡ false
   pub after : v.positive_after ≡ false
   pub repairs : v.repairs ≡ 0
-  pub repairs_of_bit : in_c v.repairs_of_bit ≡ 0 ∷ 0 ∷ 0 ∷ 0 ∷ 0 ∷ 0 ∷ 0 ∷ 0 ∷ 0 ∷ 0 ∷ 0 ∷ 0 ∷ []
+  pub repairs_of_bit : v.repairs_of_bit ≡ 0 ∷ 0 ∷ 0 ∷ 0 ∷ 0 ∷ 0 ∷ 0 ∷ 0 ∷ 0 ∷ 0 ∷ 0 ∷ 0 ∷ []
 
 pub record SpanAnswersLaws : Type 0 where
   pub values : (d : Delivery) → AreValues (values_of d) d
@@ -60,8 +53,8 @@ pub record SpanAnswersLaws : Type 0 where
       (number place : ℕ)
       → ((send_answer_of (refused number place)).number ≡ number) × ((send_answer_of (refused number place)).place ≡ place)
   -- the lengths of a format
-  pub lengths_told : Injective (λ (r : Lengths). lengths_answer_of (paper_lengths r))
+  pub lengths_told : Injective (λ (r : Result SpanLengths UnknownFormat). lengths_answer_of (paper_lengths r))
   -- sending a span
-  pub send_told : Injective (λ (r : Sent). send_answer_of (paper_sent r))
+  pub send_told : Injective (λ (r : Result Disparity SendError). send_answer_of (paper_sent r))
   -- reading a span, and judging one
-  pub read_told : Injective (λ (r : Read). read_answer_of (paper_read r))
+  pub read_told : Injective (λ (r : Result Delivery ReadError). read_answer_of (paper_read r))

@@ -1,13 +1,11 @@
 -- What the calls on one span answer to C (document 01, "Sending", "Receiving and finding" and its table of refusals). Fields meaningless in
 -- a refusal are 0 or false.
 -- Assumes nothing.
-use Rattle.std.specs.Prelude.{false}
+use Rattle.std.specs.Prelude.{ℕ, false, List, [], ◌∷◌}
 use Rattle.ground.specs.Answer.{Answer, refused, given}
 use Rattle.symbol.specs.declared.disparity.Disparity.{Disparity}
 use Rattle.span.specs.declared.length.SpanLengths.{SpanLengths}
 use Rattle.window.specs.declared.delivery.Delivery.{Delivery}
-use Rattle.window.specs.declared.delivery.RepairsOfBit.{RepairsOfBit}
-use Rattle.span_answers.specs.declared.spans.BitCounts.{BitCounts}
 use Rattle.span_answers.specs.declared.spans.Values.{Values}
 use Rattle.span_answers.specs.declared.spans.LengthsAnswer.{LengthsAnswer}
 use Rattle.span_answers.specs.declared.spans.SendAnswer.{SendAnswer}
@@ -15,23 +13,9 @@ use Rattle.span_answers.specs.declared.spans.ReadAnswer.{ReadAnswer}
 use Rattle.symbol.specs.Disparity.{is_positive}
 use Rattle.boundary.specs.Numbers.{stream_line_number}
 
--- how often each bit was repaired
-abbrev pub bit_counts_of : RepairsOfBit → BitCounts
-bit_counts_of c =
-    record {
-      b0 = c.b0;
-      b1 = c.b1;
-      b2 = c.b2;
-      b3 = c.b3;
-      b4 = c.b4;
-      b5 = c.b5;
-      b6 = c.b6;
-      b7 = c.b7;
-      b8 = c.b8;
-      b9 = c.b9;
-      b10 = c.b10;
-      b11 = c.b11;
-    }
+-- how often each bit was repaired, b0, the lowest, first
+abbrev pub bit_counts_of : List ℕ → List ℕ
+bit_counts_of c = c
 
 -- what a span says about itself
 abbrev pub values_of : Delivery → Values
@@ -46,22 +30,8 @@ values_of d =
     }
 
 -- if there is no span
-abbrev pub no_counts : BitCounts
-no_counts =
-    record {
-      b0 = 0;
-      b1 = 0;
-      b2 = 0;
-      b3 = 0;
-      b4 = 0;
-      b5 = 0;
-      b6 = 0;
-      b7 = 0;
-      b8 = 0;
-      b9 = 0;
-      b10 = 0;
-      b11 = 0;
-    }
+abbrev pub no_counts : List ℕ
+no_counts = 0 ∷ 0 ∷ 0 ∷ 0 ∷ 0 ∷ 0 ∷ 0 ∷ 0 ∷ 0 ∷ 0 ∷ 0 ∷ 0 ∷ []
 
 abbrev pub no_values : Values
 no_values =

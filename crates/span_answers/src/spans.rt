@@ -3,15 +3,19 @@ ghost use Rattle.std.specs.Prelude.{◌≡◌};
 ghost use Rattle.ground.specs.Answer.{refused};
 ghost use Rattle.span.specs.Length.{paper_lengths};
 ghost use Rattle.request.specs.Send.{paper_sent};
+ghost use Rattle.read_test21_26.specs.Tests.{number_of};
 ghost use Rattle.read.specs.Call.{paper_read};
-ghost use Rattle.span_answers.specs.Spans.{bit_counts_of, values_of, no_counts, no_values as nothing, lengths_answer_of, send_answer_of, read_answer_of};
+ghost use Rattle.span_answers.specs.Spans.{bit_counts_of, values_of, no_values as nothing, lengths_answer_of, send_answer_of, read_answer_of};
 
 use boundary::numbers::StreamLineNumber;
-use read::answer::Read;
-use request::sent::Sent;
+use read::answer::ReadError;
+use read_test21_26::service::Test;
+use request::sent::SendError;
 use span::content::ContentBytes;
-use span::length::Lengths;
-use window::delivery::{Delivery, RepairsOfBit};
+use span::format::UnknownFormat;
+use span::length::SpanLengths;
+use symbol::disparity::Disparity;
+use window::delivery::Delivery;
 
 #[repr(C)]
 #[derive(Drop)]
@@ -29,24 +33,6 @@ pub struct SendAnswer {
     pub place: u64,
 }
 
-// How often each bit of a timing word was repaired, b0 the lowest. In C an array of twelve, which has the same layout.
-#[repr(C)]
-#[derive(Drop)]
-pub struct BitCounts {
-    pub b0: u32,
-    pub b1: u32,
-    pub b2: u32,
-    pub b3: u32,
-    pub b4: u32,
-    pub b5: u32,
-    pub b6: u32,
-    pub b7: u32,
-    pub b8: u32,
-    pub b9: u32,
-    pub b10: u32,
-    pub b11: u32,
-}
-
 // What a span says about itself.
 #[repr(C)]
 #[derive(Drop)]
@@ -56,7 +42,8 @@ pub struct Values {
     pub positive_before: bool,
     pub positive_after: bool,
     pub repairs: u32,
-    pub repairs_of_bit: BitCounts,
+    // How often each bit of a timing word was repaired, b0, the lowest, first.
+    pub repairs_of_bit: [u32; 12],
 }
 
 #[repr(C)]
@@ -67,58 +54,22 @@ pub struct ReadAnswer {
     pub delivery: Values,
 }
 
-fn bit_counts(c: RepairsOfBit) -> BitCounts
+fn bit_counts(c: [u8; 12]) -> [u32; 12]
     ensures { result ≡ bit_counts_of c }
 {
-    BitCounts {
-        b0: c.b0 as u32,
-        b1: c.b1 as u32,
-        b2: c.b2 as u32,
-        b3: c.b3 as u32,
-        b4: c.b4 as u32,
-        b5: c.b5 as u32,
-        b6: c.b6 as u32,
-        b7: c.b7 as u32,
-        b8: c.b8 as u32,
-        b9: c.b9 as u32,
-        b10: c.b10 as u32,
-        b11: c.b11 as u32,
-    }
+    c.map(u32::from)
 }
 
 pub fn values_of(d: Delivery) -> Values
     ensures { result ≡ values_of d }
 {
-    let before = d.before;
-    let after = d.after;
-    let content = d.content;
-    let of_bit = d.repairs.of_bit;
     Values {
         line: boundary::numbers::stream_line_number(d.line),
-        content,
-        positive_before: boundary::numbers::is_positive(before),
-        positive_after: boundary::numbers::is_positive(after),
+        content: d.content,
+        positive_before: boundary::numbers::is_positive(d.before),
+        positive_after: boundary::numbers::is_positive(d.after),
         repairs: d.repairs.count as u32,
-        repairs_of_bit: bit_counts(of_bit),
-    }
-}
-
-fn no_counts() -> BitCounts
-    ensures { result ≡ no_counts }
-{
-    BitCounts {
-        b0: 0,
-        b1: 0,
-        b2: 0,
-        b3: 0,
-        b4: 0,
-        b5: 0,
-        b6: 0,
-        b7: 0,
-        b8: 0,
-        b9: 0,
-        b10: 0,
-        b11: 0,
+        repairs_of_bit: bit_counts(d.repairs.of_bit),
     }
 }
 
@@ -138,20 +89,20 @@ pub fn no_values() -> Values
         positive_before: false,
         positive_after: false,
         repairs: 0,
-        repairs_of_bit: no_counts(),
+        repairs_of_bit: [0; 12],
     }
 }
 
-pub fn lengths_answer(r: Lengths) -> LengthsAnswer
+pub fn lengths_answer(r: Result<SpanLengths, UnknownFormat>) -> LengthsAnswer
     ensures { result ≡ lengths_answer_of (paper_lengths r) }
 {
     match r {
-        Lengths::Known(l) => LengthsAnswer {
+        Ok(l) => LengthsAnswer {
             number: 0,
             samples: l.samples,
             symbols: l.symbols,
         },
-        Lengths::Unknown => LengthsAnswer {
+        Err(UnknownFormat) => LengthsAnswer {
             number: 1,
             samples: 0,
             symbols: 0,
@@ -169,16 +120,16 @@ fn sent(number: u32, positive: bool, place: usize) -> SendAnswer
     }
 }
 
-pub fn send_answer(r: Sent) -> SendAnswer
+pub fn send_answer(r: Result<Disparity, SendError>) -> SendAnswer
     ensures { result ≡ send_answer_of (paper_sent r) }
 {
     match r {
-        Sent::After(d) => sent(0, boundary::numbers::is_positive(d), 0),
-        Sent::UnknownFormat => sent(1, false, 0),
-        Sent::NoLine => sent(2, false, 0),
-        Sent::WrongInput => sent(3, false, 0),
-        Sent::WrongOutput => sent(4, false, 0),
-        Sent::NotAllowed(place) => sent(6, false, place),
+        Ok(d) => sent(0, boundary::numbers::is_positive(d), 0),
+        Err(SendError::UnknownFormat) => sent(1, false, 0),
+        Err(SendError::NoLine) => sent(2, false, 0),
+        Err(SendError::WrongInput) => sent(3, false, 0),
+        Err(SendError::WrongOutput) => sent(4, false, 0),
+        Err(SendError::NotAllowed(place)) => sent(6, false, place),
     }
 }
 
@@ -202,20 +153,29 @@ fn read_refused(number: u32, place: usize) -> ReadAnswer
     }
 }
 
-pub fn read_answer(r: Read) -> ReadAnswer
+// The number of a test of a span's words, 21 to 26.
+fn test_number(test: Test) -> u32
+    ensures { result ≡ number_of test }
+{
+    match test {
+        Test::Timing => 21,
+        Test::Line => 22,
+        Test::V => 23,
+        Test::Crcc => 24,
+        Test::Sample => 25,
+        Test::Fill => 26,
+    }
+}
+
+pub fn read_answer(r: Result<Delivery, ReadError>) -> ReadAnswer
     ensures { result ≡ read_answer_of (paper_read r) }
 {
     match r {
-        Read::Delivered(d) => delivered(d),
-        Read::UnknownFormat => read_refused(1, 0),
-        Read::WrongInput => read_refused(3, 0),
-        Read::WrongOutput => read_refused(4, 0),
-        Read::WrongSymbol(place) => read_refused(20, place),
-        Read::WrongTiming(place) => read_refused(21, place),
-        Read::WrongLine(place) => read_refused(22, place),
-        Read::WrongV(place) => read_refused(23, place),
-        Read::WrongCrcc(place) => read_refused(24, place),
-        Read::WrongSample(place) => read_refused(25, place),
-        Read::WrongFill(place) => read_refused(26, place),
+        Ok(d) => delivered(d),
+        Err(ReadError::UnknownFormat) => read_refused(1, 0),
+        Err(ReadError::WrongInput) => read_refused(3, 0),
+        Err(ReadError::WrongOutput) => read_refused(4, 0),
+        Err(ReadError::WrongSymbol(place)) => read_refused(20, place),
+        Err(ReadError::Fails(x)) => read_refused(test_number(x.test), x.place),
     }
 }

@@ -3,7 +3,7 @@ ghost use Rattle.std.specs.Prelude.{◌≡◌};
 ghost use Rattle.recording.specs.Call.{paper_next};
 ghost use Rattle.stepping.specs.Reader.{answer_of, moved_of, rows_after_step};
 
-use recording::answer::NextSpan;
+use recording::answer::{NextError, Spanned};
 use span::format::Format;
 
 // The recording, and the place from which the next step searches.
@@ -29,7 +29,7 @@ pub fn place<'a>(r: Reader<'a>) -> usize
 
 // One step: the next span from the reader's place on, into rows of s x 1920 words, and the reader moves to that span's end. At the end, and
 // if the call is refused, rows and place stay as they were.
-pub fn step<'s, 'a, 'r>(r: &'s mut Reader<'a>, f: Format, rows: &'r mut [u16]) -> NextSpan
+pub fn step<'s, 'a, 'r>(r: &'s mut Reader<'a>, f: Format, rows: &'r mut [u16]) -> Result<Option<Spanned>, NextError>
     ensures answer { paper_next result ≡ answer_of f r.old rows.old }
     ensures moved { r.new ≡ moved_of f r.old rows.old }
     ensures rows { rows.new ≡ rows_after_step f r.old rows.old }

@@ -1,15 +1,9 @@
 -- The codes of the test picture are those that a picture may have; and some of them by their values.
 -- Assumes nothing.
 use mathlib.Core.Path.{◌≡◌, refl}
-use Prim.Native.Nat.{ℕ, ◌-◌, ◌*◌, ◌≤◌, ◌<◌}
-use native.Mathlib.Nat.{mul-le-mul_left}
+use Prim.Native.Nat.{ℕ, ◌-◌, ◌≤◌}
 use native.Mathlib.Omega.{arith}
 use Rattle.test_picture.specs.TestPicture.{test_sample}
-
-pub square_below : (a : ℕ) → a < 65536 → a * a < 4294967296
-square_below a h =
-    let most : a * a ≤ a * 65535 = mul-le-mul_left a (omega arith) in
-    omega arith
 
 -- 16 to 4079
 module _ (line sample : ℕ) where

@@ -10,13 +10,12 @@ use native.Mathlib.Omega.{arith}
 use lib.Dec.{eqb}
 use lib.ListN.{length, get_or}
 use lib.Seq.{sets}
+use Rattle.std.specs.Prelude.{Option, Some, None}
 use Rattle.ground.specs.Written.{upto}
 use Rattle.ground.proofs.Answers.{when_given}
 use Rattle.ground.proofs.Cases.{on_test}
 use Rattle.ground.proofs.Ranges.{is_within}
 use Rattle.ground.proofs.Writing.{sets_append, sets_whole, length_upto, get_d_upto, get_d_table, upto_same}
-use Rattle.line.specs.declared.picture.Carries.{Carries}
-use Rattle.line.specs.declared.picture.Carries.TheVariants.{Line, Nothing}
 use Rattle.line.specs.declared.picture.PictureLine.{PictureLine}
 use Rattle.line.specs.Picture.{basic_line_of, number_carried}
 use Rattle.line.specs.Stream.{is_active}
@@ -108,7 +107,7 @@ line_at n active t few =
     sym (line_on n (t + 1) (n - 41) basic (omega arith) (omega arith) (omega arith))
 
 -- what the library's call answers for the images of row i: a line on an active line, and nothing on any other
-module _ (n i : ℕ) (few : i < 2) (r : Carries) (e : number_carried r ≡ picture_line_on n (2 * i + 1)) where
+module _ (n i : ℕ) (few : i < 2) (r : Option PictureLine) (e : number_carried r ≡ picture_line_on n (2 * i + 1)) where
   row_there : is_active n ≡ true → number_carried r ≡ some (2 * (n - 41) - 1 + i)
   row_there active =
       let half : 2 * i / 2 ≡ i = omega arith in
@@ -117,15 +116,15 @@ module _ (n i : ℕ) (few : i < 2) (r : Carries) (e : number_carried r ≡ pictu
   none_there : is_active n ≡ false → number_carried r ≡ none
   none_there t = let nothing : basic_line_of n ≡ none = simp t in e ∙ nothing_on n (2 * i + 1) nothing
 
-  pub row_active : {line : PictureLine} → r ≡ Line line → is_active n ≡ true
+  pub row_active : {line : PictureLine} → r ≡ Some line → is_active n ≡ true
   row_active is =
       on_test (is_active n) (λ t. t)
       (λ t. let z : ◌≡◌ {A = ℕ} 0 1 = cc (sym (ap number_carried is) ∙ none_there t) in absurd (omega arith))
 
-  pub row_line : {line : PictureLine} → r ≡ Line line → line.0 ≡ 2 * (n - 41) - 1 + i
+  pub row_line : {line : PictureLine} → r ≡ Some line → line.0 ≡ 2 * (n - 41) - 1 + i
   row_line is = cc (sym (ap number_carried is) ∙ row_there (row_active is))
 
-  pub row_blanking : r ≡ Nothing → is_active n ≡ false
+  pub row_blanking : r ≡ None → is_active n ≡ false
   row_blanking is =
       on_test (is_active n)
       (λ t. let z : ◌≡◌ {A = ℕ} 0 1 = cc (sym (ap number_carried is) ∙ row_there t) in absurd (omega arith))

@@ -5,3 +5,4 @@ pub mod OneToOne
 pub mod Puttings
 pub mod Rows
 pub mod Sendings
+pub mod Stores

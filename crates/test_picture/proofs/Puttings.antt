@@ -26,16 +26,5 @@ module _ (line : ℕ) (row : List ℕ) where
     puts_row e = simp (is_within 1 2160 line p q, eq-eqb (length row) 3840 e)
 
 module _ (f : Format) (n : ℕ) (samples : List ℕ) where
-  pub samples_meet_1 : is_known f ≡ false → samples_answer f n samples ≡ refused 1 0
-  samples_meet_1 t = simp t
-
-  module _ (known : is_known f ≡ true) where
-    pub samples_meet_2 : is_line n ≡ false → samples_answer f n samples ≡ refused 2 0
-    samples_meet_2 t = simp (known, t)
-
-    module _ (line : is_line n ≡ true) where
-      pub samples_meet_4 : (length samples ≡ samples_in (shape_of f) → ⊥) → samples_answer f n samples ≡ refused 4 0
-      samples_meet_4 x = simp (known, line, ne_eqb (length samples) (samples_in (shape_of f)) x)
-
-      pub puts_samples : length samples ≡ samples_in (shape_of f) → samples_answer f n samples ≡ given tt
-      puts_samples e = simp (known, line, eq-eqb (length samples) (samples_in (shape_of f)) e)
+  pub puts_samples : is_known f ≡ true → is_line n ≡ true → length samples ≡ samples_in (shape_of f) → samples_answer f n samples ≡ given tt
+  puts_samples known line e = simp (known, line, eq-eqb (length samples) (samples_in (shape_of f)) e)

@@ -1,22 +1,22 @@
 -- What the calls that put the test picture answer, and the lent row afterwards.
 -- Assumes nothing.
-use Rattle.std.specs.Prelude.{ℕ, List, [], ◌∷◌, eqb, length}
+use Rattle.std.specs.Prelude.{ℕ, List, [], ◌∷◌, eqb, length, Result, Ok, Err}
 use Rattle.ground.specs.Answer.{Answer, refused, given, unless, checked, unless_refused}
 use Rattle.line.specs.Stream.{is_line}
 use Rattle.picture.specs.Place.{is_picture_line}
 use Rattle.dividing.specs.Row.{is_row}
 use Rattle.span.specs.declared.format.Format.{Format}
 use Rattle.span.specs.Format.{is_known, shape_of, samples_in}
-use Rattle.test_picture.specs.declared.answer.Put.{Put}
-use Rattle.test_picture.specs.declared.answer.Put.TheVariants.{Done, UnknownFormat, NoLine, WrongOutput}
+use Rattle.test_picture.specs.declared.answer.PutError.{PutError}
+use Rattle.test_picture.specs.declared.answer.PutError.TheVariants.{UnknownFormat, NoLine, WrongOutput}
 use Rattle.test_picture.specs.TestPicture.{test_row, test_samples}
 
 -- the paper's number for each answer
-abbrev pub paper_put : Put → Answer (Unit {0})
-paper_put Done = given tt
-paper_put UnknownFormat = refused 1 0
-paper_put NoLine = refused 2 0
-paper_put WrongOutput = refused 4 0
+abbrev pub paper_put : Result (Unit {0}) PutError → Answer (Unit {0})
+paper_put (Ok done) = given done
+paper_put (Err UnknownFormat) = refused 1 0
+paper_put (Err NoLine) = refused 2 0
+paper_put (Err WrongOutput) = refused 4 0
 
 -- a row of the picture: 2 if it has no such line, then 4 if the row does not have 3840 samples
 abbrev pub row_answer : ℕ → List ℕ → Answer (Unit {0})

@@ -1,7 +1,6 @@
-// What the calls that put the test picture answer.
-#[derive(Drop)]
-pub enum Put {
-    Done,
+// Why a call that puts the test picture is refused.
+#[derive(Clone, Copy, Debug, PartialEq, Eq)]
+pub enum PutError {
     // 1
     UnknownFormat,
     // 2

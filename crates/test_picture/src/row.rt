@@ -3,13 +3,13 @@ ghost use Rattle.std.specs.Prelude.{◌≡◌, ◌≤◌, length};
 ghost use Rattle.test_picture.specs.Putting.{paper_put, row_answer, row_put};
 ghost use Rattle.test_picture.specs.TestPicture.{apart as distance, test_sample, row_in_steps};
 
-use crate::answer::Put;
+use crate::answer::PutError;
 use line::picture::PictureLine;
 
 fn apart(a: u64, b: u64) -> u64
     ensures { result ≡ distance a b }
 {
-    if a < b { b - a } else { a - b }
+    a.abs_diff(b)
 }
 
 // The twelve-bit code of a sample.
@@ -27,24 +27,22 @@ pub(crate) fn put_codes(line: PictureLine, step: u16, row: &mut [u16])
     requires row_len { length row.old ≡ 3840 }
     ensures { row.new ≡ row_in_steps step line.0 }
 {
-    let mut x = 0;
-    while x < 3840 {
-        row[x] = sample_at(line, x as u16) / step;
-        x += 1;
+    for (x, sample) in row.iter_mut().enumerate() {
+        *sample = sample_at(line, x as u16) / step;
     }
 }
 
 // The row of a picture line, in twelve-bit codes.
-pub fn put_row(line: PictureLine, row: &mut [u16]) -> Put
+pub fn put_row(line: PictureLine, row: &mut [u16]) -> Result<(), PutError>
     ensures answer { paper_put result ≡ row_answer line.0 row.old }
     ensures row { row.new ≡ row_put line.0 row.old }
 {
-    if ground::range::within(1, 2160, line::picture::number_of(line)) {
-        if row.len() != 3840 {
-            return Put::WrongOutput;
-        }
-        put_codes(line, 1, row);
-        return Put::Done;
+    if !ground::range::within(1, 2160, line::picture::number_of(line)) {
+        return Err(PutError::NoLine);
     }
-    Put::NoLine
+    if row.len() != 3840 {
+        return Err(PutError::WrongOutput);
+    }
+    put_codes(line, 1, row);
+    Ok(())
 }

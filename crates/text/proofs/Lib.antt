@@ -1,4 +1,5 @@
 pub mod Laws
 pub mod Numbers
 pub mod Putting
+pub mod Stores
 pub mod WordsRead

@@ -1,13 +1,12 @@
 -- Texts that are put one after the other.
 -- Assumes nothing.
 use mathlib.Core.Path.{◌≡◌}
-use mathlib.Core.Bool.{true, false}
+use mathlib.Core.Bool.{true}
 use mathlib.Core.List.{List, ◌++◌}
-use Prim.Native.Nat.{ℕ, ◌+◌, ◌≤◌, ◌<◌}
+use Prim.Native.Nat.{ℕ, ◌+◌, ◌≤◌}
 use native.Mathlib.Omega.{arith}
 use lib.ListN.{length}
-use lib.Seq.{sets}
-use borrow.Author.Tests.{le-leb, lt-leb}
+use borrow.Author.Tests.{le-leb}
 use Rattle.ground.proofs.Putting.{Put, then, put_length}
 use Rattle.text.specs.Put.{has_room, end_of, put_of}
 
@@ -24,11 +23,3 @@ pub then_told : {o p q : List ℕ} {at mid end : ℕ} {x : List ℕ} (y : List �
 then_told {o} {p} {q} {at} {mid} {end} {x} y f h e w =
     let room : mid + length y ≤ length p = omega (arith, put_length f) in
     then f (put_told y room e w)
-
--- what a call has to promise where it put the text, and where it did not
-module _ (o x : List ℕ) (at : ℕ) where
-  pub is_put : at + length x ≤ length o → (at + length x ≡ end_of (length o) at x) × (sets o at x ≡ put_of o at x)
-  is_put h = let t : has_room (length o) at x ≡ true = le-leb (at + length x) (length o) h in (simp t, simp t)
-
-  pub not_put : length o < at + length x → (at ≡ end_of (length o) at x) × (o ≡ put_of o at x)
-  not_put h = let t : has_room (length o) at x ≡ false = lt-leb (at + length x) (length o) h in (simp t, simp t)

@@ -4,17 +4,15 @@ ghost use Rattle.std.proofs.lemmas.List.Edits.{sets};
 ghost use Rattle.text.specs.Put.{end_of, put_of};
 
 // Puts a text that fits, from a place on.
+#[tactic(auto, using(crate::proofs::Stores::stores))]
 fn put_all(text: &[u8], out: &mut [u8], at: usize) -> usize
     requires { at + length text.now ≤ length out.old }
     ensures end { result ≡ at + length text.now }
     ensures written { out.new ≡ sets out.old at text.now }
 {
-    let mut i = 0;
-    while i < text.len() {
-        out[at + i] = text[i];
-        i += 1;
-    }
-    at + i
+    let end = at + text.len();
+    out[at..end].copy_from_slice(text);
+    end
 }
 
 // Puts a text at a place and answers where it ends; if it does not fit, nothing is put, and the answer is the place.

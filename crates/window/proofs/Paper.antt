@@ -1,7 +1,9 @@
 -- Reading a span in document 01's own numbers, proved: each field cites the law that says it.
 -- Assumes nothing.
 use mathlib.Core.Path.{◌≡◌, refl, sym, ap, ◌∙◌, subst}
-use mathlib.Core.List.{List}
+use mathlib.Core.List.{List, [], ◌∷◌}
+use Rattle.std.specs.Prelude.{sum}
+use Rattle.ground.specs.Written.{upto, table}
 use lib.ListN.{length}
 use Prim.Native.Nat.{ℕ, ◌+◌}
 use Rattle.line.specs.Stream.{line_before}
@@ -24,7 +26,7 @@ use Rattle.ground.specs.Answer.{given}
 use Rattle.word.specs.LineNumber.{ln0, ln1}
 use Rattle.word.specs.Word.{guarded}
 use Rattle.window.specs.declared.delivery.Delivery.{Delivery}
-use Rattle.window.specs.Read.{delivery_of, picture_of, read_span}
+use Rattle.window.specs.Read.{each_bit, delivery_of, picture_of, read_span}
 use Rattle.window.specs.Tests.{sum_of, holds25, holds26}
 use Rattle.window.specs.Words.{word_at}
 use Rattle.window.specs.Rules.{Names, Follows}
@@ -41,11 +43,15 @@ answered_line f w r k e =
     (m, record { first = from; last = to; low = low; high = high }, subst (λ (n : ℕ). Follows n m) (sym same) (follows_before m from to))
 
 -- the twelve counts, one after the other
+bits_in_order : (at : ℕ → ℕ) → each_bit at ≡ at 0 ∷ at 1 ∷ at 2 ∷ at 3 ∷ at 4 ∷ at 5 ∷ at 6 ∷ at 7 ∷ at 8 ∷ at 9 ∷ at 10 ∷ at 11 ∷ []
+unfolding table upto
+bits_in_order at = refl
+
+-- and together
 add_up : (f : Format) (w : List ℕ)
     → let r = (delivery_of f w).repairs in
-    let of = r.of_bit in
-    of.b0 + of.b1 + of.b2 + of.b3 + of.b4 + of.b5 + of.b6 + of.b7 + of.b8 + of.b9 + of.b10 + of.b11 ≡ r.count
-unfolding delivery_of sum_of
+    sum r.of_bit ≡ r.count
+unfolding delivery_of sum_of table upto
 add_up f w = omega (arith, bits_add_up (streams (shape_of f)) (word_at (shape_of f) w))
 
 -- 800 and 800 are LN0 of line 128 and LN1 of line 127
@@ -78,7 +84,7 @@ window_paper = record {
   words_encoded = λ f w d c words k. exact_word f w (is_known_lem f k) d c words;
   beyond_repair = λ f a w d c words k known e h x before. two_wrong f a (is_known_lem f known) words w d c e k x before h;
   near_legal = near_legal;
-  bits_in_order = λ at. (refl, refl, refl, refl, refl, refl, refl, refl, refl, refl, refl, refl);
+  bits_in_order = bits_in_order;
   add_up = add_up;
   strict = λ f w r k e. strict f w (is_known_lem f k) r e;
   component_unread = component_unread;

@@ -13,6 +13,7 @@ use Rattle.ground.proofs.Cases.{on_test}
 use Rattle.span.specs.Layout.{sav_xyz, eav_xyz}
 use Rattle.word.specs.Repair.{distance, differs_at}
 use Rattle.word.specs.Received.{repaired, wrong_bits, bit_wrong}
+use Rattle.ground.proofs.Writing.{table_same}
 use Rattle.window.specs.Read.{each_bit}
 use Rattle.window.specs.Tests.{sum_of, over_xyz, repair_count, repairs_at}
 
@@ -79,21 +80,7 @@ bits_of_word w = bits_are_ones 12 (w ⊕ repaired w)
 
 -- counts that are the same for each of the twelve bits
 pub same_bits : (f g : ℕ → ℕ) → ((b : ℕ) → b < 12 → f b ≡ g b) → each_bit f ≡ each_bit g
-same_bits f g e =
-    rw (
-      e 0 (omega arith),
-      e 1 (omega arith),
-      e 2 (omega arith),
-      e 3 (omega arith),
-      e 4 (omega arith),
-      e 5 (omega arith),
-      e 6 (omega arith),
-      e 7 (omega arith),
-      e 8 (omega arith),
-      e 9 (omega arith),
-      e 10 (omega arith),
-      e 11 (omega arith),
-    )
+same_bits f g e = table_same 12 f g e
 
 -- ---- over all XYZ
 

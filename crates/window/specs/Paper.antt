@@ -1,7 +1,7 @@
 -- Reading a span in document 01's own numbers ("Receiving and finding" and its table of refusals): which windows are read, as what, and
 -- what every window that is read has. `proofs/Paper` proves each. Words and streams count from 0, so the paper's stream 1 is stream 0.
 -- Assumes nothing.
-use Rattle.std.specs.Prelude.{ℕ, ◌+◌, ◌*◌, ◌/◌, ◌≤◌, ◌<◌, ◌≡◌, Bool, List, ◌⊎◌, length, get_or, set}
+use Rattle.std.specs.Prelude.{ℕ, ◌+◌, ◌*◌, ◌/◌, ◌≤◌, ◌<◌, ◌≡◌, Bool, List, [], ◌∷◌, ◌⊎◌, sum, length, get_or, set}
 use Rattle.ground.specs.Answer.{refused, given}
 use Rattle.ground.specs.Written.{upto, table}
 use Rattle.symbol.specs.declared.disparity.Disparity.{Disparity}
@@ -91,25 +91,13 @@ pub record WindowPaper : Type 0 where
   -- the counts of a delivery are those of bits 0 to 11, in this order (b0 to b11 of 004, table 6)
   pub bits_in_order :
       (at : ℕ → ℕ)
-      → let c = each_bit at in
-      (c.b0 ≡ at 0)
-      × (c.b1 ≡ at 1)
-      × (c.b2 ≡ at 2)
-      × (c.b3 ≡ at 3)
-      × (c.b4 ≡ at 4)
-      × (c.b5 ≡ at 5)
-      × (c.b6 ≡ at 6)
-      × (c.b7 ≡ at 7)
-      × (c.b8 ≡ at 8)
-      × (c.b9 ≡ at 9)
-      × (c.b10 ≡ at 10)
-      × (c.b11 ≡ at 11)
+      → each_bit at
+      ≡ at 0 ∷ at 1 ∷ at 2 ∷ at 3 ∷ at 4 ∷ at 5 ∷ at 6 ∷ at 7 ∷ at 8 ∷ at 9 ∷ at 10 ∷ at 11 ∷ []
   -- the counts of the twelve bits add up to the count of wrong bits, whatever the words
   pub add_up :
       (f : Format) (w : List ℕ)
       → let r = (delivery_of f w).repairs in
-      let of = r.of_bit in
-      of.b0 + of.b1 + of.b2 + of.b3 + of.b4 + of.b5 + of.b6 + of.b7 + of.b8 + of.b9 + of.b10 + of.b11 ≡ r.count
+      sum r.of_bit ≡ r.count
   -- a sent span's words with another twelve-bit word for one XYZ of the SAV are such words, at every place and before every place
   pub disturbed :
       (f : Format) (a : Request) (t x : ℕ)

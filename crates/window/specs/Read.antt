@@ -10,7 +10,7 @@ use Rattle.span.specs.declared.format.Shape.{Shape}
 use Rattle.span.specs.Format.{is_known, shape_of, streams, samples_in, pairs_in, symbols_in, eav_at}
 use Rattle.window.specs.declared.delivery.Delivery.{Delivery}
 use Rattle.window.specs.declared.delivery.Repairs.{Repairs}
-use Rattle.window.specs.declared.delivery.RepairsOfBit.{RepairsOfBit}
+use Rattle.ground.specs.Written.{table}
 use Rattle.window.specs.Scan.{byte_of, symbol_at, start_of, running_at, holds20}
 use Rattle.window.specs.Tests.{holds21, holds22, holds23, holds24, holds25, holds26, line_read, repair_count, repairs_at, rows}
 use Rattle.window.specs.Words.{word_at}
@@ -50,23 +50,9 @@ content_in p w =
       eav2 = byte_of (symbol_at w (eav_at p + 3));
     }
 
--- a count for each bit
-abbrev pub each_bit : (ℕ → ℕ) → RepairsOfBit
-each_bit at =
-    record {
-      b0 = at 0;
-      b1 = at 1;
-      b2 = at 2;
-      b3 = at 3;
-      b4 = at 4;
-      b5 = at 5;
-      b6 = at 6;
-      b7 = at 7;
-      b8 = at 8;
-      b9 = at 9;
-      b10 = at 10;
-      b11 = at 11;
-    }
+-- a count for each of the twelve bits, b0, the lowest, first
+abbrev pub each_bit : (ℕ → ℕ) → List ℕ
+each_bit at = table 12 at
 
 -- the repairs of a span with this many wrong bits, of which so many are each bit
 abbrev pub repairs_of : ℕ → (ℕ → ℕ) → Repairs

@@ -3,33 +3,16 @@ use line::stream::StreamLine;
 use span::content::ContentBytes;
 use symbol::disparity::Disparity;
 
-// How often each of the twelve bits of a timing word was corrected, b0 the lowest (004, table 6).
-#[derive(Drop)]
-pub struct RepairsOfBit {
-    pub b0: u8,
-    pub b1: u8,
-    pub b2: u8,
-    pub b3: u8,
-    pub b4: u8,
-    pub b5: u8,
-    pub b6: u8,
-    pub b7: u8,
-    pub b8: u8,
-    pub b9: u8,
-    pub b10: u8,
-    pub b11: u8,
-}
-
 // What was corrected in the timing words: the number of wrong bits in all of them together, which is the sum of the words' distances, and
-// how many of these were each bit.
-#[derive(Drop)]
+// how many of these were each of the twelve bits, b0, the lowest, first (004, table 6).
+#[derive(Clone, Copy)]
 pub struct Repairs {
     pub count: u8,
-    pub of_bit: RepairsOfBit,
+    pub of_bit: [u8; 12],
 }
 
 // The line n whose SAV begins the span, the content bytes, the disparity before the span and after it, and the repairs.
-#[derive(Drop)]
+#[derive(Clone, Copy)]
 pub struct Delivery {
     pub line: StreamLine,
     pub content: ContentBytes,

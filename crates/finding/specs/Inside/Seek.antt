@@ -1,18 +1,11 @@
--- What the search answers, and what is read at a place.
+-- What is read at a place.
 -- Assumes nothing.
 use Rattle.std.specs.Prelude.{ℕ, List, take, drop}
-use Rattle.std.proofs.Math.Option.{Option, none, some}
+use Rattle.std.proofs.Math.Option.{Option}
 use Rattle.span.specs.declared.format.Format.{Format}
 use Rattle.span.specs.Format.{shape_of, symbols_in}
 use Rattle.delivery.specs.Delivery.{Found, found_at}
-use Rattle.recording.specs.declared.answer.Spanned.{Spanned}
 use Rattle.recording.specs.Recording.{Reading, reading}
-use Rattle.finding.specs.declared.seek.Sought.{Sought}
-use Rattle.finding.specs.declared.seek.Sought.TheVariants.{Span, None}
-
-abbrev pub sought_of : Sought → Option Spanned
-sought_of (Span s) = some s
-sought_of None = none
 
 -- what is read at place q
 abbrev pub read_at : Format → List ℕ → ℕ → Option (Found Reading)

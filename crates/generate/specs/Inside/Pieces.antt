@@ -1,9 +1,7 @@
 -- What is written, piece by piece: definitions that only loops and proofs use. The rest is in specs/Pieces.
 -- Assumes nothing.
 use Rattle.std.specs.Prelude.{ℕ, ◌-◌, List}
-use Rattle.ground.specs.Answer.{Answer, refused, given}
 use Rattle.line.specs.Stream.{line_after}
-use Rattle.symbol.specs.declared.disparity.Disparity.{Disparity}
 use Rattle.span.specs.Span.{span_symbols, span_after, signal_from}
 use Rattle.generate.specs.declared.left.Left.{Left}
 use Rattle.generate.specs.Generated.{span_on, spans_from, low_first}
@@ -24,8 +22,3 @@ next_left s =
       disparity = span_after s.disparity s.format (span_on s.format s.line.0);
       count = s.count - 1;
     }
-
--- the disparity after a span that was sent; unchanged if it was refused
-abbrev pub after_or : Disparity → Answer Disparity → Disparity
-after_or d (refused number place) = d
-after_or d (given e) = e

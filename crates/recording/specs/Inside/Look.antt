@@ -1,7 +1,6 @@
 -- Where a span may begin: a window that is accepted has K28.5 at its first two symbols and at no other.
 -- Assumes nothing.
-use Rattle.std.specs.Prelude.{ℕ, zero, suc, ◌+◌, ◌-◌, ◌≤◌, ◌<◌, ◌≡◌, Bool, true, false, cond, ◌&&◌, ◌||◌, List, eqb, get_or}
-use Rattle.std.specs.Int.Bits.{bit_or}
+use Rattle.std.specs.Prelude.{ℕ, ◌+◌, ◌-◌, ◌≤◌, ◌<◌, ◌≡◌, Bool, true, false, ◌&&◌, ◌||◌, List, eqb, get_or}
 use Rattle.symbol.specs.declared.disparity.Disparity.TheVariants.{Negative, Positive}
 use Rattle.symbol.specs.declared.special.Special.TheVariants.{K28_5}
 use Rattle.symbol.specs.Character.{number_of}
@@ -10,21 +9,6 @@ use Rattle.symbol.specs.Code.{symbol_of}
 -- K28.5 in either form; 8B/10B calls the bit sequence in it a comma
 unfoldable pub is_comma : ℕ → Bool
 is_comma s = eqb s (symbol_of Negative (number_of K28_5)) || eqb s (symbol_of Positive (number_of K28_5))
-
--- 1 if it is
-abbrev pub comma_in : ℕ → ℕ
-comma_in s = cond (is_comma s) 1 0
-
--- ---- many symbols at once
-
--- n marks together: 0 only if each is 0
-unfoldable pub gathered : ℕ → (ℕ → ℕ) → ℕ
-gathered zero mark = 0
-gathered (suc n) mark = bit_or (gathered n mark) (mark n)
-
--- the mark of the symbol k after a place: 1 if it is K28.5
-abbrev pub comma_at : List ℕ → ℕ → ℕ → ℕ
-comma_at r from k = comma_in (get_or r (from + k) 0)
 
 -- ---- where a span may begin
 

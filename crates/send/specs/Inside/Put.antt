@@ -1,7 +1,7 @@
 -- What the sender's loops put into the symbol buffer, with the running disparity kept as its offset in the encoder's tables. Only private
 -- functions use this. Law `whole_is`: all of it together is the characters of the span.
 -- Assumes nothing.
-use Rattle.std.specs.Prelude.{◌≡◌, ℕ, zero, suc, ◌+◌, ◌-◌, ◌*◌, ◌<◌, true, false, cond, List, [], ◌∷◌, ◌++◌, length, drop, ◌==◌, slice_index, slice_set}
+use Rattle.std.specs.Prelude.{◌≡◌, ℕ, zero, suc, ◌+◌, ◌-◌, ◌*◌, ◌/◌, ◌%◌, ◌<◌, true, false, cond, List, [], ◌∷◌, ◌++◌, length, drop, ◌==◌, slice_index, slice_set}
 use Rattle.std.proofs.lemmas.List.Edits.{sets}
 use Rattle.ground.specs.Written.{upto, table}
 use Rattle.symbol.specs.declared.disparity.Disparity.{Disparity}
@@ -29,7 +29,6 @@ use Rattle.span.specs.Sample.{blank_word}
 use Rattle.span.specs.Span.{interleaved, bytes_listed, bytes, fill_word}
 use Rattle.send.specs.declared.coder.Coded.{Coded}
 use Rattle.send.specs.declared.coder.Three.{Three}
-use Rattle.send.specs.declared.put.Four.{Four}
 use Rattle.send.specs.declared.picture_words.Passed.{Passed}
 
 -- a character
@@ -60,10 +59,6 @@ pair_chars a b = bytes_listed (bytes_of a b)
 unfoldable pub group_chars : ℕ → (ℕ → ℕ) → List ℕ
 group_chars pairs w = upto pairs (λ u. pair_chars (w (2 * u)) (w (2 * u + 1)))
 
--- one word of each of up to four streams
-abbrev pub word_of_four : Four → ℕ → ℕ
-word_of_four g t = slice_index (g.a ∷ g.b ∷ g.c ∷ g.e ∷ []) t
-
 -- the first two pairs of a timing code, with the special character and the content bytes put in; w is the word of the second pair
 abbrev pub sync_chars : ℕ → ℕ → ℕ → ℕ → List ℕ
 sync_chars k content1 content2 w =
@@ -89,6 +84,10 @@ picture_word ws t j = slice_index ws (1920 * t + j)
 -- the characters of a word of each of two streams, of the first the one at place i
 abbrev pub pair_chars_at : List ℕ → ℕ → List ℕ
 pair_chars_at ws i = pair_chars (slice_index ws i) (slice_index ws (i + 1920))
+
+-- where pair m of those sent, word by word, has its first word
+abbrev pub pair_place : ℕ → ℕ → ℕ
+pair_place pairs m = 3840 * (m % pairs) + m / pairs
 
 -- the characters of the first n words of all streams
 unfoldable pub picture_chars : ℕ → ℕ → (ℕ → ℕ → ℕ) → List ℕ

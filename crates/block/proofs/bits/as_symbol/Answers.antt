@@ -6,4 +6,4 @@ use Rattle.block.proofs.bits.as_symbol.Goals as goal
 
 pub returns : goal.returns
 unfolding as_symbol
-returns c = omega (arith, c.six_turned.ensures.value, c.four_turned.ensures.value)
+returns c = omega (arith, c.turned.ensures.value, c.turned-2.ensures.value)

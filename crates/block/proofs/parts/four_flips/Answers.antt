@@ -1,18 +1,10 @@
--- `block::parts::four_flips` meets its contract: after y iterations the first y entries stand in their places.
+-- `block::parts::four_flips` meets its contract: each entry is what is answered of the block in its place.
 -- Assumes nothing.
-use Prim.Native.Nat.{◌-◌}
-use native.Mathlib.Omega.{arith}
-use lib.ListN.{replicate}
-use Rattle.block.specs.Inside.Parts.{flip_of, four_flips}
-use Rattle.ground.proofs.Storing.{none_stored, one_more, all_stored}
+use Rattle.std.proofs.Common.{rules}
+use Rattle.ground.proofs.Writing.{is_table}
+use Rattle.block.specs.Inside.Parts.{four_flips}
 use Rattle.block.proofs.parts.four_flips.Goals as goal
-
-pub loop-y-init : goal.loop-y-init
-loop-y-init c = (omega arith, none_stored (replicate 8 0) 0 _)
-
-pub loop-y-preserved : goal.loop-y-preserved
-loop-y-preserved c = (omega arith, one_more (replicate 8 0) 0 _ c.loop-y.y c.loop-y.invariant.1 (omega arith) c.flip_of.ensures)
 
 pub returns : goal.returns
 unfolding four_flips
-returns c = all_stored 8 _ c.loop-y.y c.loop-y.invariant.1 (omega arith)
+returns c = is_table 8 _ 0 _ c.each.ensures.long (λ i h. let answer = c.each.ensures.at i h in search rules)

@@ -1,18 +1,10 @@
--- `block::parts::six_masks` meets its contract: after x iterations the first x entries stand in their places.
+-- `block::parts::six_masks` meets its contract: each entry is what is answered of the block in its place.
 -- Assumes nothing.
-use Prim.Native.Nat.{◌-◌}
-use native.Mathlib.Omega.{arith}
-use lib.ListN.{replicate}
-use Rattle.block.specs.Inside.Parts.{flip_mask, six_masks}
-use Rattle.ground.proofs.Storing.{none_stored, one_more, all_stored}
+use Rattle.std.proofs.Common.{rules}
+use Rattle.ground.proofs.Writing.{is_table}
+use Rattle.block.specs.Inside.Parts.{six_masks}
 use Rattle.block.proofs.parts.six_masks.Goals as goal
-
-pub loop-x-init : goal.loop-x-init
-loop-x-init c = (omega arith, none_stored (replicate 32 0) 0 _)
-
-pub loop-x-preserved : goal.loop-x-preserved
-loop-x-preserved c = (omega arith, one_more (replicate 32 0) 0 _ c.loop-x.x c.loop-x.invariant.1 (omega arith) c.flip_mask.ensures)
 
 pub returns : goal.returns
 unfolding six_masks
-returns c = all_stored 32 _ c.loop-x.x c.loop-x.invariant.1 (omega arith)
+returns c = is_table 32 _ 0 _ c.each.ensures.long (λ i h. let answer = c.each.ensures.at i h in search rules)

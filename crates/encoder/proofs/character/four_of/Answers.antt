@@ -1,21 +1,13 @@
 -- `encoder::character::four_of` meets its contract: a special character has four bits of its own.
 -- Assumes nothing.
-use native.Mathlib.Omega.{arith}
 use borrow.Author.Tests.{lt-ltb, le-ltb}
 use Rattle.symbol.specs.Code.{four_of}
 use Rattle.encoder.specs.Inside.Character.{four_of_byte}
-use Rattle.encoder.proofs.Blocks.{y_below}
 use Rattle.encoder.proofs.character.four_of.Goals as goal
-
-pub four_of_byte-requires : goal.four_of_byte-requires
-four_of_byte-requires c = omega (arith, c.y_of-y.ensures, y_below c.args.c (omega arith))
 
 pub returns-then-c-lt256 : goal.returns-then-c-lt256
 unfolding four_of four_of_byte
 returns-then-c-lt256 c = rw (c.four_of_byte.ensures, c.y_of-y.ensures, c.x_of.ensures) (simp (lt-ltb _ _ c.if-c-lt256.true))
-
-pub bounds-special-y : goal.bounds-special-y
-bounds-special-y c = omega (arith, c.y_of-y.ensures, y_below c.args.c (omega arith))
 
 pub returns : goal.returns
 unfolding four_of

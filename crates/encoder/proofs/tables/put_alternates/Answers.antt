@@ -1,8 +1,6 @@
 -- `encoder::tables::put_alternates` meets its contract: three entries, one after the other.
 -- Assumes nothing.
-use mathlib.Core.Path.{ap}
 use native.Mathlib.Omega.{arith}
-use lib.ListN.{length, length-set}
 use Rattle.encoder.specs.Inside.Filling.{alternates_put}
 use Rattle.encoder.proofs.Blocks.{alternate_below}
 use Rattle.encoder.proofs.tables.put_alternates.Goals as goal
@@ -15,12 +13,12 @@ put_entry-requires c =
 pub put_entry-requires-2 : goal.put_entry-requires-2
 put_entry-requires-2 c =
     let b = alternate_below _ c.alternate_at-xs.ensures in
-    record { x_bound = omega arith; at_in_bounds = omega (arith, simp length-set at (ap length c.put_entry.ensures)) }
+    record { x_bound = omega arith; at_in_bounds = omega arith }
 
 pub put_entry-requires-3 : goal.put_entry-requires-3
 put_entry-requires-3 c =
     let b = alternate_below _ c.alternate_at-xs.ensures in
-    record { x_bound = omega arith; at_in_bounds = omega (arith, simp length-set at (ap length c.put_entry-2.ensures), simp length-set at (ap length c.put_entry.ensures)) }
+    record { x_bound = omega arith; at_in_bounds = omega arith }
 
 pub returns : goal.returns
 unfolding alternates_put

@@ -8,7 +8,6 @@ use lib.Seq.{length-take-le}
 use Rattle.span.specs.declared.length.SpanLengths.{SpanLengths}
 use Rattle.span.proofs.Formats.{small}
 use Rattle.recording.specs.Recording.{limit}
-use Rattle.finding.specs.Inside.Seek.{sought_of}
 use Rattle.recording.proofs.Calling.{find_meets_3, finds_place, finds_none}
 use Rattle.finding.proofs.find.find.Goals as goal
 
@@ -16,7 +15,7 @@ pub returns-then-limit-symbols : goal.returns-then-limit-symbols
 returns-then-limit-symbols c =
     let a = c.args in
     let r = a.symbols.now in
-    let known = sym c.is_known.ensures ∙ c.if-is_known.true in
+    let known = sym c.is_known.ensures ∙ c.if-not-is_known.false in
     let long : limit < length r = omega (arith, c.limit.ensures, c.if-limit-symbols.true) in
     sym (find_meets_3 a.f r a.start known long)
 
@@ -34,26 +33,26 @@ pub seek-requires : goal.seek-requires
 seek-requires c =
     let a = c.args in
     let r = a.symbols.now in
-    let known = sym c.is_known.ensures ∙ c.if-is_known.true in
+    let known = sym c.is_known.ensures ∙ c.if-not-is_known.false in
     let short : length r ≤ limit = omega (arith, c.limit.ensures, c.if-limit-symbols.false) in
     let inside : a.start ≤ length r = omega (arith, c.if-symbols-start.false) in
     let few : c.span_lengths-m.result.samples ≤ 7680 = omega (arith, ap (λ (l : SpanLengths). l.samples) c.span_lengths-m.ensures, (small c.args.f refl).half) in
     record { f_value = known; start_in_bounds = inside; rows_len = length-take-le _ _ few ∙ ap (λ (l : SpanLengths). l.samples) c.span_lengths-m.ensures }
 
-pub returns-in-Span : goal.returns-in-Span
-returns-in-Span c =
+pub returns-in-Some : goal.returns-in-Some
+returns-in-Some c =
     let a = c.args in
     let r = a.symbols.now in
-    let known = sym c.is_known.ensures ∙ c.if-is_known.true in
+    let known = sym c.is_known.ensures ∙ c.if-not-is_known.false in
     let short : length r ≤ limit = omega (arith, c.limit.ensures, c.if-limit-symbols.false) in
     let inside : a.start ≤ length r = omega (arith, c.if-symbols-start.false) in
-    finds_place a.f r a.start known short inside (sym (ap sought_of c.in-Span.is) ∙ c.seek.ensures.answer)
+    finds_place a.f r a.start known short inside (c.in-Some.ensures.answer)
 
 pub returns-in-None : goal.returns-in-None
 returns-in-None c =
     let a = c.args in
     let r = a.symbols.now in
-    let known = sym c.is_known.ensures ∙ c.if-is_known.true in
+    let known = sym c.is_known.ensures ∙ c.if-not-is_known.false in
     let short : length r ≤ limit = omega (arith, c.limit.ensures, c.if-limit-symbols.false) in
     let inside : a.start ≤ length r = omega (arith, c.if-symbols-start.false) in
-    finds_none a.f r a.start known short inside (sym (ap sought_of c.in-None.is) ∙ c.seek.ensures.answer)
+    finds_none a.f r a.start known short inside (c.in-None.ensures.answer)

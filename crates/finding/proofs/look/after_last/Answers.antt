@@ -1,12 +1,15 @@
 -- `finding::look::after_last` meets its contract.
 -- Assumes nothing.
-use Prim.Native.Nat.{◌-◌}
+use mathlib.Core.Path.{◌≡◌}
+use Prim.Native.Nat.{◌+◌, ◌-◌}
 use native.Mathlib.Omega.{arith}
-use Rattle.recording.proofs.Looking.{many_before}
+use Rattle.recording.proofs.Looking.{joined}
 use Rattle.finding.proofs.look.after_last.Goals as goal
 
 pub loop-k-preserved : goal.loop-k-preserved
 loop-k-preserved c =
     let v = c.loop-k in
     let more = c.loop-k-test.true in
-    (omega (arith, more), omega (arith, v.invariant.1), many_before c.args.symbols.now _ v.invariant.2 (omega (arith, more)) c.commas.ensures c.if-commas-ne0.false)
+    let back : v.k - 64 + 64 ≡ v.k = omega (arith, more) in
+    let clear = c.none_is_comma.ensures c.if-not-none_is_comma.false in
+    (omega (arith, more), omega (arith, v.invariant.1), joined c.args.symbols.now (rw back at clear) v.invariant.2)

@@ -1,6 +1,6 @@
 -- `finding::look::after_last` meets its contract.
 -- Assumes nothing.
-use Prim.Native.Nat.{◌-◌, ◌≤◌}
+use Prim.Native.Nat.{◌≤◌}
 use Rattle.recording.specs.Inside.Look.{Clear}
 use Rattle.finding.proofs.look.after_last.Given as goal
 

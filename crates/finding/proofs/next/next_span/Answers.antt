@@ -28,7 +28,7 @@ pub next_from-requires : goal.next_from-requires
 next_from-requires c =
     let a = c.args in
     let r = a.symbols.now in
-    let known = sym c.is_known.ensures ∙ c.if-is_known.true in
+    let known = sym c.is_known.ensures ∙ c.if-not-is_known.false in
     let room : length a.rows.now ≡ samples_in (shape_of a.f) = omega (arith, ap (λ (l : SpanLengths). l.samples) c.span_lengths.ensures, c.if-rows-span_lengths.false) in
     let inside : a.start ≤ length r = omega (arith, c.if-symbols-start.false) in
     let few : length a.rows.now ≤ 7680 = omega (arith, room, (small a.f refl).half) in

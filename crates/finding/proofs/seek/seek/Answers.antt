@@ -9,7 +9,6 @@ use Rattle.recording.specs.Call.{spanned, words_or}
 use Rattle.recording.specs.Inside.Look.{LookInv, LastInv}
 use Rattle.recording.proofs.Looking.{none_yet, all_passed, some_passed}
 use Rattle.recording.proofs.Readings.{long}
-use Rattle.finding.specs.Inside.Seek.{sought_of}
 use Rattle.finding.proofs.Seeking.{begin, pass, none_here, found_here, the_same, nothing, none_answered}
 use Rattle.finding.proofs.seek.seek.Goals as goal
 
@@ -19,10 +18,10 @@ returns-then-symbols-start c = let r = c.args.symbols.now in
     let told = none_answered c.args.rows.now
     (nothing c.args.f r c.requires.f_value (begin c.args.f r c.args.start) (omega (arith, n, c.requires.start_in_bounds, c.if-symbols-start.true))) in record { answer = told.0; rows = told.1 }
 
-pub returns-in-Span : goal.returns-in-Span
-returns-in-Span c =
+pub returns-in-Some : goal.returns-in-Some
+returns-in-Some c =
     let r = c.args.symbols.now in
-    let e = sym (ap sought_of c.in-Span.is) ∙ c.span_at.ensures.answer in
+    let e = c.in-Some.ensures.answer in
     let next = found_here c.args.f r c.requires.f_value (begin c.args.f r c.args.start) e in
     record { answer = e ∙ sym (ap spanned next); rows = c.span_at.ensures.rows ∙ sym (ap (words_or c.span_at.new.rows) next) }
 
@@ -38,15 +37,15 @@ returns-then-k-start c =
     let three = long f c.requires.f_value in
     let n = ap (λ (l : SpanLengths). l.symbols) c.span_lengths-n.ensures in
     let m : LastInv r (c.args.start + 2) (c.args.start + symbols_in (shape_of f)) c.after_last-k.result = rw n at c.after_last-k.ensures in
-    let e = sym (ap sought_of c.in-None.is) ∙ c.span_at.ensures.answer in
+    let e = c.in_default.ensures.answer in
     let here = none_here f r c.requires.f_value (begin f r c.args.start) e in
     let all : LookInv (symbols_in (shape_of f)) r (c.args.start + 1) (c.args.start + c.span_lengths-n.result.symbols) =
     all_passed r (symbols_in (shape_of f)) c.args.start three (omega arith) m (none_yet r _) (omega (arith, c.if-k-start.true)) (omega (arith, n, three)) (omega (arith, n)) in
     let next = the_same f r c.requires.f_value (pass f r c.requires.f_value here all) in
     record { answer = c.seek_on.ensures.answer ∙ sym (ap spanned next); rows = c.seek_on.ensures.rows ∙ sym (ap (words_or c.seek_on.new.rows) next) }
 
-pub returns-in-None : goal.returns-in-None
-returns-in-None c =
+pub returns : goal.returns
+returns c =
     let f = c.args.f in
     let r = c.args.symbols.now in
     let three = long f c.requires.f_value in
@@ -55,4 +54,4 @@ returns-in-None c =
     let some : LookInv (symbols_in (shape_of f)) r c.args.start (c.after_last-k.result - 2) =
     some_passed r (symbols_in (shape_of f)) c.args.start three (omega arith) m c.if-k-start.false (omega (arith, m.low)) (omega (arith, m.low)) in
     let next = the_same f r c.requires.f_value (pass f r c.requires.f_value (begin f r c.args.start) some) in
-    record { answer = c.seek_on-in-None.ensures.answer ∙ sym (ap spanned next); rows = c.seek_on-in-None.ensures.rows ∙ sym (ap (words_or c.seek_on-in-None.new.rows) next) }
+    record { answer = c.seek_on-2.ensures.answer ∙ sym (ap spanned next); rows = c.seek_on-2.ensures.rows ∙ sym (ap (words_or c.seek_on-2.new.rows) next) }

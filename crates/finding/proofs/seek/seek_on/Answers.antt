@@ -10,18 +10,17 @@ use Rattle.recording.specs.Call.{spanned, words_or}
 use Rattle.recording.specs.Inside.Look.{LastInv}
 use Rattle.recording.proofs.Looking.{none_yet, all_passed, some_passed}
 use Rattle.recording.proofs.Readings.{long}
-use Rattle.finding.specs.Inside.Seek.{sought_of}
 use Rattle.finding.proofs.Seeking.{pass, none_here, found_here, nothing, none_answered}
 use Rattle.finding.proofs.seek.seek_on.Goals as goal
 
-pub returns-in-Span : goal.returns-in-Span
-returns-in-Span c =
-    let e = sym (ap sought_of c.in-Span.is) ∙ c.span_at.ensures.answer in
+pub returns-in-Some : goal.returns-in-Some
+returns-in-Some c =
+    let e = c.in-Some.ensures.answer in
     let next = found_here c.args.f c.args.symbols.now c.requires.f_value c.loop-i.invariant.0 e in
     record { answer = e ∙ sym (ap spanned next); rows = c.span_at.ensures.rows ∙ sym (ap (words_or c.span_at.new.rows) next) }
 
-pub loop-i-preserved-in-None : goal.loop-i-preserved-in-None
-loop-i-preserved-in-None c =
+pub loop-i-preserved-then-k-clear : goal.loop-i-preserved-then-k-clear
+loop-i-preserved-then-k-clear c =
     let f = c.args.f in
     let r = c.args.symbols.now in
     let i = c.loop-i.i in
@@ -30,7 +29,7 @@ loop-i-preserved-in-None c =
     let n = ap (λ (l : SpanLengths). l.symbols) c.span_lengths-n.ensures in
     let m : LastInv r c.loop-i.clear (i + symbols_in (shape_of f)) c.after_last-k.result = rw n at c.after_last-k.ensures in
     let inside = c.loop-i-test.true in
-    let e = sym (ap sought_of c.in-None.is) ∙ c.span_at.ensures.answer in
+    let e = c.in_default.ensures.answer in
     let here = none_here f r c.requires.f_value v.0 e in (
       pass f r c.requires.f_value here (all_passed r (symbols_in (shape_of f)) i three v.2 m v.4 (omega (arith, c.if-k-clear.true)) (omega (arith, n, three)) (omega (arith, n))),
       omega (arith, v.1, inside),

@@ -20,7 +20,7 @@ returns c =
     let line = ready.line some in
     let put = c.put_samples.ensures.samples in
     let symbols =
-    are_symbols s.disparity s.format s.line.0 known line c.args.samples.now long put c.args.symbols.now room c.send-sent.ensures.symbols in
+    are_symbols s.disparity s.format s.line.0 known line c.args.samples.now long put c.args.symbols.now room c.send.ensures.symbols in
     let after =
-    is_after s.disparity s.format s.line.0 known line c.args.samples.now long put c.args.symbols.now room c.send-sent.ensures.answer in
-    record { next = left_is refl (omega (arith, c.line_after-after.ensures)) refl (c.after_of-disparity.ensures ∙ after); bytes = c.put_bytes.ensures ∙ ap low_first symbols }
+    is_after s.disparity s.format s.line.0 known line c.args.samples.now long put c.args.symbols.now room c.send.result c.send.ensures.answer in
+    record { next = left_is refl (omega (arith, c.line_after-after.ensures)) refl (c.unwrap_or-disparity.ensures ∙ after); bytes = c.put_bytes.ensures ∙ ap low_first symbols }

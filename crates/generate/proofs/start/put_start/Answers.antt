@@ -6,5 +6,5 @@ use Rattle.generate.proofs.Starts.{header}
 use Rattle.generate.proofs.start.put_start.Goals as goal
 
 pub returns : goal.returns
-returns c = let good = sym c.wanted_in.ensures ∙ ap paper_wanted c.in-Recording.is in
+returns c = let good = sym c.wanted_in.ensures ∙ ap paper_wanted c.in-Ok.is in
     let told = header c.args.input.now c.args.out.now good c.requires c.put_text-end.ensures.end c.put_text-end.ensures.written c.all_of-left.ensures in record { counts = told.0; ready = told.1.0; end = told.1.1.0; left = told.1.1.1.0; written = told.1.1.1.1 }

@@ -15,7 +15,7 @@ use Rattle.list_repairs.proofs.listing.put_listing.Goals as goal
 pub loop-i-init : goal.loop-i-init
 loop-i-init c =
     let a = c.args in
-    (c.least-count.ensures, search rules, omega arith, none_listed a.input.now a.out.now)
+    (omega (arith, c.min-count.ensures), search rules, omega arith, none_listed a.input.now a.out.now)
 
 pub put_line-at-requires : goal.put_line-at-requires
 put_line-at-requires c =

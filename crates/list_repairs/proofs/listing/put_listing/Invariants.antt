@@ -1,7 +1,7 @@
 -- `list_repairs::listing::put_listing` meets its contract: after i iterations the first i lines are there.
 -- Assumes nothing.
 use mathlib.Core.Path.{◌≡◌}
-use Prim.Native.Nat.{◌-◌, ◌≤◌}
+use Prim.Native.Nat.{◌≤◌}
 use lib.ListN.{length}
 use Rattle.ground.proofs.Putting.{Put}
 use Rattle.list_repairs.specs.Text.{word_count, repair_lines}
@@ -13,6 +13,3 @@ invariant-loop-i l =
     × (688128 ≤ length l.initial.out)
     × (l.i ≤ l.count)
     × Put l.initial.out l.out 0 l.at (repair_lines l.input l.i)
-
-abbrev pub decreases-loop-i : goal.decreases-loop-i
-decreases-loop-i l = l.count - l.i

@@ -12,12 +12,12 @@ use Rattle.ground.specs.Answer.{given}
 use borrow.Author.Rules.{rules}
 use Rattle.list_repairs.proofs.listing.put_outcome.Goals as goal
 
-pub returns-in-Word : goal.returns-in-Word
-returns-in-Word c =
+pub returns-in-Ok : goal.returns-in-Ok
+returns-in-Ok c =
     let r = c.repair_timing_word in
     let a = c.args in
-    let v = c.in-Word.r in
-    let e : given v ≡ repair_of a.w = sym (ap paper_repair c.in-Word.is) ∙ r.ensures in
+    let v = c.in-Ok.r in
+    let e : given v ≡ repair_of a.w = sym (ap paper_repair c.in-Ok.is) ∙ r.ensures in
     let room : a.at + 10 ≤ length a.out.now = search rules in
     let p =
     put_as (ap outcome e)

@@ -6,30 +6,30 @@ use Prim.Native.Nat.{ℕ}
 use native.Mathlib.Omega.{arith}
 use borrow.Author.Rules.{rules}
 use Rattle.recording.specs.Recording.{delivery_from}
-use Rattle.recording.proofs.OneStep.{none_left, stepped, ended}
+use Rattle.recording.proofs.OneStep.{stepped, ended}
 use Rattle.list_spans.specs.Listing.{span_line, lines_of}
 use Rattle.list_spans.proofs.Left.{piece_put, nothing_left}
-use Rattle.list_spans.proofs.Stepping.{within_limit, line_shorter, first_line}
+use Rattle.list_spans.proofs.Stepping.{within_limit, line_shorter, first_line, delivered_is, none_is}
 use Rattle.list_spans.proofs.list.put_spans.Goals as goal
 
-pub loop-place-smaller : goal.loop-place-smaller
-loop-place-smaller c =
-    let v = c.loop-place in
+pub loop-s-smaller : goal.loop-s-smaller
+loop-s-smaller c =
+    let v = c.loop-s in
     let a = c.args in
     let step =
-    stepped a.f c.requires.f_value a.symbols.now (within_limit _ c.requires.symbols_len_bound) v.place v.invariant.1 v.rows (v.invariant.2 ∙ c.requires.rows_len) c.in-Delivered.is
+    stepped a.f c.requires.f_value a.symbols.now (within_limit _ c.requires.symbols_len_bound) v.place v.invariant.1 v.rows (v.invariant.2 ∙ c.requires.rows_len) (delivered_is c.next_span-next.result.answer (sym c.unwrap_or.ensures ∙ c.in-Some.is))
     c.next_span-next.ensures.answer c.next_span-next.ensures.after in
     omega (arith, step.behind, line_shorter a.f c.requires.f_value, step.inside)
 
-pub loop-place-preserved : goal.loop-place-preserved
-loop-place-preserved c =
-    let v = c.loop-place in
+pub loop-s-preserved : goal.loop-s-preserved
+loop-s-preserved c =
+    let v = c.loop-s in
     let a = c.args in
     let step =
-    stepped a.f c.requires.f_value a.symbols.now (within_limit _ c.requires.symbols_len_bound) v.place v.invariant.1 v.rows (v.invariant.2 ∙ c.requires.rows_len) c.in-Delivered.is
+    stepped a.f c.requires.f_value a.symbols.now (within_limit _ c.requires.symbols_len_bound) v.place v.invariant.1 v.rows (v.invariant.2 ∙ c.requires.rows_len) (delivered_is c.next_span-next.result.answer (sym c.unwrap_or.ensures ∙ c.in-Some.is))
     c.next_span-next.ensures.answer c.next_span-next.ensures.after in
     let number = c.number_of-number in
-    let place = c.in-Delivered.s.place in
+    let place = c.in-Some.s.place in
     let more = lines_of (delivery_from a.f a.symbols.now c.next_span-next.result.after) in (
       omega (arith, step.behind, line_shorter a.f c.requires.f_value, v.invariant.0, c.put_line-at.ensures.most),
       step.inside,
@@ -41,18 +41,10 @@ loop-place-preserved c =
 
 pub returns-in_default : goal.returns-in_default
 returns-in_default c =
-    let v = c.loop-place in
+    let v = c.loop-s in
     let a = c.args in
     let none =
     ended a.f c.requires.f_value a.symbols.now (within_limit _ c.requires.symbols_len_bound) v.place v.invariant.1 v.rows (v.invariant.2 ∙ c.requires.rows_len) c.next_span-next.result.answer
-    c.in_default.not-Delivered c.next_span-next.ensures.answer in
-    let all = nothing_left v.invariant.4 (ap lines_of none) in
-    record { end = all.0; most = omega (arith, v.invariant.0, v.invariant.1, c.requires.symbols_len_bound); written = all.1 }
-
-pub returns : goal.returns
-returns c =
-    let v = c.loop-place in
-    let a = c.args in
-    let none = none_left a.f c.requires.f_value a.symbols.now v.place c.loop-place-test.false in
+    (none_is c.next_span-next.result.answer (sym c.unwrap_or.ensures ∙ c.in_default.is)) c.next_span-next.ensures.answer in
     let all = nothing_left v.invariant.4 (ap lines_of none) in
     record { end = all.0; most = omega (arith, v.invariant.0, v.invariant.1, c.requires.symbols_len_bound); written = all.1 }

@@ -8,13 +8,13 @@ use Rattle.list_spans.specs.Listing.{lines_of}
 use Rattle.list_spans.proofs.Left.{Left}
 use Rattle.list_spans.proofs.list.put_spans.Given as goal
 
-abbrev pub invariant-loop-place : goal.invariant-loop-place
-invariant-loop-place l =
+abbrev pub invariant-loop-s : goal.invariant-loop-s
+invariant-loop-s l =
     (l.at ≤ l.place)
     × (l.place ≤ length l.symbols)
     × (length l.rows ≡ length l.initial.rows)
     × (length l.out ≡ length l.initial.out)
     × Left l.initial.out l.out l.at (lines_of (delivery_from l.f l.symbols l.place)) (lines_of (delivery_from l.f l.symbols 0))
 
-abbrev pub decreases-loop-place : goal.decreases-loop-place
-decreases-loop-place l = length l.symbols - l.place
+abbrev pub decreases-loop-s : goal.decreases-loop-s
+decreases-loop-s l = length l.symbols - l.place

@@ -1,7 +1,7 @@
 -- `loopback::file::put_piece` meets its contract: the bytes of the first i lines are put.
 -- Assumes nothing.
 use mathlib.Core.Path.{◌≡◌}
-use Prim.Native.Nat.{◌-◌, ◌*◌, ◌≤◌}
+use Prim.Native.Nat.{◌*◌, ◌≤◌}
 use lib.ListN.{length}
 use Rattle.ground.specs.Written.{upto}
 use Rattle.ground.proofs.Putting.{Put}
@@ -14,6 +14,3 @@ invariant-loop-i l =
     × (length l.out ≡ length l.initial.out)
     × (l.at ≤ 15360 * l.i)
     × Put l.initial.out l.out 0 l.at (upto l.i (line_bytes l.piece l.picture))
-
-abbrev pub decreases-loop-i : goal.decreases-loop-i
-decreases-loop-i l = 5 - l.i

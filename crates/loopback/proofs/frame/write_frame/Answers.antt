@@ -17,12 +17,6 @@ pub loop-piece-init : goal.loop-piece-init
 loop-piece-init g c =
     (omega arith, c.requires.heard_len, c.requires.picture_len, refl, no_flags c.args.k c.args.heard.now, no_lines _)
 
-pub returns-in_default : goal.returns-in_default
-returns-in_default g c = tt
-
-pub returns-in-Err : goal.returns-in-Err
-returns-in-Err g c = tt
-
 pub loop-piece-preserved : goal.loop-piece-preserved
 loop-piece-preserved g c =
     let v = c.loop-piece in
@@ -33,7 +27,7 @@ loop-piece-preserved g c =
       search rules,
       search rules,
       flags,
-      handed_on v.piece _ v.d v.heard (length v.picture) (omega arith) v.invariant.1 v.invariant.2 v.invariant.5 c.in-After.is c.carry.ensures.answer,
+      handed_on v.piece _ v.d v.heard (length v.picture) (omega arith) v.invariant.1 v.invariant.2 v.invariant.5 c.in-Ok.is c.carry.ensures.answer,
     )
 
 pub returns : goal.returns

@@ -1,7 +1,7 @@
 -- `loopback::frame::write_frame` meets its contract: the flags of the pieces so far stand where they belong, and the disparity is handed on.
 -- Assumes nothing.
 use mathlib.Core.Path.{◌≡◌}
-use Prim.Native.Nat.{◌-◌, ◌*◌, ◌≤◌}
+use Prim.Native.Nat.{◌*◌, ◌≤◌}
 use lib.ListN.{length}
 use lib.Seq.{sets}
 use Rattle.ground.specs.Written.{upto}
@@ -17,6 +17,3 @@ invariant-loop-piece g l =
     × (length l.bytes ≡ length l.initial.bytes)
     × (l.heard ≡ sets l.initial.heard 0 (upto l.piece (heard_in l.k)))
     × (l.d ≡ after_from l.initial.d 1 (5 * l.piece))
-
-abbrev pub decreases-loop-piece : goal.decreases-loop-piece
-decreases-loop-piece g l = 225 - l.piece

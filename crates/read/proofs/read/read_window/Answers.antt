@@ -32,7 +32,7 @@ returns-then-is_err-clause-rows c =
     let w = a.symbols.now in
     let is = c.requires.window in
     let told = whole_told a.f w is (sym c.in_ok-v.was ∙ c.take.ensures.taken ∙ taken_is a.f w is a.rows.now c.requires.rows_len) in
-    refused_rows a.f w is a.rows.now told.0 _ c.read_words-read.ensures (sym c.is_err.ensures.value ∙ c.if-is_err.true) _ (search rules) c.fill.ensures
+    refused_rows a.f w is a.rows.now told.0 _ c.read_words-read.ensures (sym c.is_err.ensures.value ∙ c.if-is_err.true) _ (search rules) (c.fill.ensures.after (λ y e. e))
 
 pub returns-else-is_err-clause-rows : goal.returns-else-is_err-clause-rows
 returns-else-is_err-clause-rows c =

@@ -3,6 +3,7 @@
 use mathlib.Core.Path.{◌≡◌, refl, sym, ap, ◌∙◌, subst}
 use Prim.Native.Nat.{◌≤◌}
 use native.Mathlib.Omega.{arith}
+use Rattle.ground.proofs.Writing.{replicate_table}
 use Rattle.span.specs.Format.{streams}
 use Rattle.read_test21_26.specs.Inside.Repairs.{wrong_mask, Room}
 use Rattle.read_test21_26.proofs.Repairing.{of_sav, of_eav, counts_of, none_counted, has_room_lem, with_same, one_counted, all_counted}
@@ -11,10 +12,10 @@ use Rattle.read_test21_26.proofs.repairs.each_bit.Goals as goal
 pub loop-i-init : goal.loop-i-init
 loop-i-init c =
     let a = c.args in
-    (refl, c.no_bits-counts.ensures ∙ none_counted a.p a.symbols.now)
+    (refl, replicate_table 12 0 ∙ none_counted a.p a.symbols.now)
 
-pub with_bits-counts-requires : goal.with_bits-counts-requires
-with_bits-counts-requires c =
+pub add_bits-requires : goal.add_bits-requires
+add_bits-requires c =
     let v = c.loop-i in
     let few : v.i ≤ 4 = omega (arith, v.invariant.0, c.loop-i-test.true, c.requires.small.half) in
     subst Room (sym v.invariant.1) (has_room_lem c.args.p c.args.symbols.now v.i few)
@@ -28,7 +29,7 @@ loop-i-preserved c =
     let sav = c.wrong_mask-sav.ensures ∙ of_sav wrong_mask p w v.i xyz in
     let eav = c.wrong_mask-eav.ensures ∙ of_eav wrong_mask p w v.i xyz in (
       v.invariant.0,
-      c.with_bits-counts.ensures ∙ with_same v.invariant.1 sav eav ∙ one_counted p w v.i,
+      c.add_bits.ensures ∙ with_same v.invariant.1 sav eav ∙ one_counted p w v.i,
     )
 
 pub returns : goal.returns

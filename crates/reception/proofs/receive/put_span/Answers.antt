@@ -1,9 +1,7 @@
 -- `reception::receive::put_span` meets its contract.
 -- Assumes nothing.
 use mathlib.Core.Path.{sym, ◌∙◌}
-use Prim.Native.Nat.{◌-◌}
 use native.Mathlib.Omega.{arith}
-use borrow.Author.Rules.{rules}
 use Rattle.ground.proofs.Ranges.{from_low, to_high}
 use Rattle.recording.specs.Recording.{Reading}
 use Rattle.reception.proofs.Bringing.{heard_put, brought}
@@ -20,12 +18,12 @@ bounds-heard-k c =
 pub put_row-requires : goal.put_row-requires
 put_row-requires c =
     let most = to_high _ _ _ (sym c.within.ensures ∙ c.if-within.true) in
-    record { rows_len = search rules; t_bound = omega arith; at_in_bounds = omega (arith, most) }
+    record { t_bound = omega arith; at_in_bounds = omega (arith, most) }
 
 pub put_row-requires-then-is_active : goal.put_row-requires-then-is_active
 put_row-requires-then-is_active c =
     let most = to_high _ _ _ (sym c.within.ensures ∙ c.if-within.true) in
-    record { rows_len = search rules; t_bound = omega arith; at_in_bounds = omega (arith, most) }
+    record { t_bound = omega arith; at_in_bounds = omega (arith, most) }
 
 pub returns-then-is_active : goal.returns-then-is_active
 returns-then-is_active c =

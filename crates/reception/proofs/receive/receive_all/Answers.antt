@@ -1,33 +1,32 @@
 -- `reception::receive::receive_all` meets its contract: what is left of the delivery, put into what is there, gives the whole.
 -- Assumes nothing.
 use mathlib.Core.Path.{sym, ap, ◌∙◌}
-use Prim.Native.Nat.{◌-◌}
 use native.Mathlib.Omega.{arith}
 use borrow.Author.Rules.{rules}
 use Rattle.span.specs.declared.format.Format.{Format}
 use Rattle.recording.specs.Recording.{delivery_from}
-use Rattle.recording.proofs.OneStep.{none_left, stepped, ended}
+use Rattle.recording.proofs.OneStep.{stepped, ended}
 use Rattle.reception.specs.Receiving.{brings, flag, heard_from, shown_from}
 use Rattle.reception.proofs.Links.{within_limit, known, samples, symbols as symbols-of}
-use Rattle.reception.proofs.Putting.{put_next, put_ends}
+use Rattle.reception.proofs.Putting.{put_next, put_ends, delivered_is, none_is}
 use Rattle.reception.proofs.receive.receive_all.Goals as goal
 
-pub loop-place-smaller : goal.loop-place-smaller
-loop-place-smaller c =
-    let v = c.loop-place in
+pub loop-s-smaller : goal.loop-s-smaller
+loop-s-smaller c =
+    let v = c.loop-s in
     let a = c.args in
     let step =
     stepped c.link-f.result (known c.link-f.ensures) a.symbols.now (within_limit _ c.requires.symbols_len_bound) v.place v.invariant.0 v.rows
-    (v.invariant.1 ∙ sym (samples c.link-f.ensures)) c.in-Delivered.is c.next_span-next.ensures.answer c.next_span-next.ensures.after in
+    (v.invariant.1 ∙ sym (samples c.link-f.ensures)) (delivered_is c.next_span-next.result.answer (sym c.unwrap_or.ensures ∙ c.in-Some.is)) c.next_span-next.ensures.answer c.next_span-next.ensures.after in
     omega (arith, step.behind, step.inside, symbols-of c.link-f.ensures)
 
-pub loop-place-preserved : goal.loop-place-preserved
-loop-place-preserved c =
-    let v = c.loop-place in
+pub loop-s-preserved : goal.loop-s-preserved
+loop-s-preserved c =
+    let v = c.loop-s in
     let a = c.args in
     let step =
     stepped c.link-f.result (known c.link-f.ensures) a.symbols.now (within_limit _ c.requires.symbols_len_bound) v.place v.invariant.0 v.rows
-    (v.invariant.1 ∙ sym (samples c.link-f.ensures)) c.in-Delivered.is c.next_span-next.ensures.answer c.next_span-next.ensures.after in
+    (v.invariant.1 ∙ sym (samples c.link-f.ensures)) (delivered_is c.next_span-next.result.answer (sym c.unwrap_or.ensures ∙ c.in-Some.is)) c.next_span-next.ensures.answer c.next_span-next.ensures.after in
     let words = c.next_span-next.ensures.rows in (
       step.inside,
       search rules,
@@ -39,22 +38,11 @@ loop-place-preserved c =
 
 pub returns-in_default : goal.returns-in_default
 returns-in_default c =
-    let v = c.loop-place in
+    let v = c.loop-s in
     let a = c.args in
     let none =
     ended c.link-f.result (known c.link-f.ensures) a.symbols.now (within_limit _ c.requires.symbols_len_bound) v.place v.invariant.0 v.rows
-    (v.invariant.1 ∙ sym (samples c.link-f.ensures)) c.next_span-next.result.answer c.in_default.not-Delivered c.next_span-next.ensures.answer in record {
-      heard = put_ends 1 flag a.first.0 none v.invariant.4
-          ∙ ap (λ (f : Format). heard_from a.first.0 a.heard.now (delivery_from f a.symbols.now 0)) c.link-f.ensures;
-      picture = put_ends 7680 brings a.first.0 none v.invariant.5
-          ∙ ap (λ (f : Format). shown_from a.first.0 a.picture.now (delivery_from f a.symbols.now 0)) c.link-f.ensures;
-    }
-
-pub returns : goal.returns
-returns c =
-    let v = c.loop-place in
-    let a = c.args in
-    let none = none_left c.link-f.result (known c.link-f.ensures) a.symbols.now v.place c.loop-place-test.false in record {
+    (v.invariant.1 ∙ sym (samples c.link-f.ensures)) c.next_span-next.result.answer (none_is c.next_span-next.result.answer (sym c.unwrap_or.ensures ∙ c.in_default.is)) c.next_span-next.ensures.answer in record {
       heard = put_ends 1 flag a.first.0 none v.invariant.4
           ∙ ap (λ (f : Format). heard_from a.first.0 a.heard.now (delivery_from f a.symbols.now 0)) c.link-f.ensures;
       picture = put_ends 7680 brings a.first.0 none v.invariant.5

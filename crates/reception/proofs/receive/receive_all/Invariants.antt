@@ -7,8 +7,8 @@ use Rattle.recording.specs.Recording.{delivery_from}
 use Rattle.reception.specs.Receiving.{heard_from, shown_from}
 use Rattle.reception.proofs.receive.receive_all.Given as goal
 
-abbrev pub invariant-loop-place : goal.invariant-loop-place
-invariant-loop-place l =
+abbrev pub invariant-loop-s : goal.invariant-loop-s
+invariant-loop-s l =
     (l.place ≤ length l.symbols)
     × (length l.rows ≡ 7680)
     × (length l.heard ≡ 5)
@@ -16,5 +16,5 @@ invariant-loop-place l =
     × (heard_from l.first.0 l.heard (delivery_from l.f l.symbols l.place) ≡ heard_from l.first.0 l.initial.heard (delivery_from l.f l.symbols 0))
     × (shown_from l.first.0 l.picture (delivery_from l.f l.symbols l.place) ≡ shown_from l.first.0 l.initial.picture (delivery_from l.f l.symbols 0))
 
-abbrev pub decreases-loop-place : goal.decreases-loop-place
-decreases-loop-place l = length l.symbols - l.place
+abbrev pub decreases-loop-s : goal.decreases-loop-s
+decreases-loop-s l = length l.symbols - l.place

@@ -16,6 +16,3 @@ invariant-loop-k l =
     × (l.k < 5 → l.l.0 ≡ l.initial.l.0 + l.k)
     × (after_from l.d (l.initial.l.0 + l.k) (5 - l.k) ≡ after_from l.initial.d l.initial.l.0 5)
     × (sets l.symbols (19008 * l.k) (sent_from l.d (l.initial.l.0 + l.k) (5 - l.k)) ≡ sets l.initial.symbols 0 (sent_from l.initial.d l.initial.l.0 5))
-
-abbrev pub decreases-loop-k : goal.decreases-loop-k
-decreases-loop-k l = 5 - l.k

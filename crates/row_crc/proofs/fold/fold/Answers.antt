@@ -1,12 +1,13 @@
 -- `row_crc::fold::fold` meets its contract.
 -- Assumes nothing.
+use native.Mathlib.Omega.{arith}
 use borrow.Author.Rules.{rules}
 use Rattle.row_crc.proofs.Folding.{begin, folds_on}
 use Rattle.row_crc.proofs.fold.fold.Goals as goal
 
 pub loop-j-init : goal.loop-j-init
 loop-j-init c =
-    (c.requires.moved_len, begin c.args.row.now c.args.moved.now c.requires.empty)
+    (omega arith, begin c.args.row.now c.args.moved.now c.requires.empty)
 
 pub loop-j-preserved : goal.loop-j-preserved
 loop-j-preserved c =

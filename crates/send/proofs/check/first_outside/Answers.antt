@@ -1,9 +1,20 @@
--- `send::check::first_outside` meets its contract: before i each sample is within.
+-- `send::check::first_outside` meets its contract: the first that is not within, and the length where each is.
 -- Assumes nothing.
-use Rattle.std.proofs.Common.{◌≡◌, ◌-◌, true, length, sym, ◌∙◌, arith}
+use Rattle.std.proofs.Common.{◌≡◌, ℕ, ◌<◌, true, false, List, length, get_or, Option, None, Some, MatchOption, sym, ◌∙◌, rules}
+use Rattle.std.specs.Option.{unwrap_or}
 use Rattle.ground.specs.Range.{within}
+use Rattle.request.specs.Inside.Check.{first_outside}
 use Rattle.request.proofs.Checking.{each_within, outside_first, outside_never}
 use Rattle.send.proofs.check.first_outside.Goals as goal
+
+module _ (low high : ℕ) (xs : List ℕ) where
+  abbrev AllBefore : ℕ → Type 0
+  AllBefore n = (j : ℕ) → j < n → within low high (get_or xs j 0) ≡ true
+
+  found : (o : Option ℕ) → MatchOption o (AllBefore (length xs)) (λ i. (i < length xs) × (within low high (get_or xs i 0) ≡ false) × AllBefore i)
+      → unwrap_or o (length xs) ≡ first_outside low high xs
+  found None each = sym (outside_never low high xs each)
+  found (Some i) (below, out, before) = sym (outside_first low high xs i below before out)
 
 pub returns-then-none_outside : goal.returns-then-none_outside
 returns-then-none_outside c =
@@ -11,16 +22,7 @@ returns-then-none_outside c =
     let t = sym c.none_outside.ensures ∙ c.if-none_outside.true in
     sym (outside_never a.low a.high a.samples.now (each_within a.low a.high a.samples.now t))
 
-pub returns-else-within : goal.returns-else-within
-returns-else-within c =
-    let a = c.args in
-    let v = c.loop-i in
-    let t = sym c.within.ensures ∙ c.if-within.false in
-    sym (outside_first a.low a.high a.samples.now v.i (omega arith) v.invariant.1 t)
-
 pub returns : goal.returns
 returns c =
     let a = c.args in
-    let v = c.loop-i in
-    let end : v.i ≡ length a.samples.now = omega arith in
-    end ∙ sym (outside_never a.low a.high a.samples.now (λ j h. v.invariant.1 j (omega arith)))
+    c.unwrap_or.ensures ∙ found a.low a.high a.samples.now c.position-first.result (search rules)

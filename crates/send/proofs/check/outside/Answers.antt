@@ -1,15 +1,15 @@
--- `send::check::outside` meets its contract: the laws of the wrapped difference.
+-- `send::check::outside` meets its contract: the wrapped difference is above the room exactly for a sample outside the bounds.
 -- Assumes nothing.
-use Rattle.std.proofs.Common.{arith}
-use Rattle.request.proofs.Checking.{far_outside, near_within}
+use Rattle.std.proofs.Common.{◌≡◌, ◌≢◌, eqb, sym, ◌∙◌, arith}
+use borrow.Author.Tests.{eqb-true, eqb-false}
+use Rattle.ground.proofs.Cases.{on_test}
+use Rattle.ground.proofs.Ranges.{is_within, not_within}
 use Rattle.send.proofs.check.outside.Goals as goal
-
-pub returns-then-room-y : goal.returns-then-room-y
-returns-then-room-y c =
-    let a = c.args in
-    far_outside a.low a.high a.x _ (omega arith) c.requires (omega arith) c.wrapping_sub_u16-y.ensures.value c.if-room-y.true
 
 pub returns : goal.returns
 returns c =
     let a = c.args in
-    near_within a.low a.high a.x c.wrapping_sub_u16-y.result (omega arith) c.requires (omega arith) c.wrapping_sub_u16-y.ensures.value (omega arith)
+    let r = c.saturating_sub.result in
+    on_test (eqb r 0)
+    (λ t. let none : r ≡ 0 = eqb-true r 0 t in t ∙ sym (is_within a.low a.high a.x (omega arith) (omega arith)))
+    (λ t. let some : r ≢ 0 = eqb-false r 0 t in t ∙ sym (not_within a.low a.high a.x (λ p q. omega arith)))

@@ -20,4 +20,4 @@ entries symbols flips d c s t o h =
 pub returns : goal.returns
 returns c =
     let a = c.args in
-    entries a.symbols.now a.flips.now a.d a.c (search rules) (search rules) (search rules) (omega arith)
+    entries a.tables.symbols.now a.tables.flips.now a.d a.c a.tables.symbols_value a.tables.flips_value (search rules) (omega arith)

@@ -1,4 +1,4 @@
-use Rattle.std.proofs.Common.{◌≡◌, ℕ, sym, ap, ◌∙◌, arith, rules}
+use Rattle.std.proofs.Common.{◌≡◌, ℕ, sym, ap, ◌∙◌}
 use Rattle.symbol.specs.Code.{after_of}
 use Rattle.symbol.specs.declared.disparity.Disparity.{Disparity}
 use Rattle.encoder.specs.Inside.Tables.{offset_of, of_offset}
@@ -28,11 +28,11 @@ in_turn e i j k {x} {y} {z} p r s =
     let d2 = told y (of_offset x.offset) j r ∙ ap (λ (d : Disparity). after_of d j) d1 in
     rw (p, r, s, d2, d1)
 
-pub code-second-requires : goal.code-second-requires
-code-second-requires c = record { symbols_value = search rules; flips_value = search rules; d_value = is_one _ _ _ c.code-first.ensures; c_bound = omega arith }
+pub code-second-requires-clause-d_value : goal.code-second-requires-clause-d_value
+code-second-requires-clause-d_value c = is_one _ _ _ c.code-first.ensures
 
-pub code-third-requires : goal.code-third-requires
-code-third-requires c = record { symbols_value = search rules; flips_value = search rules; d_value = is_one _ _ _ c.code-second.ensures; c_bound = omega arith }
+pub code-third-requires-clause-d_value : goal.code-third-requires-clause-d_value
+code-third-requires-clause-d_value c = is_one _ _ _ c.code-second.ensures
 
 pub returns : goal.returns
 returns c =

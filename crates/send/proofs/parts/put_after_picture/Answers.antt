@@ -1,7 +1,7 @@
 -- `send::parts::put_after_picture` meets its contract: EAV, line number and CRCC, one after the other.
 -- Assumes nothing.
 -- the characters, where the line's words and the timing word are what the calls answer
-use Rattle.std.proofs.Common.{◌≡◌, ℕ, ◌+◌, Bool, true, ◌++◌, sym, ap, ◌∙◌, ap₂, arith}
+use Rattle.std.proofs.Common.{◌≡◌, ℕ, Bool, true, ◌++◌, sym, ap, ◌∙◌, ap₂, arith}
 use Rattle.crcc.specs.declared.sums.Sums.{Sums}
 use Rattle.line.specs.Stream.{v_of, line_after}
 use Rattle.word.specs.declared.line_number.LineWords.{LineWords}
@@ -9,7 +9,7 @@ use Rattle.word.specs.LineNumber.{line_words}
 use Rattle.word.specs.Timing.{timing}
 use Rattle.span.specs.declared.content.ContentBytes.{ContentBytes}
 use Rattle.send.specs.Inside.Put.{timing_chars, group_chars, crcc_chars, after_picture_chars}
-use Rattle.send.proofs.Putting.{made, renamed, then, is_offset, same_size, length_group}
+use Rattle.send.proofs.Putting.{made, renamed, then, length_group}
 use Rattle.send.proofs.TimingCodes.{length_timing}
 use Rattle.send.proofs.parts.put_after_picture.Goals as goal
 
@@ -22,24 +22,6 @@ as_put pairs s content m e q =
     ap₂ (λ (n : LineWords) (xyz : ℕ).
     timing_chars pairs 266 content.eav1 content.eav2 xyz
     ++ (group_chars pairs (λ _. n.ln0) ++ (group_chars pairs (λ _. n.ln1) ++ crcc_chars pairs s xyz n))) (sym e) (sym q)
-
-pub put_same-d2-requires : goal.put_same-d2-requires
-put_same-d2-requires c =
-    let p = made (c.put_timing-d1.ensures.offset, c.put_timing-d1.ensures.out) in
-    record { symbols_value = c.requires.symbols_value; flips_value = c.requires.flips_value; le_pairs = c.requires.le_pairs; pairs_bound = c.requires.pairs_bound; d_value = is_offset p; pairs_in_bounds = omega (arith, same_size p, c.requires.pairs_in_bounds) }
-
-pub put_same-d3-requires : goal.put_same-d3-requires
-put_same-d3-requires c =
-    let p = made (c.put_timing-d1.ensures.offset, c.put_timing-d1.ensures.out) in
-    let q = made (c.put_same-d2.ensures.offset, c.put_same-d2.ensures.out) in
-    record { symbols_value = c.requires.symbols_value; flips_value = c.requires.flips_value; le_pairs = c.requires.le_pairs; pairs_bound = c.requires.pairs_bound; d_value = is_offset q; pairs_in_bounds = omega (arith, same_size p, same_size q, c.requires.pairs_in_bounds) }
-
-pub put_crcc-requires : goal.put_crcc-requires
-put_crcc-requires c =
-    let p = made (c.put_timing-d1.ensures.offset, c.put_timing-d1.ensures.out) in
-    let q = made (c.put_same-d2.ensures.offset, c.put_same-d2.ensures.out) in
-    let r = made (c.put_same-d3.ensures.offset, c.put_same-d3.ensures.out) in
-    record { symbols_value = c.requires.symbols_value; flips_value = c.requires.flips_value; le_pairs = c.requires.le_pairs; pairs_bound = c.requires.pairs_bound; d_value = is_offset r; pairs_in_bounds = omega (arith, same_size p, same_size q, same_size r, c.requires.pairs_in_bounds) }
 
 pub returns : goal.returns
 returns c =

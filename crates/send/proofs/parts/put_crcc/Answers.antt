@@ -1,16 +1,11 @@
 -- `send::parts::put_crcc` meets its contract: CRCC0 of each stream, then CRCC1 of each.
 -- Assumes nothing.
-use Rattle.std.proofs.Common.{ℕ, ◌+◌, sym, ap, arith}
+use Rattle.std.proofs.Common.{slice_index, [], ◌∷◌, ℕ, ◌+◌, sym, ap}
 use Rattle.crcc.specs.declared.crcc.CrccWords.{CrccWords}
 use Rattle.crcc.specs.Inside.Sums.{sum_in}
-use Rattle.send.specs.Inside.Put.{word_of_four, crcc_after, crcc_chars}
-use Rattle.send.proofs.Putting.{made, renamed, then, is_offset, same_size, length_group, same_four}
+use Rattle.send.specs.Inside.Put.{crcc_after, crcc_chars}
+use Rattle.send.proofs.Putting.{made, renamed, then, length_group, same_four}
 use Rattle.send.proofs.parts.put_crcc.Goals as goal
-
-pub put_four-requires : goal.put_four-requires
-put_four-requires c =
-    let p = made (c.put_four-d1.ensures.offset, c.put_four-d1.ensures.out) in
-    record { symbols_value = c.requires.symbols_value; flips_value = c.requires.flips_value; le_pairs = c.requires.le_pairs; pairs_bound = c.requires.pairs_bound; d_value = is_offset p; pairs_in_bounds = omega (arith, same_size p, c.requires.pairs_in_bounds) }
 
 pub returns : goal.returns
 unfolding crcc_chars
@@ -25,11 +20,11 @@ returns c =
     let ez = c.crcc_after-c.ensures in
     let ev = c.crcc_after-e.ensures in
     let p = renamed
-    (same_four a.pairs c.requires.pairs_bound (λ t. (crcc_after (sum_in a.sums t) a.xyz a.n).crcc0) (word_of_four (record { a = x.crcc0; b = y.crcc0; c = z.crcc0; e = v.crcc0 }))
+    (same_four a.pairs c.requires.pairs_bound (λ t. (crcc_after (sum_in a.sums t) a.xyz a.n).crcc0) (slice_index (x.crcc0 ∷ y.crcc0 ∷ z.crcc0 ∷ v.crcc0 ∷ []))
     (ap (λ (q : CrccWords). q.crcc0) (sym ex)) (ap (λ (q : CrccWords). q.crcc0) (sym ey)) (ap (λ (q : CrccWords). q.crcc0) (sym ez)) (ap (λ (q : CrccWords). q.crcc0) (sym ev)))
     (made (c.put_four-d1.ensures.offset, c.put_four-d1.ensures.out)) in
     let q = renamed
-    (same_four a.pairs c.requires.pairs_bound (λ t. (crcc_after (sum_in a.sums t) a.xyz a.n).crcc1) (word_of_four (record { a = x.crcc1; b = y.crcc1; c = z.crcc1; e = v.crcc1 }))
+    (same_four a.pairs c.requires.pairs_bound (λ t. (crcc_after (sum_in a.sums t) a.xyz a.n).crcc1) (slice_index (x.crcc1 ∷ y.crcc1 ∷ z.crcc1 ∷ v.crcc1 ∷ []))
     (ap (λ (q : CrccWords). q.crcc1) (sym ex)) (ap (λ (q : CrccWords). q.crcc1) (sym ey)) (ap (λ (q : CrccWords). q.crcc1) (sym ez)) (ap (λ (q : CrccWords). q.crcc1) (sym ev)))
     (made (c.put_four.ensures.offset, c.put_four.ensures.out)) in
     let r = then p (ap (λ (n : ℕ). a.at + n) (sym (length_group a.pairs (λ t. (crcc_after (sum_in a.sums t) a.xyz a.n).crcc0)))) q in

@@ -9,7 +9,7 @@ use Rattle.word.specs.Timing.{timing}
 use Rattle.send.specs.declared.picture_words.Passed.{Passed}
 use Rattle.send.specs.Inside.Put.{put, timing_chars, picture_word, picture_chars, passed_at, after_picture_chars, whole_chars}
 use Rattle.send.proofs.Passing.{length_picture}
-use Rattle.send.proofs.Putting.{PutChars, made, renamed, then, is_offset, same_size}
+use Rattle.send.proofs.Putting.{PutChars, made, renamed, then, is_offset}
 use Rattle.send.proofs.Runs.{blanking_made}
 use Rattle.send.proofs.Sizes.{length_after_picture}
 use Rattle.send.proofs.TimingCodes.{length_timing}
@@ -19,24 +19,6 @@ passed_put : (pairs : ℕ) (ws : List ℕ) {d at : ℕ} {q : Passed} {before aft
     → (q ≡ passed_at pairs d ws) × (after ≡ put d (picture_chars pairs 1920 (picture_word ws)) at before)
     → PutChars d (picture_chars pairs 1920 (picture_word ws)) at before q.offset after
 passed_put pairs ws e = made (ap (λ (q : Passed). q.offset) e.0, e.1)
-
-pub put_picture-q-requires : goal.put_picture-q-requires
-put_picture-q-requires c =
-    let p1 = made (c.put_timing-d1.ensures.offset, c.put_timing-d1.ensures.out) in
-    record { symbols_value = c.requires.symbols_value; flips_value = c.requires.flips_value; le_pairs = c.requires.bound; pairs_bound = c.requires.small.half; are_words = c.requires.are_words; words_len = c.requires.words_len; d_value = is_offset p1; pairs_in_bounds = omega (arith, same_size p1, c.requires.out_len) }
-
-pub put_after_picture-d2-requires : goal.put_after_picture-d2-requires
-put_after_picture-d2-requires c =
-    let p1 = made (c.put_timing-d1.ensures.offset, c.put_timing-d1.ensures.out) in
-    let p2 = passed_put c.args.p.stream_pairs c.args.words.now (c.put_picture-q.ensures.passed, c.put_picture-q.ensures.out) in
-    record { symbols_value = c.requires.symbols_value; flips_value = c.requires.flips_value; le_pairs = c.requires.bound; pairs_bound = c.requires.small.half; d_value = is_offset p2; pairs_in_bounds = omega (arith, same_size p1, same_size p2, c.requires.out_len) }
-
-pub put_blanking-requires : goal.put_blanking-requires
-put_blanking-requires c =
-    let p1 = made (c.put_timing-d1.ensures.offset, c.put_timing-d1.ensures.out) in
-    let p2 = passed_put c.args.p.stream_pairs c.args.words.now (c.put_picture-q.ensures.passed, c.put_picture-q.ensures.out) in
-    let p3 = made (c.put_after_picture-d2.ensures.offset, c.put_after_picture-d2.ensures.out) in
-    record { symbols_value = c.requires.symbols_value; flips_value = c.requires.flips_value; bound = c.requires.bound; small = c.requires.small; keeps_disparity = c.requires.keeps_disparity; d_value = is_offset p3; out_len = same_size p3 ∙ same_size p2 ∙ same_size p1 ∙ c.requires.out_len }
 
 pub returns : goal.returns
 unfolding whole_chars

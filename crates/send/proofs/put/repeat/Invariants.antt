@@ -1,12 +1,8 @@
 -- `send::put::repeat` meets its contract: up to place i each symbol is the one 96 before it.
 -- Assumes nothing.
-use Rattle.std.proofs.Common.{◌≡◌, ◌-◌, ◌≤◌, length}
+use Rattle.std.proofs.Common.{◌≡◌, ◌-◌, ◌≤◌}
 use Rattle.send.specs.Inside.Put.{repeated}
 use Rattle.send.proofs.put.repeat.Given as goal
 
 abbrev pub invariant-loop-i : goal.invariant-loop-i
-invariant-loop-i l =
-    (l.from ≤ l.i) × (l.i - l.from ≤ l.to - l.from) × (length l.out ≡ length l.initial.out) × (l.out ≡ repeated (l.i - l.from) l.from l.initial.out)
-
-abbrev pub decreases-loop-i : goal.decreases-loop-i
-decreases-loop-i l = l.to - l.i
+invariant-loop-i l = (l.i - l.from ≤ l.to - l.from) × (l.out ≡ repeated (l.i - l.from) l.from l.initial.out)

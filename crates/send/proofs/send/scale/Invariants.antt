@@ -1,12 +1,8 @@
 -- `send::send::scale` meets its contract: after i iterations the first i words stand in their places.
 -- Assumes nothing.
-use Rattle.std.proofs.Common.{◌≡◌, ◌-◌, ◌≤◌, length}
+use Rattle.std.proofs.Common.{◌≡◌}
 use Rattle.send.proofs.Scaling.{words_upto}
 use Rattle.send.proofs.send.scale.Given as goal
 
 abbrev pub invariant-loop-i : goal.invariant-loop-i
-invariant-loop-i l =
-    (l.i ≤ length l.samples) × (length l.words ≡ length l.initial.words) × (l.words ≡ words_upto l.factor l.samples l.initial.words l.i)
-
-abbrev pub decreases-loop-i : goal.decreases-loop-i
-decreases-loop-i l = length l.samples - l.i
+invariant-loop-i l = l.words ≡ words_upto l.factor l.samples l.initial.words l.i

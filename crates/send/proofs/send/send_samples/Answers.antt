@@ -32,10 +32,10 @@ returns-then-wrong-samples c =
     let bad = send_meets_6 a.d a.f (request a.l.0 a.content a.samples.now) (length a.symbols.now) c.requires.f_value c.requires.l_value c.requires.samples_len c.requires.symbols_len _ (found_by a.samples.now c.first_outside-wrong.ensures c.bounds_of-bounds.ensures) found in
     record { answer = sym bad; symbols = when_refused _ _ bad }
 
-pub send_span-requires : goal.send_span-requires
-send_span-requires c =
+pub send_span-requires-clause-accepted : goal.send_span-requires-clause-accepted
+send_span-requires-clause-accepted c =
     let a = c.args in
-    record { accepted = is_good a.d a.f (request a.l.0 a.content a.samples.now) (length a.symbols.now) c.requires.f_value c.requires.l_value c.requires.samples_len c.requires.symbols_len _ (found_by a.samples.now c.first_outside-wrong.ensures c.bounds_of-bounds.ensures) c.if-wrong-samples.false; factor_value = ap (λ (b : Bounds). b.factor) c.bounds_of-bounds.ensures; out_len = c.requires.symbols_len }
+    is_good a.d a.f (request a.l.0 a.content a.samples.now) (length a.symbols.now) c.requires.f_value c.requires.l_value c.requires.samples_len c.requires.symbols_len _ (found_by a.samples.now c.first_outside-wrong.ensures c.bounds_of-bounds.ensures) c.if-wrong-samples.false
 
 pub returns : goal.returns
 returns c =

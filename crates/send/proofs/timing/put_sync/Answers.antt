@@ -1,18 +1,13 @@
 -- `send::timing::put_sync` meets its contract: three characters, and three more.
 -- Assumes nothing.
-use Rattle.std.proofs.Common.{[], ◌∷◌, sym, refl, ap, arith, rules}
+use Rattle.std.proofs.Common.{[], ◌∷◌, ℕ, sym, refl, ap₂}
 use Rattle.packing.specs.declared.bytes.ThreeBytes.{ThreeBytes}
-use Rattle.send.proofs.Putting.{made, renamed, then, is_offset, same_size}
+use Rattle.send.proofs.Putting.{made, renamed, then}
 use Rattle.send.proofs.timing.put_sync.Goals as goal
-
-pub put_three-requires : goal.put_three-requires
-put_three-requires c =
-    let p = made (c.put_three-d1.ensures.offset, c.put_three-d1.ensures.out) in
-    record { symbols_value = search rules; flips_value = search rules; d_value = is_offset p; x_bound = omega arith; y_bound = omega arith; z_bound = omega arith; at_in_bounds = omega (arith, same_size p) }
 
 pub returns : goal.returns
 returns c =
     let a = c.args in
-    let q = ap (λ (b : ThreeBytes). a.k ∷ a.k ∷ a.content1 ∷ a.content2 ∷ b.second ∷ b.third ∷ []) (sym c.bytes_of-t.ensures) in
+    let q = ap₂ (λ (k : ℕ) (b : ThreeBytes). k ∷ k ∷ a.content1 ∷ a.content2 ∷ b.second ∷ b.third ∷ []) (sym c.number-c.ensures) (sym c.bytes_of-t.ensures) in
     let p = renamed q (then (made (c.put_three-d1.ensures.offset, c.put_three-d1.ensures.out)) refl (made (c.put_three.ensures.offset, c.put_three.ensures.out))) in
     record { offset = p.offset; out = p.out }

@@ -19,4 +19,4 @@ returns-then-is_known c =
     let long : length a.row.now ≡ samples_in (shape_of a.f) = omega (arith, samples c.span_lengths-lengths.ensures) in
     let good = fills a.f a.row.now known long in
     let word = c.blank_word.ensures in
-    record { answer = sym good; row = c.fill.ensures ∙ ap (replicate (length a.row.now)) word ∙ blank_row_lem a.f a.row.now long ∙ when_given _ _ good }
+    record { answer = sym good; row = c.fill.ensures.after (λ y e. e) ∙ ap (replicate (length a.row.now)) word ∙ blank_row_lem a.f a.row.now long ∙ when_given _ _ good }

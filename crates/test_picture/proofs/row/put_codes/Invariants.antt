@@ -1,7 +1,7 @@
 -- `test_picture::row::put_codes` meets its contract: after x iterations the first x samples are there.
 -- Assumes nothing.
 use mathlib.Core.Path.{◌≡◌}
-use Prim.Native.Nat.{◌-◌, ◌≤◌}
+use Prim.Native.Nat.{◌≤◌}
 use lib.ListN.{length}
 use lib.Seq.{sets}
 use Rattle.ground.specs.Written.{table}
@@ -11,6 +11,3 @@ use Rattle.test_picture.proofs.row.put_codes.Given as goal
 abbrev pub invariant-loop-x : goal.invariant-loop-x
 invariant-loop-x l =
     (l.x ≤ 3840) × (length l.row ≡ 3840) × (l.row ≡ sets l.initial.row 0 (table l.x (sample_by l.step l.line.0)))
-
-abbrev pub decreases-loop-x : goal.decreases-loop-x
-decreases-loop-x l = 3840 - l.x

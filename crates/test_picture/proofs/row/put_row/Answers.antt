@@ -8,10 +8,10 @@ use Rattle.test_picture.proofs.Puttings.{puts_row}
 use Rattle.test_picture.proofs.Rows.{row_of_codes}
 use Rattle.test_picture.proofs.row.put_row.Goals as goal
 
-pub returns-then-within : goal.returns-then-within
-returns-then-within c =
+pub returns : goal.returns
+returns c =
     let a = c.args in
-    let t = sym c.within.ensures ∙ c.if-within.true in
+    let t = sym c.within.ensures ∙ c.if-not-within.false in
     let n = c.number_of.ensures in
     let good =
     puts_row a.line.0 a.row.now (omega (arith, n, from_low _ _ _ t)) (omega (arith, n, to_high _ _ _ t)) (omega arith) in

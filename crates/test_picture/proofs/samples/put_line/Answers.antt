@@ -18,20 +18,20 @@ pub slice_bounds-shown-end : goal.slice_bounds-shown-end
 slice_bounds-shown-end c =
     few c.args.f c.args.samples.now c.requires.samples_len
 
-pub slice_bounds-put_chosen-end-4 : goal.slice_bounds-put_chosen-end-4
-slice_bounds-put_chosen-end-4 c =
+pub slice_bounds-put_chosen-end : goal.slice_bounds-put_chosen-end
+slice_bounds-put_chosen-end c =
     sym (length-take-le _ _ (few c.args.f c.args.samples.now c.requires.samples_len))
 
 pub slice_bounds-blanking-end : goal.slice_bounds-blanking-end
 slice_bounds-blanking-end c =
     few c.args.f c.args.samples.now c.requires.samples_len
 
-pub slice_bounds-put_chosen-end-5 : goal.slice_bounds-put_chosen-end-5
-slice_bounds-put_chosen-end-5 c =
+pub slice_bounds-put_chosen-end-2 : goal.slice_bounds-put_chosen-end-2
+slice_bounds-put_chosen-end-2 c =
     sym (length-take-le _ _ (few c.args.f c.args.samples.now c.requires.samples_len))
 
 pub put_chosen-requires : goal.put_chosen-requires
 put_chosen-requires c =
     let long = c.requires.samples_len in
     let room = few c.args.f c.args.samples.now long in
-    record { f_value = c.requires.f_value; row_len = refl; first_len = refl; second_len = refl; shown_len = length-take-le _ _ room ∙ long; blanking_len = length-take-le _ _ room ∙ long; samples_len = long }
+    record { f_value = c.requires.f_value; shown_len = length-take-le _ _ room ∙ long; blanking_len = length-take-le _ _ room ∙ long; samples_len = long }

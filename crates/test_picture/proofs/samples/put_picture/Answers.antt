@@ -3,9 +3,9 @@
 use mathlib.Core.Path.{◌≡◌, refl, sym, ap, ap₂, ◌∙◌}
 use mathlib.Core.Bool.{Bool, true, false, cond, true≢false}
 use mathlib.Core.List.{List, ◌++◌}
-use Prim.Native.Nat.{ℕ, zero, suc, ◌+◌, ◌*◌, ◌-◌, ◌≤◌, ◌<◌}
+use Prim.Native.Nat.{ℕ, zero, suc, ◌*◌, ◌-◌, ◌≤◌, ◌<◌}
 use native.Mathlib.Omega.{arith}
-use lib.ListN.{length}
+use borrow.Author.Rules.{rules}
 use lib.Seq.{sets}
 use Rattle.ground.specs.Written.{upto}
 use Rattle.ground.proofs.Cases.{on_test}
@@ -16,7 +16,7 @@ use Rattle.span.specs.declared.format.Shape.{Shape}
 use Rattle.span.specs.Format.{shape_of, streams}
 use Rattle.span.proofs.Formats.{small}
 use Rattle.test_picture.specs.TestPicture.{code_step, row_in_steps, test_samples}
-use Rattle.test_picture.proofs.Images.{carried, none_carried, row_carried, all_carried, some_step, row_active, row_line, row_blanking, are_carried}
+use Rattle.test_picture.proofs.Images.{carried, none_carried, row_carried, all_carried, row_active, row_line, row_blanking, are_carried}
 use Rattle.test_picture.proofs.samples.put_picture.Goals as goal
 
 -- nothing was put where the line is not active
@@ -30,31 +30,11 @@ unchanged n (suc i) step l o made t some put = absurd (true≢false (sym (some (
 pub loop-i-init : goal.loop-i-init
 loop-i-init c =
     let a = c.args in
-    (omega arith, refl, refl, refl, refl, none_carried c.step_of-step.result (a.l.0 - 41) a.samples.now, λ h. absurd (omega arith))
-
-pub overflow_mul-i : goal.overflow_mul-i
-overflow_mul-i c =
-    omega (arith, (small c.args.f c.shape_of-rows.ensures).half)
-
-pub overflow_add-i : goal.overflow_add-i
-overflow_add-i c =
-    omega (arith, (small c.args.f c.shape_of-rows.ensures).half)
+    (omega arith, refl, none_carried c.step_of-step.result (a.l.0 - 41) a.samples.now, λ h. absurd (omega arith))
 
 pub overflow_cast-i : goal.overflow_cast-i
 overflow_cast-i c =
     omega (arith, (small c.args.f c.shape_of-rows.ensures).half)
-
-pub shape_of-row-in_default : goal.shape_of-row-in_default
-shape_of-row-in_default c = c.loop-i.invariant.1
-
-pub shape_of-first-in_default : goal.shape_of-first-in_default
-shape_of-first-in_default c = c.loop-i.invariant.2
-
-pub shape_of-second-in_default : goal.shape_of-second-in_default
-shape_of-second-in_default c = c.loop-i.invariant.3
-
-pub shape_of-samples-in_default : goal.shape_of-samples-in_default
-shape_of-samples-in_default c = c.loop-i.invariant.4
 
 pub returns-in_default : goal.returns-in_default
 returns-in_default c =
@@ -62,20 +42,7 @@ returns-in_default c =
     let n = c.args.l.0 in
     let few : v.i < 2 = omega (arith, (small c.args.f c.shape_of-rows.ensures).half) in
     let blank = row_blanking n v.i few c.picture_line_on.result c.picture_line_on.ensures c.in_default.is in
-    unchanged n v.i c.step_of-step.result (n - 41) c.args.samples.now (test_samples c.args.f n) blank v.invariant.6 v.invariant.5
-
-pub overflow_mul-i-in-loop-i : goal.overflow_mul-i-in-loop-i
-overflow_mul-i-in-loop-i c =
-    omega (arith, (small c.args.f c.shape_of-rows.ensures).half)
-
-pub put_images-requires : goal.put_images-requires
-put_images-requires c =
-    let v = c.loop-i in
-    let f = c.args.f in
-    let rows : c.shape_of-rows.result.stream_pairs ≡ (shape_of f).stream_pairs = ap (λ (p : Shape). p.stream_pairs) c.shape_of-rows.ensures in
-    let less : v.i < c.shape_of-rows.result.stream_pairs = c.loop-i-test.true in
-    let long : length v.samples ≡ 1920 * streams (shape_of f) = v.invariant.4 ∙ c.requires.samples_len in
-    let room : 3840 * v.i + 3840 ≤ length v.samples = omega (arith, rows, less, long) in record { le_step = omega (arith, some_step f, c.step_of-step.ensures); row_len = v.invariant.1 ∙ c.requires.row_len; first_len = v.invariant.2 ∙ c.requires.first_len; second_len = v.invariant.3 ∙ c.requires.second_len; at_in_bounds = room }
+    unchanged n v.i c.step_of-step.result (n - 41) c.args.samples.now (test_samples c.args.f n) blank v.invariant.3 v.invariant.2
 
 pub loop-i-preserved : goal.loop-i-preserved
 loop-i-preserved c =
@@ -85,28 +52,13 @@ loop-i-preserved c =
     let o = c.args.samples.now in
     let few : v.i < 2 = omega (arith, (small c.args.f c.shape_of-rows.ensures).half) in
     let r = c.picture_line_on.result in
-    let is = row_line n v.i few r c.picture_line_on.ensures c.in-Line.is in
+    let is = row_line n v.i few r c.picture_line_on.ensures c.in-Some.is in
     let put : List ℕ → ℕ → List ℕ = λ s m. sets s (3840 * v.i) (divided 0 1920 (row_in_steps step m) ++ divided 1 1920 (row_in_steps step m)) in (
       omega arith,
-      c.row-1.given ∙ v.invariant.1,
-      c.first-1.given ∙ v.invariant.2,
-      c.second-1.given ∙ v.invariant.3,
-      c.samples-1.given ∙ v.invariant.4,
-      c.put_images.ensures ∙ ap₂ put v.invariant.5 is ∙ row_carried step (n - 41) o v.i,
-      λ h. row_active n v.i few r c.picture_line_on.ensures c.in-Line.is,
+      search rules,
+      c.put_images.ensures ∙ ap₂ put v.invariant.2 is ∙ row_carried step (n - 41) o v.i,
+      λ h. row_active n v.i few r c.picture_line_on.ensures c.in-Some.is,
     )
-
-pub shape_of-row : goal.shape_of-row
-shape_of-row c = c.loop-i.invariant.1
-
-pub shape_of-first : goal.shape_of-first
-shape_of-first c = c.loop-i.invariant.2
-
-pub shape_of-second : goal.shape_of-second
-shape_of-second c = c.loop-i.invariant.3
-
-pub shape_of-samples : goal.shape_of-samples
-shape_of-samples c = c.loop-i.invariant.4
 
 pub returns : goal.returns
 returns c =
@@ -119,10 +71,10 @@ returns c =
     let end : 2 * v.i ≡ s = omega (arith, ap (λ (p : Shape). p.stream_pairs) c.shape_of-rows.ensures) in
     on_test (is_active n)
     (λ active.
-    v.invariant.5
+    v.invariant.2
     ∙ ap (λ (m : ℕ). sets o 0 (upto m (carried step (n - 41)))) end
     ∙ ap (λ (t : ℕ). sets o 0 (upto s (carried t (n - 41)))) c.step_of-step.ensures
     ∙ all_carried (code_step f) (n - 41) o s (omega (arith, c.requires.samples_len))
     ∙ are_carried f n active
     ∙ ap (λ (b : Bool). cond b (test_samples f n) o) (sym active))
-    (λ t. unchanged n v.i step (n - 41) o (test_samples f n) t v.invariant.6 v.invariant.5)
+    (λ t. unchanged n v.i step (n - 41) o (test_samples f n) t v.invariant.3 v.invariant.2)

@@ -13,12 +13,6 @@ use Rattle.test_picture.proofs.samples.put_picture.Given as goal
 abbrev pub invariant-loop-i : goal.invariant-loop-i
 invariant-loop-i l =
     (l.i ≤ l.rows)
-    × (length l.row ≡ length l.initial.row)
-    × (length l.first ≡ length l.initial.first)
-    × (length l.second ≡ length l.initial.second)
     × (length l.samples ≡ length l.initial.samples)
     × (l.samples ≡ sets l.initial.samples 0 (upto (2 * l.i) (carried l.step (l.l.0 - 41))))
     × (1 ≤ l.i → is_active l.l.0 ≡ true)
-
-abbrev pub decreases-loop-i : goal.decreases-loop-i
-decreases-loop-i l = l.rows - l.i

@@ -2,14 +2,14 @@
 -- Assumes nothing.
 use mathlib.Core.Path.{refl, ap, ◌∙◌}
 use mathlib.Core.List.{List}
-use Prim.Native.Nat.{ℕ, ◌-◌}
+use Prim.Native.Nat.{ℕ}
 use native.Mathlib.Omega.{arith}
 use lib.ListN.{set, length-set}
 use Rattle.text.proofs.WordsRead.{none_read, one_word_more}
 use Rattle.text.proofs.words.read_words.Goals as goal
 
 pub loop-i-init : goal.loop-i-init
-loop-i-init c = (omega (arith, c.least-count.ensures), omega arith, refl, none_read c.args.words.now c.args.bytes.now)
+loop-i-init c = (omega (arith, c.min-count.ensures), omega arith, refl, none_read c.args.words.now c.args.bytes.now)
 
 pub loop-i-preserved : goal.loop-i-preserved
 loop-i-preserved c =
