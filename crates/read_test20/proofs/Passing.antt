@@ -1,7 +1,6 @@
 -- What the single pass finds, and what is answered from it.
 -- Assumes nothing.
-use Rattle.std.specs.Prelude.{Option, Some, None, Result, Ok, Err, MatchResult, IsErrAnd}
-use Rattle.std.specs.Bool.{then_some}
+use Rattle.std.specs.Prelude.{Option, None, Result, Ok, Err}
 use Rattle.std.specs.Result.{result_ok}
 use mathlib.Core.Path.{refl, ◌≡◌, sym, ap, subst, ◌∙◌}
 use mathlib.Core.Bool.{Bool, true, false, true≢false}
@@ -9,7 +8,7 @@ use mathlib.Core.List.{List}
 use Prim.Native.Nat.{ℕ}
 use lib.Dec.{eqb}
 use lib.ListN.{length, replicate}
-use borrow.Author.Tests.{eq-eqb, ne_eqb, eqb-true}
+use borrow.Author.Tests.{ne_eqb, eqb-true}
 use Rattle.ground.proofs.Cases.{on_test}
 use Rattle.span.specs.declared.format.Format.{Format}
 use Rattle.span.specs.declared.format.Shape.{Shape}
@@ -44,22 +43,12 @@ abbrev pub as_passed : Result Valid Reached → Result Valid PassError
 as_passed (Ok v) = Ok v
 as_passed (Err x) = Err (Faulty x)
 
-pub mapped : (o : Result Valid Reached) (r : Result Valid PassError)
-    → MatchResult o (λ v. r ≡ Ok v) (λ x. IsErrAnd r (λ e. e ≡ Faulty x)) → r ≡ as_passed o
-mapped (Ok v) r m = m
-mapped (Err x) (Ok v) m = absurd m
-mapped (Err x) (Err e) m = ap Err m
-
 pub window_passed : (f : Format) (w : List ℕ) (haste : Bool) (entry rows : List ℕ) (o : Result Valid Reached) {r : Result Valid PassError}
     → ready f (length w) (length entry) ≡ true → PassedWindow (shape_of f) w haste rows o → r ≡ as_passed o → PassedIf f w haste entry rows r
 window_passed f w haste entry rows (Ok v) fit h e = rw e (fit, h)
 window_passed f w haste entry rows (Err x) fit h e = rw e (fit, h)
 
 -- ---- what is answered
-
-ok_told : (o : Result Valid PassError) {v : Valid} → result_ok o ≡ Some v → o ≡ Ok v
-ok_told (Ok x) e = cc
-ok_told (Err x) e = cc
 
 module _ (f : Format) (w entry rows : List ℕ) (o : Result Valid PassError) where
   abbrev p : Shape
@@ -86,25 +75,6 @@ module _ (f : Format) (w entry rows : List ℕ) (o : Result Valid PassError) whe
 
     not_whole : is_all_valid f w (length entry) ≡ false → Says None
     not_whole e = (rw e, rw e)
-
-    whole_examined : {v : Valid} → o ≡ Ok v → v.filled ≡ true → Says (Some v)
-    whole_examined e t =
-        let (fit, (all, valid, picture)) = subst hastily e passed in
-        let right : fill_right p w ≡ true = sym (ap (λ (x : Valid). x.filled) valid) ∙ t in
-        let whole : is_all_valid f w (length entry) ≡ true = rw (fit, eq-eqb (place20 p w) (length w) all, right) in
-        (rw whole (ap Some valid), rw whole picture)
-
-    unfilled_examined : {v : Valid} → o ≡ Ok v → v.filled ≡ false → Says None
-    unfilled_examined e t =
-        let (fit, (all, valid, picture)) = subst hastily e passed in
-        let wrong : fill_right p w ≡ false = sym (ap (λ (x : Valid). x.filled) valid) ∙ t in
-        not_whole (rw (fit, eq-eqb (place20 p w) (length w) all, wrong))
-
-    -- what is known of a window is answered where its fill is right
-    pub valid_examined : {v : Valid} → result_ok o ≡ Some v → Says (then_some v.filled v)
-    valid_examined {v} e =
-        on_test v.filled (λ t. subst (λ (b : Bool). Says (then_some b v)) (sym t) (whole_examined (ok_told o e) t))
-        (λ t. subst (λ (b : Bool). Says (then_some b v)) (sym t) (unfilled_examined (ok_told o e) t))
 
     fault_examined : {x : Reached} → o ≡ Err (Faulty x) → Says None
     fault_examined e =

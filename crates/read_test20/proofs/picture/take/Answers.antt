@@ -5,9 +5,6 @@ use Prim.Native.Nat.{◌+◌, ◌*◌}
 use native.Mathlib.Omega.{arith}
 use Rattle.read_test20.proofs.picture.take.Goals as goal
 
-pub loop-turn-init : goal.loop-turn-init
-loop-turn-init g c = λ old none. let at : c.args.from ≡ c.args.from + 4 * 0 = omega arith in rw at at none
-
 pub loop-turn-preserved : goal.loop-turn-preserved
 loop-turn-preserved g c = λ old none.
     let at : c.args.from + 4 * c.loop-turn.turn + 4 ≡ c.args.from + 4 * (c.loop-turn.turn + 1) = omega arith in

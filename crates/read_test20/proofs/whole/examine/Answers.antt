@@ -1,14 +1,8 @@
 -- `read_test20::whole::examine` meets its contract.
 -- Assumes nothing.
 use mathlib.Core.Path.{sym, ◌∙◌}
-use Rattle.read_test20.proofs.Passing.{valid_examined, refused_examined}
+use Rattle.read_test20.proofs.Passing.{refused_examined}
 use Rattle.read_test20.proofs.whole.examine.Goals as goal
-
-pub returns : goal.returns
-returns c =
-    let a = c.args in
-    let told = valid_examined a.f a.symbols.now a.rows.now _ _ c.pass.ensures {v = c.in_ok-v.v} (sym c.ok.ensures.value ∙ c.in_ok-v.was) in
-    record { answer = c.then_some.ensures ∙ told.0; rows = told.1 }
 
 pub returns-in_err-v : goal.returns-in_err-v
 returns-in_err-v c =
