@@ -11,7 +11,8 @@ use Rattle.ground.proofs.Answers.{told_again}
 use Rattle.window.specs.declared.delivery.Delivery.{Delivery}
 use Rattle.read_test21_26.specs.declared.service.Test.{Test}
 use Rattle.read_test21_26.specs.declared.service.Test.TheVariants.{Timing, Line, V, Crcc, Sample, Fill}
-use Rattle.read_test21_26.specs.Tests.{number_of, test_of}
+use Rattle.read_test21_26.specs.Tests.{number_of}
+use Rattle.read_test21_26.specs.Inside.Verdict.{test_of}
 use Rattle.read.specs.declared.answer.ReadError.{ReadError}
 use Rattle.read.specs.declared.answer.ReadError.TheVariants.{UnknownFormat, WrongInput, WrongOutput, WrongSymbol, Fails}
 use Rattle.read.specs.Call.{paper_read}

@@ -18,7 +18,8 @@ use Rattle.read_test21_26.specs.declared.call.Service.{Service}
 use Rattle.read_test21_26.specs.declared.service.Fault.{Fault}
 use Rattle.read_test21_26.specs.declared.service.Test.{Test}
 use Rattle.read_test21_26.specs.declared.service.Test.TheVariants.{Timing, Line, V, Crcc, Sample, Fill}
-use Rattle.read_test21_26.specs.Tests.{number_of, test_of}
+use Rattle.read_test21_26.specs.Tests.{number_of}
+use Rattle.read_test21_26.specs.Inside.Verdict.{test_of}
 use Rattle.read_test21_26.specs.Inside.Call.{judged_by}
 use Rattle.read_test21_26.specs.Inside.Verdict.{Verdict, is_failed, first_row}
 

@@ -24,7 +24,7 @@ use Rattle.window.specs.Words.{word_at}
 use Rattle.read_test21_26.specs.declared.service.Fault.{Fault}
 use Rattle.read_test21_26.specs.declared.service.Test.{Test}
 use Rattle.read_test21_26.specs.declared.service.Test.TheVariants.{Timing, Line, V, Crcc}
-use Rattle.read_test21_26.specs.Tests.{test_of}
+use Rattle.read_test21_26.specs.Inside.Verdict.{test_of}
 use Rattle.read_test21_26.specs.Inside.Holds.{holds24_by, holds_of, holds_at, wrong_in}
 use Rattle.read_test21_26.specs.Inside.Verdict.{Verdict, is_failed, verdict_of, first_row, service_tests}
 use Rattle.read_test21_26.proofs.Regions.{in_one_run, in_two_runs}

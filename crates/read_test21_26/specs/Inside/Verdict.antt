@@ -1,6 +1,6 @@
 -- The verdict of a list of tests.
 -- Assumes nothing.
-use Rattle.std.specs.Prelude.{ℕ, Result, Ok, Err, ◌*◌, Bool, true, false, List, [], ◌∷◌}
+use Rattle.std.specs.Prelude.{ℕ, cond, eqb, Result, Ok, Err, ◌*◌, Bool, true, false, List, [], ◌∷◌}
 use Rattle.std.proofs.Math.Option.{Option, none, some}
 use Rattle.ground.specs.Answer.{Row}
 use Rattle.span.specs.declared.format.Shape.{Shape}
@@ -12,7 +12,12 @@ use Rattle.window.specs.Words.{word_at}
 use Rattle.read_test21_26.specs.declared.service.Fault.{Fault}
 use Rattle.read_test21_26.specs.declared.service.Test.{Test}
 use Rattle.read_test21_26.specs.Inside.Holds.{holds24_by}
-use Rattle.read_test21_26.specs.Tests.{test_of}
+use Rattle.read_test21_26.specs.declared.service.Test.TheVariants.{Timing, Line, V, Crcc, Sample, Fill}
+
+-- the test with a number from 21 to 26
+abbrev pub test_of : ℕ → Test
+test_of n =
+    cond (eqb n 21) Timing (cond (eqb n 22) Line (cond (eqb n 23) V (cond (eqb n 24) Crcc (cond (eqb n 25) Sample Fill))))
 
 -- that all hold, or the first that does not
 abbrev pub Verdict : Type 0
