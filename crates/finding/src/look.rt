@@ -53,12 +53,12 @@ pub(crate) fn after_last(symbols: &[u16], from: usize, to: usize) -> usize
     requires to_in_bounds { to ≤ length symbols.now }
     ensures { LastInv symbols.now from to result }
 {
-    let mut k = to;
-    while PIECE <= k - from {
+    let pieces = (to - from) / PIECE;
+    for piece in 0..pieces {
+        let k = to - piece * PIECE;
         if !none_is_comma(symbols, k - PIECE, PIECE) {
             return after_last_in(symbols, from, k);
         }
-        k -= PIECE;
     }
-    after_last_in(symbols, from, k)
+    after_last_in(symbols, from, to - pieces * PIECE)
 }

@@ -52,6 +52,7 @@ fn seek_on(r: Recording, from: usize, seen: usize, rows: &mut [u16]) -> Option<S
 {
     let mut i = from;
     let mut clear = seen;
+    // No `for`: the place goes on by what was found.
     while r.span <= r.symbols.len() - i {
         let end = i + r.span;
         let k = crate::look::after_last(r.symbols, clear, end);

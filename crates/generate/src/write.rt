@@ -23,6 +23,7 @@ fn write_pieces(
     ensures { WrittenTold left result }
 {
     let mut s = left;
+    // No `for`: the count is part of what is left, and `put_next` lessens it, where its law stands.
     while 0 < s.count {
         s = crate::left::put_next(s, samples, symbols, out);
         to.write_all(out)?;

@@ -33,6 +33,7 @@ fn put_spans(f: Format, symbols: &[u16], rows: &mut [u16], out: &mut [u8]) -> us
 {
     let mut place = 0;
     let mut at = 0;
+    // No `for`: where the next step begins, each step says.
     loop {
         let next = finding::next::next_span(f, symbols, place, rows);
         // None of these calls is refused.

@@ -70,6 +70,7 @@ fn receive_all(
 {
     let f = crate::link::link();
     let mut place = 0;
+    // No `for`: where the next step begins, each step says.
     loop {
         let next = finding::next::next_span(f, symbols, place, rows);
         // None of these calls is refused.
