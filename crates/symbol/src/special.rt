@@ -55,11 +55,9 @@ const NAMES: [Special; 12] = [
 ];
 
 // The special character with number 256 + n; K28.0 if there is none.
+#[tactic(auto, unfolding(crate::specs::Character::nth))]
 pub fn named(n: u16) -> Special
     ensures { result ≡ nth n }
 {
-    if n < 12 {
-        return NAMES[n as usize];
-    }
-    Special::K28_0
+    NAMES.get(n as usize).copied().unwrap_or(Special::K28_0)
 }
