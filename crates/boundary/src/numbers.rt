@@ -35,7 +35,7 @@ pub struct PictureLineNumber {
     pub number: u32,
 }
 
-// What the sender is asked for: the line, the disparity before the span, and the content bytes if they are named.
+// What the sender is asked for: the line, the disparity before the span, and the content bytes if they are named (C has no Option).
 #[repr(C)]
 #[derive(Drop)]
 pub struct SendRequest {
@@ -91,7 +91,7 @@ pub fn stream_line_number(l: StreamLine) -> StreamLineNumber
     }
 }
 
-// The number of a picture line, as it is answered.
+// The number of a picture line, as it is answered: its own type in C, so that neither line is taken for the other.
 pub fn picture_line_number(l: PictureLine) -> PictureLineNumber
     ensures { result ≡ picture_line_number l }
 {

@@ -1,4 +1,4 @@
-// What decoding and encoding answer: characters by their numbers.
+// What decoding and encoding answer: characters by their numbers. Structs of numbers, since C has no Option and no Result.
 ghost use Rattle.std.specs.Prelude.{◌≡◌};
 ghost use Rattle.ground.specs.Answer.{refused};
 ghost use Rattle.decoder.specs.Decode.{paper_decoded};

@@ -108,7 +108,7 @@ pub struct Tables<'a> {
     pub ghost flips_value: { flips.now ≡ flip_table },
 }
 
-// Where the symbols of a disparity begin.
+// Where the symbols of a disparity begin. The decoder has a bit in its place (`decoder::mask`), since its table has one half.
 pub fn offset_of(d: Disparity) -> usize
     ensures { result ≡ offset_of d }
 {

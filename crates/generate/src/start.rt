@@ -28,6 +28,7 @@ fn all_of(p: Parameters) -> Left
     }
 }
 
+// Nothing is left to be written: a state like any other, and what a refused recording leaves, so no Option.
 fn nothing() -> Left
     ensures { result ≡ none }
 {

@@ -27,7 +27,7 @@ pub fn is_line(l: StreamLine) -> bool
     ground::range::within(1, 1125, l.0)
 }
 
-// Whether it carries a line of the picture.
+// Whether it carries a line of the picture: another range of the same test.
 pub fn is_active(l: StreamLine) -> bool
     ensures { result ≡ is_active l.0 }
 {

@@ -14,7 +14,7 @@ pub(crate) fn put_header(out: &mut [u8]) -> usize
     text::put::put_text(b"P5\n3840 2160\n4095\n", out, 0)
 }
 
-// The bytes of words, from a place on: two for each, the high byte first.
+// The bytes of words, from a place on: two for each, the high byte first (the generator has the low one first, and a definition of its own).
 fn put_words(words: &[u16], out: &mut [u8], at: usize) -> usize
     requires { at + 2 * length words.now ≤ length out.old }
     ensures end { result ≡ at + 2 * length words.now }

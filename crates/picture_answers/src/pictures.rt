@@ -1,4 +1,4 @@
-// What the calls on places and rows answer.
+// What the calls on places and rows answer. Structs of numbers, since C has no Option and no Result.
 ghost use Rattle.std.specs.Prelude.{◌≡◌};
 ghost use Rattle.ground.specs.Answer.{refused};
 ghost use Rattle.picture.specs.Place.{paper_placed};
@@ -88,7 +88,7 @@ pub fn copied_number(r: Result<(), CopyError>) -> u32
     }
 }
 
-// Filling a row with blanking.
+// Filling a row with blanking. Each kind of refusal has its own numbers of document 01, so each has its `match`.
 pub fn filled_number(r: Result<(), FillError>) -> u32
     ensures { result ≡ number_in (paper_filled r) }
 {

@@ -16,7 +16,7 @@ const PIECE: usize = 120;
 // What is gathered after the picture, or after the words of each stream before a fault.
 #[derive(Drop)]
 pub(crate) struct Pictured {
-    // Over all words that were read: whether each was valid.
+    // Over all words that were read: whether each was valid, as bits of the table's entries, gathered without a test.
     pub(crate) good: u32,
     // After this many words of each stream, all of them valid.
     pub(crate) flips: u32,

@@ -39,7 +39,7 @@ fn v_named(next: Result<StreamLine, NameError>) -> bool
     }
 }
 
-// The same of the line before it.
+// The same of the line before it. Apart, since the two differ in a call, and not in a value.
 fn v_before(next: Result<StreamLine, NameError>) -> bool
     ensures { result ≡ v_of (line_before (get_or (line_in next) 0)) }
 {

@@ -36,7 +36,7 @@ fn first_lost(heard: &[u16]) -> usize
     heard.iter().position(|flag| *flag == 0).unwrap_or(0) + 1
 }
 
-// The last lost line; 1 if none is lost.
+// The last lost line; 1 if none is lost. It differs from the first in the search, and not in a value.
 fn last_lost(heard: &[u16]) -> usize
     requires { length heard.now ≡ 1125 }
     ensures value { result ≡ last_lost heard.now }

@@ -1,4 +1,4 @@
-// What the calls on a recording answer. `found` says whether there is a span, and place 0 is a place like any other.
+// What the calls on a recording answer. `found` says whether there is a span, and place 0 is a place like any other: C has no Option.
 ghost use Rattle.std.specs.Prelude.{◌≡◌};
 ghost use Rattle.std.proofs.Math.Option.{some};
 ghost use Rattle.ground.specs.Answer.{refused, given};

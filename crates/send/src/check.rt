@@ -1,5 +1,5 @@
 // The check of samples, before anything is sent.
-ghost use Rattle.std.specs.Prelude.{◌≡◌, ◌≤◌, ◌==◌};
+ghost use Rattle.std.specs.Prelude.{◌≡◌, ◌≤◌, ◌<◌, ◌==◌, length, MatchOption};
 ghost use Rattle.ground.specs.Range.{within};
 ghost use Rattle.request.specs.Inside.Check.{all_within, first_outside};
 
@@ -26,14 +26,13 @@ fn none_outside(low: u16, high: u16, samples: &[u16]) -> bool
     found == 0
 }
 
-// The lowest index of a sample outside the bounds; the length if there is none.
-pub(crate) fn first_outside(low: u16, high: u16, samples: &[u16]) -> usize
+// The lowest index of a sample outside the bounds, if there is one.
+pub(crate) fn first_outside(low: u16, high: u16, samples: &[u16]) -> Option<usize>
     requires { low ≤ high }
-    ensures { result ≡ first_outside low high samples.now }
+    ensures { MatchOption result (length samples.now ≡ first_outside low high samples.now) (λ i. (i < length samples.now) × (i ≡ first_outside low high samples.now)) }
 {
     if none_outside(low, high, samples) {
-        return samples.len();
+        return None;
     }
-    let first = samples.iter().position(|x| !within(low, high, *x));
-    first.unwrap_or(samples.len())
+    samples.iter().position(|x| !within(low, high, *x))
 }

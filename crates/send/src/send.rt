@@ -120,8 +120,7 @@ fn send_samples(
     ensures symbols { symbols.new ≡ sent_buffer d f (request l.0 content samples.now) symbols.old }
 {
     let bounds = span::sample::bounds_of(f, l);
-    let wrong = crate::check::first_outside(bounds.low, bounds.high, samples);
-    if wrong < samples.len() {
+    if let Some(wrong) = crate::check::first_outside(bounds.low, bounds.high, samples) {
         return Err(SendError::NotAllowed(wrong));
     }
     Ok(send_span(f, l, d, content, bounds.factor, samples, symbols))

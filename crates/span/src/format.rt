@@ -89,7 +89,7 @@ pub fn is_difference(f: Format) -> bool
     ground::range::within(5, 6, f.component as u16)
 }
 
-// The shape of a format; all zeros if it is unknown.
+// The shape of a format; all zeros if it is unknown. No Option: definitions over the shape are total, and `is_known` is asked first.
 pub fn shape_of(f: Format) -> Shape
     ensures { result ≡ shape_of f }
 {

@@ -1,4 +1,4 @@
-// What the calls on one span answer.
+// What the calls on one span answer. Structs of numbers, since C has no Option and no Result.
 ghost use Rattle.std.specs.Prelude.{◌≡◌};
 ghost use Rattle.ground.specs.Answer.{refused};
 ghost use Rattle.span.specs.Length.{paper_lengths};

@@ -131,7 +131,7 @@ const ALTERNATE_AT_NEGATIVE: [u16; 3] = [17, 18, 20];
 
 const ALTERNATE_AT_POSITIVE: [u16; 3] = [11, 13, 14];
 
-// The six bits of D0 to D31.
+// The six bits of D0 to D31. A function for each column, under the name that the tables give it.
 pub fn six_bits(d: Disparity) -> [u16; 32]
     ensures { result ≡ six_bits d }
 {

@@ -54,7 +54,7 @@ const NAMES: [Special; 12] = [
     Special::K30_7,
 ];
 
-// The special character with number 256 + n; K28.0 if there is none.
+// The special character with number 256 + n; K28.0 if there is none, as `nth` says: both are total.
 #[tactic(auto, unfolding(crate::specs::Character::nth))]
 pub fn named(n: u16) -> Special
     ensures { result ≡ nth n }

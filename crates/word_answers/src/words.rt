@@ -1,4 +1,4 @@
-// What the calls on single words and on a run of words answer.
+// What the calls on single words and on a run of words answer. Structs of numbers, since C has no Option and no Result.
 ghost use Rattle.std.specs.Prelude.{◌≡◌};
 ghost use Rattle.ground.specs.Answer.{refused};
 ghost use Rattle.word.specs.LineNumber.{paper_numbered, paper_named};

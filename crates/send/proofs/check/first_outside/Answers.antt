@@ -1,7 +1,6 @@
 -- `send::check::first_outside` meets its contract: the first that is not within, and the length where each is.
 -- Assumes nothing.
 use Rattle.std.proofs.Common.{◌≡◌, ℕ, ◌<◌, true, false, List, length, get_or, Option, None, Some, MatchOption, sym, ◌∙◌, rules}
-use Rattle.std.specs.Option.{unwrap_or}
 use Rattle.ground.specs.Range.{within}
 use Rattle.request.specs.Inside.Check.{first_outside}
 use Rattle.request.proofs.Checking.{each_within, outside_first, outside_never}
@@ -11,10 +10,13 @@ module _ (low high : ℕ) (xs : List ℕ) where
   abbrev AllBefore : ℕ → Type 0
   AllBefore n = (j : ℕ) → j < n → within low high (get_or xs j 0) ≡ true
 
+  abbrev Told : Option ℕ → Type 0
+  Told o = MatchOption o (length xs ≡ first_outside low high xs) (λ i. (i < length xs) × (i ≡ first_outside low high xs))
+
   found : (o : Option ℕ) → MatchOption o (AllBefore (length xs)) (λ i. (i < length xs) × (within low high (get_or xs i 0) ≡ false) × AllBefore i)
-      → unwrap_or o (length xs) ≡ first_outside low high xs
+      → Told o
   found None each = sym (outside_never low high xs each)
-  found (Some i) (below, out, before) = sym (outside_first low high xs i below before out)
+  found (Some i) (below, out, before) = (below, sym (outside_first low high xs i below before out))
 
 pub returns-then-none_outside : goal.returns-then-none_outside
 returns-then-none_outside c =
@@ -25,4 +27,4 @@ returns-then-none_outside c =
 pub returns : goal.returns
 returns c =
     let a = c.args in
-    c.unwrap_or.ensures ∙ found a.low a.high a.samples.now c.position-first.result (search rules)
+    found a.low a.high a.samples.now c.position.result (search rules)

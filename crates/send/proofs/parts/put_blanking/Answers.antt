@@ -9,9 +9,7 @@ use Rattle.send.proofs.parts.put_blanking.Goals as goal
 
 pub put_long_run-requires-2-clause-keeps_disparity : goal.put_long_run-requires-2-clause-keeps_disparity
 put_long_run-requires-2-clause-keeps_disparity c =
-    let blank = c.requires.keeps_disparity in
-    let fill = keeps_too c.fill_word-fill.ensures fill_stays in
-    search (blank, fill)
+    let fill = keeps_too c.fill_word-fill.ensures fill_stays in search fill
 
 pub returns : goal.returns
 returns c =
