@@ -29,7 +29,11 @@ pub fn place<'a>(r: Reader<'a>) -> usize
 
 // One step: the next span from the reader's place on, into rows of s x 1920 words, and the reader moves to that span's end. At the end, and
 // if the call is refused, rows and place stay as they were.
-pub fn step<'s, 'a, 'r>(r: &'s mut Reader<'a>, f: Format, rows: &'r mut [u16]) -> Result<Option<Spanned>, NextError>
+pub fn step<'s, 'a, 'r>(
+    r: &'s mut Reader<'a>,
+    f: Format,
+    rows: &'r mut [u16],
+) -> Result<Option<Spanned>, NextError>
     ensures answer { paper_next result ≡ answer_of f r.old rows.old }
     ensures moved { r.new ≡ moved_of f r.old rows.old }
     ensures rows { rows.new ≡ rows_after_step f r.old rows.old }
