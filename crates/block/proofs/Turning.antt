@@ -43,11 +43,12 @@ first (suc b) r n =
     let half : n / 2 ^ suc b ≡ n / 2 / 2 ^ b = rw (pow-suc, mul_comm (2 ^ b) 2, div-div-eq-div-mul) refl in
     rw (one, half, first b r (n / 2), pow-add 2 b r) (omega arith)
 
-pub turned_is : (b n : ℕ) → b ≤ 16 → reverse_bits_onto 16 n 0 / 2 ^ (16 - b) ≡ reversed b n
-turned_is b n h =
+-- the turned bits of a number, where it is the one that was given
+pub turned_is : (b m n : ℕ) → b ≤ 16 → m ≡ n → reverse_bits_onto 16 m 0 / 2 ^ (16 - b) ≡ reversed b n
+turned_is b m n h e =
     let r : ℕ = 16 - b in
     let all : 16 ≡ b + r = omega arith in
     let room : 0 < 2 ^ r = omega (arith, reversed_below r 0) in
     let whole : reverse_bits_onto 16 n 0 ≡ 2 ^ r * reversed b n + reversed r (n / 2 ^ b) =
     onto 16 n 0 ∙ omega arith ∙ ap (λ (k : ℕ). reversed k n) all ∙ first b r n ∙ omega arith in
-    rw (whole, mul-add-div room (reversed b n) (reversed r (n / 2 ^ b)), div-eq_of_lt (reversed_below r (n / 2 ^ b))) (omega arith)
+    rw (e, whole, mul-add-div room (reversed b n) (reversed r (n / 2 ^ b)), div-eq_of_lt (reversed_below r (n / 2 ^ b))) (omega arith)

@@ -9,5 +9,5 @@ pub returns : goal.returns
 returns g c =
     let b = g.row.BITS in
     let value : c.reverse_bits.result / 2 ^ (16 - b) ≡ reversed b c.args.block =
-    ap (λ n. n / 2 ^ (16 - b)) c.reverse_bits.ensures ∙ turned_is b c.args.block c.requires.bits_bound in
-    record { value = value; bound = omega (arith, value, reversed_below b c.args.block) }
+    ap (λ n. n / 2 ^ (16 - b)) c.reverse_bits.ensures ∙ turned_is b _ c.args.block c.requires.bits_bound (omega arith) in
+    record { value = omega (arith, value); bound = omega (arith, value, reversed_below b c.args.block) }
