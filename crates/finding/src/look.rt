@@ -16,7 +16,8 @@ fn is_comma(s: u16) -> bool
 // Whether none of `count` symbols is K28.5. None is tested by itself, so that the loop has one exit.
 fn none_is_comma(symbols: &[u16], from: usize, count: usize) -> bool
     requires { from + count ≤ length symbols.now }
-    ensures { result ≡ true → Clear symbols.now from (from + count) }
+    ensures sound { result ≡ true → Clear symbols.now from (from + count) }
+    ensures kept { Clear symbols.now from (from + count) → result ≡ true }
 {
     let mut found = 0;
     for k in from..from + count {
