@@ -69,25 +69,17 @@ module _ (p : Shape) (w : List ℕ) where
       el ∙ ap (λ (o : Option ℕ). line_before (get_or o 0)) named_is in
       rw (eb, er, ← line)
 
--- by the shape in hand
-module _ (f : Format) (w : List ℕ) {p : Shape} (e : p ≡ shape_of f) (c : Sums) {r : Answered ℕ} where
-  pub is_place_25 : r ≡ lowest_of (wrong_in (holds_at Sample f p w c) (picture_start * streams p) (eav_start * streams p)) → r ≡ lowest_of (wrong25 f w)
+-- by the shape in hand, the test and the range in any form
+module _ (f : Format) (w : List ℕ) {p : Shape} (e : p ≡ shape_of f) (c : Sums) {r : Answered ℕ} {test : Test} {from to : ℕ} where
+  pub is_place_25 : r ≡ lowest_of (wrong_in (holds_at test f p w c) from to) → from ≡ picture_start * streams p → to ≡ eav_start * streams p
+      → test ≡ Sample → r ≡ lowest_of (wrong25 f w)
   unfolding wrong25 holds_of
-  is_place_25 is = is ∙ ap (λ (q : Shape). lowest_of (wrong_in (holds_at Sample f q w c) (picture_start * streams q) (eav_start * streams q))) e
+  is_place_25 is low high asked = is ∙ rw (low, high, asked, e)
 
-  pub is_place_26 :
-      r
-      ≡ lowest_of
-      (wrong_in (holds_at Fill f p w c) (streams p * (ancillary_start + p.ancillary)) (streams p * (ancillary_start + p.ancillary) + 2 * p.fill_pairs))
-      → r ≡ lowest_of (wrong26 f w)
+  pub is_place_26 : r ≡ lowest_of (wrong_in (holds_at test f p w c) from to) → from ≡ streams p * (ancillary_start + p.ancillary)
+      → to ≡ streams p * (ancillary_start + p.ancillary) + 2 * p.fill_pairs → test ≡ Fill → r ≡ lowest_of (wrong26 f w)
   unfolding wrong26 holds_of
-  is_place_26 is =
-      is
-      ∙ ap
-      (λ (q : Shape).
-      lowest_of
-      (wrong_in (holds_at Fill f q w c) (streams q * (ancillary_start + q.ancillary)) (streams q * (ancillary_start + q.ancillary) + 2 * q.fill_pairs)))
-      e
+  is_place_26 is low high asked = is ∙ rw (low, high, asked, e)
 
 pub other_place : (test : Test) (f : Format) (w : List ℕ) → (test ≡ Sample → ⊥) → place_of test f w ≡ wrong26 f w
 other_place Timing f w n = refl
