@@ -10,3 +10,4 @@ pub mod Streams
 pub mod Taking
 pub mod Wholes
 pub mod Window
+pub mod Zeros

@@ -59,11 +59,15 @@ module _ (f : Format) (w entry rows : List ℕ) (o : Result Valid PassError) whe
     abbrev by : Result Valid PassError → Type 0
     by o = PassedIf f w false entry rows o
 
-    pub fault_taken : {x : Reached} {k : ℕ} {l : List ℕ} (n : ℕ) → o ≡ Err (Faulty x) → k ≡ place20 p w → l ≡ replicate n 0 → n ≡ length entry
-        → (Err (Invalid k) ≡ taken_if f w entry) × (l ≡ rows_if f w entry)
-    fault_taken n e place zero long =
+    pub fault_taken : {x : Reached} {k : ℕ} → o ≡ Err (Faulty x) → k ≡ place20 p w → Err (Invalid k) ≡ taken_if f w entry
+    fault_taken e place =
         let (fit, (not-all, scan)) = subst by e passed in
-        (rw (fit, some_wrong p w not-all) (ap (λ (k : ℕ). Err (Invalid k)) place), zero ∙ rw (fit, some_wrong p w not-all, long))
+        rw (fit, some_wrong p w not-all) (ap (λ (k : ℕ). Err (Invalid k)) place)
+
+    pub fault_rows : {x : Reached} {l : List ℕ} (n : ℕ) → o ≡ Err (Faulty x) → n ≡ length entry → l ≡ replicate n 0 → l ≡ rows_if f w entry
+    fault_rows n e long zero =
+        let (fit, (not-all, scan)) = subst by e passed in
+        zero ∙ rw (fit, some_wrong p w not-all, long)
 
   -- without it, and in haste
   module _ (passed : PassedIf f w true entry rows o) where
