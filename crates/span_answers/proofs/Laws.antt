@@ -4,7 +4,7 @@ use mathlib.Core.Path.{refl}
 use Rattle.boundary.proofs.Laws.{boundary_laws}
 use Rattle.span_answers.specs.Laws.{SaysNothing, SpanAnswersLaws}
 use Rattle.span_answers.specs.Spans.{no_values}
-use Rattle.span_answers.proofs.Told.{lengths_told, send_told, read_told}
+use Rattle.span_answers.proofs.Told.{bits_in_order, lengths_told, send_told, read_told}
 
 says_nothing : SaysNothing no_values
 says_nothing = record {
@@ -30,7 +30,7 @@ span_answers_laws = record {
     before = boundary_laws.back d.before;
     after = boundary_laws.back d.after;
     repairs = refl;
-    repairs_of_bit = refl;
+    repairs_of_bit = bits_in_order d.repairs.of_bit;
   };
   nothing = says_nothing;
   read_refused = λ number place. says_nothing;

@@ -5,7 +5,7 @@ use Rattle.ground.specs.Answer.{Answer, given}
 use Rattle.ground.specs.Inside.Answer.{Injective}
 use Rattle.symbol.specs.declared.disparity.Disparity.{Disparity}
 use Rattle.span.specs.declared.length.SpanLengths.{SpanLengths}
-use Rattle.std.specs.Prelude.{Result, Ok, Err}
+use Rattle.std.specs.Prelude.{ℕ, List, [], ◌∷◌, Result, Ok, Err}
 use Rattle.span.specs.declared.format.UnknownFormat.{UnknownFormat}
 use Rattle.span.specs.Length.{paper_lengths}
 use Rattle.span.proofs.OneToOne.{lengths_one_to_one}
@@ -26,7 +26,7 @@ use Rattle.span_answers.specs.declared.spans.LengthsAnswer.{LengthsAnswer}
 use Rattle.span_answers.specs.declared.spans.SendAnswer.{SendAnswer}
 use Rattle.span_answers.specs.declared.spans.ReadAnswer.{ReadAnswer}
 use Rattle.boundary.specs.Numbers.{disparity_from}
-use Rattle.span_answers.specs.Spans.{values_of, lengths_answer_of, send_answer_of, read_answer_of}
+use Rattle.span_answers.specs.Spans.{bit_counts_of, values_of, lengths_answer_of, send_answer_of, read_answer_of}
 use Rattle.boundary.proofs.Told.{through, answer_by, disparity_told}
 
 lengths_back : LengthsAnswer → Answer SpanLengths
@@ -55,6 +55,12 @@ send_told = through send_answer_of send_back back sent_one_to_one
     back (Err Send.WrongOutput) = refl
     back (Err (Send.NotAllowed place)) = refl
 
+-- each bit's count stands in its place, whatever the list
+pub bits_in_order : (c : List ℕ) → bit_counts_of c ≡ c
+bits_in_order [] = refl
+bits_in_order (a ∷ []) = refl
+bits_in_order (a ∷ b ∷ c) = refl
+
 pub values_back : Values → Delivery
 values_back v =
     record {
@@ -67,7 +73,7 @@ values_back v =
 
 pub values_back_lem : (d : Delivery) → values_back (values_of d) ≡ d
 unfolding values_back
-values_back_lem d = rw (disparity_told d.before, disparity_told d.after)
+values_back_lem d = rw (disparity_told d.before, disparity_told d.after, bits_in_order d.repairs.of_bit)
 
 read_back : ReadAnswer → Answer Delivery
 read_back r = answer_by r.number r.place (values_back r.delivery)
