@@ -6,7 +6,6 @@ use native.Mathlib.Omega.{arith}
 use lib.ListN.{length, get_or, length-append, length-take, length-drop, get_or-append}
 use borrow.Author.Rules.{rules}
 use Rattle.read_test20.proofs.Zeros.{all_zero, are_zeros, behind}
-use Rattle.read_test20.proofs.Zeros.{all_zero, are_zeros, behind}
 use Rattle.read.specs.Call.{paper_read}
 use Rattle.read.proofs.Verdicts.{handed}
 use Rattle.read.proofs.Windows.{taken_is, taken_refused, taken_rows, whole_told, rows_whole_lem, read_rows, refused_rows}
